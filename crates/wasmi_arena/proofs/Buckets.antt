@@ -1,0 +1,101 @@
+-- Facts on the buckets of a stable vector.
+use Rattle.std.proofs.Common.{◌≡◌, ℕ, zero, suc, ◌+◌, ◌*◌, ◌<◌, ◌≤◌, Bool, true, false, cond, nat_le, refl, ap, subst, inl, inr, add-one, arith}
+use Rattle.std.proofs.Math.Nat.{pow-succ'}
+use Rattle.std.proofs.lemmas.Bool.{cases_lt, cases_eq, cases_order, leb-true, leb-false, le-leb}
+use Rattle.std.proofs.lemmas.Nat.{pow_pos}
+use Rattle.std.proofs.Math.Pow.{pow_mono}
+use Rattle.std.proofs.Math.Nat.{mul-le-mul_left}
+use Rattle.wasmi_arena.specs.Geometry.{size, start, cap, IsPlace, IsFewest, least_from, fewest}
+
+-- a bucket has twice the slots of the one before
+pub size-suc : (b : ℕ) → size (suc b) ≡ 2 * size b
+size-suc b = rw (pow-succ' 2 b) (omega arith)
+
+pub start-size : (b : ℕ) → start b + 32 ≡ size b
+start-size zero = refl
+start-size (suc b) = omega (arith, start-size b, size-suc b)
+
+pub size_pos : (b : ℕ) → 0 < size b
+size_pos b = omega (arith, pow_pos b)
+
+-- the buckets before b end where it begins
+pub start_mono : (b c : ℕ) → b ≤ c → start b ≤ start c
+start_mono b c h = omega (arith, start-size b, start-size c, mul-le-mul_left 32 (pow_mono h))
+
+pub start_below : (b c : ℕ) → b < c → start b + size b ≤ start c
+start_below b c h = start_mono (suc b) c (omega arith)
+
+-- an index has no other place
+pub place_unique : {i b s c t : ℕ} → IsPlace i b s → IsPlace i c t → (b ≡ c) × (s ≡ t)
+place_unique {i} {b} {s} {c} {t} p q = elim (cases_order b c) [
+    | inl same ↦ (same, let at : start b ≡ start c = ap start same in omega arith)
+    | inr apart ↦ elim apart [
+      | inl less ↦ absurd (omega (arith, start_below b c less))
+      | inr more ↦ absurd (omega (arith, start_below c b more))
+    ]
+  ]
+
+-- the fewest are one number
+pub fewest_unique : {n b c : ℕ} → IsFewest n b → IsFewest n c → b ≡ c
+fewest_unique {n} {b} {c} p q = let up = p.least c q.enough in let down = q.least b p.enough in omega arith
+
+-- what the fewest buckets have room for begins before the last of them ends, and no sooner
+pub below_of_start : (b c n : ℕ) → start b < n → n ≤ start c → b < c
+below_of_start b c n low high = elim (cases_lt b c) [
+    | inl less ↦ less
+    | inr more ↦ absurd (omega (arith, start_mono c b more))
+  ]
+
+-- no item needs no bucket
+pub fewest_of_none : IsFewest 0 0
+fewest_of_none = record { enough = omega arith; least = λ c h. omega arith }
+
+-- the bucket of an index is the last of the fewest that hold the items up to it
+pub fewest_of_place : {i b s : ℕ} → IsPlace i b s → IsFewest (i + 1) (b + 1)
+fewest_of_place {i} {b} {s} p = record {
+  enough = rw (add-one b) (omega arith);
+  least = λ c h. let above : b < c = below_of_start b c (i + 1) (omega arith) h in omega arith;
+}
+
+module _ (passes : ℕ → Bool) where
+  -- each number before the least one fails
+  least_from-fails : (b k c : ℕ) → b ≤ c → c < least_from b k passes → passes c ≡ false
+  least_from-fails b zero c low high = absurd (omega arith)
+  least_from-fails b (suc k) c low high =
+      (elim (passes b) as (λ v. passes b ≡ v → c < cond v b (least_from (suc b) k passes) → passes c ≡ false) [
+        | true ↦ λ here below. absurd (omega arith)
+        | false ↦ λ here below. elim (cases_eq b c) [
+            | inl same ↦ subst (λ (d : ℕ). passes d ≡ false) same here
+            | inr other ↦ least_from-fails (suc b) k c (omega arith) below
+          ]
+      ]) refl high
+
+  -- the least one passes, where the number after the k does
+  least_from-passes : (b k c : ℕ) → c ≡ b + k → passes c ≡ true → passes (least_from b k passes) ≡ true
+  least_from-passes b zero c last there = let same : c ≡ b = omega arith in subst (λ (d : ℕ). passes d ≡ true) same there
+  least_from-passes b (suc k) c last there =
+      (elim (passes b) as (λ v. passes b ≡ v → passes (cond v b (least_from (suc b) k passes)) ≡ true) [
+        | true ↦ λ here. here
+        | false ↦ λ here. least_from-passes (suc b) k c (omega arith) there
+      ]) refl
+
+least_is : (n k : ℕ) → n ≤ start k → IsFewest n (least_from 0 k (λ b. nat_le n (start b)))
+least_is n k h =
+    let passes = λ (b : ℕ). nat_le n (start b) in
+    let found = least_from 0 k passes in
+    record {
+      enough = leb-true n (start found) (least_from-passes passes 0 k k (omega arith) (le-leb n (start k) h));
+      least = λ c room. elim (cases_lt c found) [
+          | inl less ↦ absurd (let below = leb-false n (start c) (least_from-fails passes 0 k c (omega arith) less) in omega arith)
+          | inr more ↦ more
+        ];
+    }
+
+-- `fewest` is the least number of buckets with room
+pub fewest_is_least : (n : ℕ) → n ≤ cap → IsFewest n (fewest n)
+unfolding fewest
+fewest_is_least n small = least_is n 27 small
+
+-- it is what has the law of the fewest
+pub fewest_is : {n b : ℕ} → n ≤ cap → IsFewest n b → fewest n ≡ b
+fewest_is {n} {b} small few = fewest_unique (fewest_is_least n small) few

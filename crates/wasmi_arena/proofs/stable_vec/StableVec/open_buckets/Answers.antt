@@ -1,0 +1,5 @@
+use Rattle.wasmi_arena.proofs.Vectors.{opened_is}
+use Rattle.wasmi_arena.proofs.stable_vec.StableVec.open_buckets.Goals as goal
+
+pub returns : goal.returns
+returns g c = rw (← c.self.view_is) (opened_is _ _ _ c.self.invariant)

@@ -1,0 +1,10 @@
+use Rattle.std.proofs.Common.{◌∙◌, ap}
+use Rattle.wasmi_arena.specs.Geometry.{start}
+use Rattle.wasmi_arena.proofs.Vectors.{opened_is, opened_bound}
+use Rattle.wasmi_arena.proofs.stable_vec.StableVec.room.Goals as goal
+
+pub start_of-requires : goal.start_of-requires
+start_of-requires g c = opened_bound _ _ _ c.self.invariant
+
+pub returns : goal.returns
+returns g c = rw (← c.self.view_is) (let slots = c.start_of.ensures ∙ ap start (opened_is _ _ _ c.self.invariant) in let items = c.self.invariant.items_counted in cc)

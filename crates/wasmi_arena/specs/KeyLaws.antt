@@ -1,0 +1,13 @@
+-- The key law of each type of keys.
+use Rattle.std.proofs.Common.{ℕ, ◌≤◌, ◌^◌, refl, lit≤}
+use Rattle.std.proofs.Math.Nat.{add-sub_cancel}
+use Rattle.wasmi_arena.specs.Keys.{KeyLaw, own_keys, non_zero_u32_keys, non_zero_usize_keys}
+
+pub own_keys_law : (count : ℕ) → count ≤ 2 ^ 64 → KeyLaw (own_keys count)
+own_keys_law count few = record { few = few; numbered = λ n below. refl }
+
+pub non_zero_u32_law : KeyLaw non_zero_u32_keys
+non_zero_u32_law = record { few = lit≤ tt; numbered = λ n below. add-sub_cancel n 1 }
+
+pub non_zero_usize_law : KeyLaw non_zero_usize_keys
+non_zero_usize_law = record { few = lit≤ tt; numbered = λ n below. add-sub_cancel n 1 }

@@ -1,0 +1,6 @@
+pub mod Keys
+pub mod KeyLaws
+pub mod Errors
+pub mod Geometry
+pub mod StableVec
+pub mod Table

@@ -1,0 +1,61 @@
+//! Why a call on an arena was refused.
+ghost use Rattle.std.specs.Prelude.{◌≡◌, Some};
+ghost use Rattle.wasmi_arena.specs.declared.error.ArenaError.TheVariants.{OutOfSystemMemory};
+ghost use Rattle.wasmi_arena.specs.Errors.{text_of};
+
+use std::alloc::{AllocError, AllocFailed};
+use std::error::Error;
+use std::fmt;
+
+/// Why a call on an arena was refused. The value that it was called on has the same items as before.
+#[derive(Clone, Copy, Debug, PartialEq, Eq)]
+pub enum ArenaError {
+    /// A growth was refused for want of memory.
+    OutOfSystemMemory,
+    /// The key, or the index, reads no item.
+    KeyOutOfBounds,
+    /// There is no key for one more item, or no slot.
+    NotEnoughKeys,
+    /// Two references to one item were asked for.
+    AliasingPairAccess,
+}
+
+impl ArenaError {
+    /// What `Display` writes.
+    pub fn text(&self) -> &'static str
+        ensures { result.now ≡ text_of self.now }
+    {
+        match self {
+            ArenaError::OutOfSystemMemory => "ran out of system memory",
+            ArenaError::KeyOutOfBounds => "encounteded out of bounds key",
+            ArenaError::NotEnoughKeys => "ran out of valid keys",
+            ArenaError::AliasingPairAccess => "tried to access aliasing item pair",
+        }
+    }
+}
+
+impl fmt::Display for ArenaError {
+    ghost output = { λ error. Some (text_of error) };
+
+    fn fmt<W: fmt::Write>(&self, f: &mut fmt::Formatter<W>) -> fmt::Result {
+        f.write_str(self.text())
+    }
+}
+
+impl Error for ArenaError {}
+
+impl From<AllocError> for ArenaError {
+    ghost from_gives = { λ _ error. error ≡ OutOfSystemMemory };
+
+    fn from(_error: AllocError) -> ArenaError {
+        ArenaError::OutOfSystemMemory
+    }
+}
+
+impl<T: Drop> From<AllocFailed<T>> for ArenaError {
+    ghost from_gives = { λ _ error. error ≡ OutOfSystemMemory };
+
+    fn from(_error: AllocFailed<T>) -> ArenaError {
+        ArenaError::OutOfSystemMemory
+    }
+}

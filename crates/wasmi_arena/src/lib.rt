@@ -1,0 +1,12 @@
+//! The arenas of the Wasmi interpreter: typed keys, a vector whose items stay in their slots, and an arena over it.
+#![tactic(auto)]
+
+mod bucket;
+mod error;
+mod key;
+mod stable_vec;
+
+pub use bucket::Bucket;
+pub use error::ArenaError;
+pub use key::ArenaKey;
+pub use stable_vec::{StableVec, StableVecIter};

@@ -1,0 +1,228 @@
+//! A vector whose items stay in the slots that they were pushed into.
+ghost use Rattle.std.specs.Prelude.{◌≡◌, ◌+◌, ◌-◌, ◌<◌, ◌≤◌, ◌==◌, ◌↔◌, [], ◌∷◌, ◌++◌, length, IfOk, IfErr, OnOk, OnErr, IsOk, IsErrOf, ◌⊎◌, option_copied, slice_get, slice_index_or, slice_set, Some, None};
+ghost use Rattle.wasmi_arena.specs.Geometry.{size, start, cap, IsPlace, IsFewest, fewest, slots, room};
+ghost use Rattle.wasmi_arena.specs.StableVec.{Bucket as Shelf, bucket_at};
+ghost use Rattle.wasmi_arena.specs.Table.{held, row_with};
+
+mod iter;
+
+use crate::{ArenaError, Bucket};
+use std::alloc::{Allocator, Global};
+use std::array;
+use std::marker::Model;
+
+pub use iter::StableVecIter;
+
+// How many buckets a vector has at the most.
+const BUCKETS: usize = 27;
+
+/// A vector whose items stay where they are: a push never moves an item that is there.
+///
+/// The items lie in at most 27 buckets, of 32, 64, 128 and so on slots, which are opened in order,
+/// each when its first item is pushed. So a vector of n items has exactly the fewest buckets with
+/// room for n, and holds at most 4,294,967,264 items. The item at an index lies in the slot that
+/// [`place`](StableVec::place) tells, whatever the length.
+#[derive(Drop)]
+pub struct StableVec<T, A: Allocator = Global> {
+    buckets: [Option<Bucket<T, A>>; 27],
+    len: usize,
+    // How many of the buckets are open.
+    opened: usize,
+    alloc: A,
+}
+
+impl<T, A: Allocator> Model for StableVec<T, A> {
+    ghost use Rattle.std.specs.Prelude.{List};
+
+    ghost Value = { List T };
+
+    ghost use Rattle.wasmi_arena.specs.Table.{items_of, IsLaidOut};
+
+    ghost view = { λ vec. items_of vec.buckets };
+
+    ghost invariant = { λ vec. IsLaidOut vec.buckets vec.len vec.opened };
+}
+
+// The first index of a bucket.
+fn start_of(bucket: usize) -> usize
+    requires { bucket ≤ 27 }
+    ensures { result ≡ start bucket }
+{
+    (32 << bucket) - 32
+}
+
+// The bucket that takes one more item, or 27 where there is none.
+fn next_bucket(len: usize, opened: usize) -> usize
+    requires few { IsFewest len opened }
+    requires bound { len ≤ cap }
+    ensures bound { result ≤ 27 }
+    ensures begun { start result ≤ len }
+    ensures free { len < start result + size result }
+{
+    if len < start_of(opened) {
+        opened - 1
+    } else {
+        opened
+    }
+}
+
+// Puts `value` into the first free slot of a bucket, which is opened if need be.
+fn push_into<T: Drop, A: Allocator + Clone>(
+    buckets: &mut [Option<Bucket<T, A>>],
+    bucket: usize,
+    alloc: &A,
+    value: T,
+) -> Result<(), ArenaError>
+    requires bucket { (bucket < length buckets.old) × (bucket < 27) }
+    requires free { length (held (slice_index_or buckets.old bucket None)) < size bucket }
+    requires same { (b : Shelf T) → slice_index_or buckets.old bucket None ≡ Some b → b.capacity ≡ size bucket }
+    ensures ok { OnOk result (buckets.new ≡ slice_set buckets.old bucket (row_with (size bucket) (slice_index_or buckets.old bucket None) value)) }
+    ensures error { IfErr result (λ error. error ≡ ArenaError.OutOfSystemMemory) }
+    ensures err { OnErr result ((buckets.new ≡ buckets.old) × (slice_index_or buckets.old bucket None ≡ None)) }
+{
+    let row = &mut buckets[bucket];
+    if row.is_none() {
+        let capacity = StableVec::<T>::size_of_bucket_at(bucket);
+        *row = Some(Bucket::open(alloc.clone()?, capacity)?);
+    }
+    if let Some(open) = row {
+        open.push(value);
+    }
+    Ok(())
+}
+
+impl<T> StableVec<T> {
+    /// The bucket and the slot in it of the item at an index. At most 27 steps.
+    pub fn place(index: usize) -> (usize, usize)
+        requires { index < cap }
+        ensures { IsPlace index result.0 result.1 }
+    {
+        let mut bucket = 0;
+        while start_of(bucket + 1) <= index {
+            bucket += 1;
+        }
+        (bucket, index - start_of(bucket))
+    }
+
+    /// How many slots a bucket has. Constant time.
+    pub fn size_of_bucket_at(bucket: usize) -> usize
+        requires { bucket < 27 }
+        ensures { result ≡ size bucket }
+    {
+        32 << bucket
+    }
+}
+
+impl<T, A: Allocator> StableVec<T, A> {
+    /// An empty vector, which asks `alloc` for memory when a bucket is opened.
+    pub fn new(alloc: A) -> Self
+        ensures { result ≡ [] }
+    {
+        StableVec {
+            buckets: array::from_fn(|_| None),
+            len: 0,
+            opened: 0,
+            alloc,
+        }
+    }
+
+    /// The number of items. Constant time.
+    pub fn len(&self) -> usize
+        ensures value { result ≡ length self.now }
+        ensures bound { result ≤ cap }
+    {
+        self.len
+    }
+
+    /// Whether there is no item. Constant time.
+    pub fn is_empty(&self) -> bool
+        ensures { result ≡ (length self.now == 0) }
+    {
+        self.len == 0
+    }
+
+    /// How many buckets are open: the fewest with room for the items. Constant time.
+    pub fn open_buckets(&self) -> usize
+        ensures { result ≡ fewest (length self.now) }
+    {
+        self.opened
+    }
+
+    /// How many slots the open buckets have. Constant time.
+    pub fn slots(&self) -> usize
+        ensures { result ≡ slots (length self.now) }
+    {
+        start_of(self.opened)
+    }
+
+    /// How many items can be pushed before a bucket must be opened. Constant time.
+    pub fn room(&self) -> usize
+        ensures { result ≡ room (length self.now) }
+    {
+        start_of(self.opened) - self.len
+    }
+
+    /// The item at an index, if there is one. Constant time.
+    pub fn get(&self, index: usize) -> Option<&T>
+        ensures { option_copied result ≡ slice_get self.now index }
+    {
+        if index >= self.len {
+            return None;
+        }
+        let (bucket, slot) = StableVec::<T>::place(index);
+        let buckets = &self.buckets[..];
+        match &buckets[bucket] {
+            Some(open) => Some(&open.slice()[slot]),
+            None => unreachable!(),
+        }
+    }
+
+    /// A bucket as the vector keeps it: its items are the filled part, and its capacity is the number
+    /// of its slots. `None` if it isn't open. Constant time.
+    pub fn bucket(&self, bucket: usize) -> Option<&Bucket<T, A>>
+        ensures { option_copied result ≡ bucket_at self.now bucket }
+    {
+        self.buckets.get(bucket)?.as_ref()
+    }
+
+    /// The items, in order.
+    pub fn iter(&self) -> StableVecIter<'_, T, A>
+        ensures { result ≡ self.now }
+    {
+        let nothing: &[T] = &[];
+        let buckets = &self.buckets[..];
+        StableVecIter {
+            front: nothing.iter(),
+            buckets: buckets[..self.opened].iter(),
+            behind: self.len,
+        }
+    }
+
+    /// Puts an item at the end, and answers its index.
+    ///
+    /// A bucket is opened only where [`room`](StableVec::room) is 0; no item moves. Refused with
+    /// `NotEnoughKeys` where the vector is full, then with `OutOfSystemMemory` where the bucket to be
+    /// opened is refused. After a refusal the vector is as before, and the item is dropped. Constant
+    /// time, but for the opening.
+    pub fn push(&mut self, value: T) -> Result<usize, ArenaError>
+    where
+        T: Drop,
+        A: Clone,
+        ensures index { IfOk result (λ index. index ≡ length self.old) }
+        ensures ok { OnOk result (self.new ≡ self.old ++ value ∷ []) }
+        ensures full { IsErrOf result ArenaError.NotEnoughKeys ↔ (cap ≤ length self.old) }
+        ensures memory { IsErrOf result ArenaError.OutOfSystemMemory → room (length self.old) ≡ 0 }
+        ensures errors { IfErr result (λ error. (error ≡ ArenaError.NotEnoughKeys) ⊎ (error ≡ ArenaError.OutOfSystemMemory)) }
+        ensures err { OnErr result (self.new ≡ self.old) }
+    {
+        let index = self.len;
+        let bucket = next_bucket(index, self.opened);
+        if bucket == BUCKETS {
+            return Err(ArenaError::NotEnoughKeys);
+        }
+        push_into(&mut self.buckets[..], bucket, &self.alloc, value)?;
+        self.opened = bucket + 1;
+        self.len = index + 1;
+        Ok(index)
+    }
+}
