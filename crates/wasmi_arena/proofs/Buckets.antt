@@ -5,7 +5,7 @@ use Rattle.std.proofs.lemmas.Bool.{cases_lt, cases_eq, cases_order, leb-true, le
 use Rattle.std.proofs.lemmas.Nat.{pow_pos}
 use Rattle.std.proofs.Math.Pow.{pow_mono}
 use Rattle.std.proofs.Math.Nat.{mul-le-mul_left}
-use Rattle.wasmi_arena.specs.Geometry.{size, start, cap, IsPlace, IsFewest, least_from, fewest}
+use Rattle.wasmi_arena.specs.Geometry.{size, start, cap, IsPlace, IsFewest, least_from, fewest, room}
 
 -- a bucket has twice the slots of the one before
 pub size-suc : (b : ℕ) → size (suc b) ≡ 2 * size b
@@ -99,3 +99,11 @@ fewest_is_least n small = least_is n 27 small
 -- it is what has the law of the fewest
 pub fewest_is : {n b : ℕ} → n ≤ cap → IsFewest n b → fewest n ≡ b
 fewest_is {n} {b} small few = fewest_unique (fewest_is_least n small) few
+
+-- one more item takes one place of the room at the most
+pub room-add-one : (n : ℕ) → n < cap → room n ≤ room (n + 1) + 1
+room-add-one n below =
+    let here = fewest_is_least n (omega arith) in
+    let next = fewest_is_least (n + 1) (omega arith) in
+    let no_fewer : fewest n ≤ fewest (n + 1) = here.least (fewest (n + 1)) (let enough = next.enough in omega arith) in
+    omega (arith, start_mono (fewest n) (fewest (n + 1)) no_fewer)

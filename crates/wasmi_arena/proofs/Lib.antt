@@ -1,3 +1,4 @@
 pub mod Buckets
 pub mod Rows
 pub mod Vectors
+pub mod Steps

@@ -4,3 +4,5 @@ pub mod Errors
 pub mod Geometry
 pub mod StableVec
 pub mod Table
+pub mod Arena
+pub mod Entries

@@ -4,9 +4,13 @@
 mod bucket;
 mod error;
 mod key;
+mod run;
+mod stable_arena;
 mod stable_vec;
 
 pub use bucket::Bucket;
 pub use error::ArenaError;
 pub use key::ArenaKey;
+pub use run::{ArenaCommand, ArenaReply, run_arena};
+pub use stable_arena::{StableArena, StableArenaIter};
 pub use stable_vec::{StableVec, StableVecIter};

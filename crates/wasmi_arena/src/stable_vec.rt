@@ -16,6 +16,9 @@ pub use iter::StableVecIter;
 // How many buckets a vector has at the most.
 const BUCKETS: usize = 27;
 
+// How many items these have slots for.
+pub(crate) const CAP: usize = 4_294_967_264;
+
 /// A vector whose items stay where they are: a push never moves an item that is there.
 ///
 /// The items lie in at most 27 buckets, of 32, 64, 128 and so on slots, which are opened in order,
@@ -187,7 +190,8 @@ impl<T, A: Allocator> StableVec<T, A> {
 
     /// The items, in order.
     pub fn iter(&self) -> StableVecIter<'_, T, A>
-        ensures { result ≡ self.now }
+        ensures items { result ≡ self.now }
+        ensures bound { length self.now ≤ cap }
     {
         let nothing: &[T] = &[];
         let buckets = &self.buckets[..];

@@ -9,5 +9,8 @@ slice_bounds-iter-end g c = sym (length-take-le c.self.inside.opened c.self.insi
 pub invariant_of-result : goal.invariant_of-result
 invariant_of-result g c = rw c.iter-2.ensures.rest (all_ahead _ _ _ c.self.invariant _ c.iter.ensures.rest).0
 
-pub returns : goal.returns
-returns g c = rw (c.iter-2.ensures.rest, ← c.self.view_is) (all_ahead _ _ _ c.self.invariant _ c.iter.ensures.rest).1
+pub returns-clause-items : goal.returns-clause-items
+returns-clause-items g c = rw (c.iter-2.ensures.rest, ← c.self.view_is) (all_ahead _ _ _ c.self.invariant _ c.iter.ensures.rest).1
+
+pub returns-clause-bound : goal.returns-clause-bound
+returns-clause-bound g c = rw (← c.self.view_is, ← c.self.invariant.items_counted) c.self.invariant.few_items

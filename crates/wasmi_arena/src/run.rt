@@ -1,0 +1,64 @@
+//! Commands to an arena, and their replies.
+ghost use Rattle.std.specs.Prelude.{◌≡◌, ◌↔◌, length, IfOk, IfErr, OnErr, true};
+ghost use Rattle.wasmi_arena.specs.Geometry.{room};
+ghost use Rattle.wasmi_arena.specs.Arena.{state_of, Step, Run};
+
+use crate::{ArenaError, ArenaKey, StableArena};
+use std::alloc::{Allocator, Global};
+
+/// What an arena is asked to do.
+#[derive(Debug, Drop)]
+pub enum ArenaCommand<Key, T> {
+    /// Put the item at the end.
+    Alloc(T),
+    /// Tell whether the key reads an item.
+    Has(Key),
+}
+
+/// What it replies.
+#[derive(Debug, PartialEq, Eq, Drop)]
+pub enum ArenaReply<Key> {
+    /// The key of the item that was put.
+    Key(Key),
+    /// Whether the key reads an item.
+    Has(bool),
+    /// The command was refused, and the arena is as before it.
+    Refused(ArenaError),
+}
+
+// Makes one command's call.
+fn reply_to<Key: ArenaKey + Drop, T: Drop, A: Allocator + Clone>(
+    arena: &mut StableArena<Key, T, A>,
+    command: ArenaCommand<Key, T>,
+) -> ArenaReply<Key>
+    ensures { Step Key.keys true (state_of arena.old) command result (state_of arena.new) }
+{
+    match command {
+        ArenaCommand::Alloc(item) => match arena.alloc(item) {
+            Ok(key) => ArenaReply::Key(key),
+            Err(error) => ArenaReply::Refused(error),
+        },
+        ArenaCommand::Has(key) => ArenaReply::Has(arena.get(key).is_ok()),
+    }
+}
+
+/// Makes the calls that the commands ask for, one after the other, and answers one reply a command.
+///
+/// A refused command is replied to as `Refused`, and the run goes on. Room for all replies is asked of
+/// `alloc` before the first command; where that is refused, the answer is `OutOfSystemMemory`, no
+/// command ran, and the commands are dropped.
+pub fn run_arena<Key: ArenaKey + Drop, T: Drop, A: Allocator + Clone>(
+    alloc: Global,
+    arena: &mut StableArena<Key, T, A>,
+    commands: Vec<ArenaCommand<Key, T>>,
+) -> Result<Vec<ArenaReply<Key>>, ArenaError>
+    ensures run { IfOk result (λ replies. Run Key.keys true (state_of arena.old) commands.items replies.items (state_of arena.new)) }
+    ensures error { IfErr result (λ error. error ≡ ArenaError.OutOfSystemMemory) }
+    ensures err { OnErr result (arena.new ≡ arena.old) }
+{
+    let mut replies = Vec::with_capacity(alloc, commands.len())?;
+    for command in commands {
+        replies.push_reserved(reply_to(arena, command));
+    }
+    Ok(replies)
+}

@@ -1,0 +1,137 @@
+//! An arena whose items stay in their slots.
+ghost use Rattle.std.specs.Prelude.{◌≡◌, ◌<◌, ◌≤◌, ◌==◌, ◌↔◌, ◌⊎◌, [], ◌∷◌, ◌++◌, length, IfOk, IfErr, OnOk, OnErr, IsErrOf, true, slice_get, Some, MatchResult};
+ghost use Rattle.wasmi_arena.specs.Geometry.{room};
+ghost use Rattle.wasmi_arena.specs.Arena.{most_items};
+ghost use Rattle.wasmi_arena.specs.Entries.{Entries, entries};
+
+mod iter;
+
+use crate::stable_vec::CAP;
+use crate::{ArenaError, ArenaKey, StableVec};
+use std::alloc::{Allocator, Global};
+use std::marker::{Model, PhantomData};
+
+pub use iter::StableArenaIter;
+
+/// A list of items, each under the key of its position, which stays where it is for good.
+///
+/// It is kept in a [`StableVec`], so an item never moves, and at most 4,294,967,264 go in, or as many
+/// as there are keys.
+#[derive(Drop)]
+pub struct StableArena<Key: ArenaKey, T, A: Allocator = Global> {
+    items: StableVec<T, A>,
+    keys: PhantomData<Key>,
+}
+
+impl<Key: ArenaKey, T, A: Allocator> Model for StableArena<Key, T, A> {
+    ghost use Rattle.std.specs.Prelude.{List, ◌≤◌, length, true};
+
+    ghost Value = { List T };
+
+    ghost use Rattle.wasmi_arena.specs.Arena.{most_items};
+
+    ghost view = { λ arena. arena.items };
+
+    // Each position has a key.
+    ghost invariant = { λ arena. length arena.items ≤ most_items Key.keys true };
+}
+
+impl<Key: ArenaKey, T, A: Allocator> StableArena<Key, T, A> {
+    /// An empty arena, which asks `alloc` for memory when a bucket is opened.
+    pub fn new(alloc: A) -> Self
+        ensures { result ≡ [] }
+    {
+        StableArena {
+            items: StableVec::new(alloc),
+            keys: PhantomData,
+        }
+    }
+
+    /// The number of items. Constant time.
+    pub fn len(&self) -> usize
+        ensures { result ≡ length self.now }
+    {
+        self.items.len()
+    }
+
+    /// Whether there is no item. Constant time.
+    pub fn is_empty(&self) -> bool
+        ensures { result ≡ (length self.now == 0) }
+    {
+        self.items.is_empty()
+    }
+
+    /// The key that the next [`alloc`](StableArena::alloc) gives its item. Refused with
+    /// `NotEnoughKeys` where that is. Constant time, and takes no memory.
+    pub fn next_key(&self) -> Result<Key, ArenaError>
+        ensures key { IfOk result (λ key. key ≡ Key.keys.key (length self.now)) }
+        ensures has_key { OnOk result (length self.now < most_items Key.keys true) }
+        ensures no_key { IsErrOf result ArenaError.NotEnoughKeys ↔ (most_items Key.keys true ≤ length self.now) }
+        ensures error { IfErr result (λ error. error ≡ ArenaError.NotEnoughKeys) }
+    {
+        let index = self.items.len();
+        if index >= CAP {
+            return Err(ArenaError::NotEnoughKeys);
+        }
+        Key::from_usize(index).ok_or(ArenaError::NotEnoughKeys)
+    }
+
+    /// Puts an item at the end, and answers its key.
+    ///
+    /// Refused with `NotEnoughKeys` where there is no key or place for one more, then with
+    /// `OutOfSystemMemory` where a bucket to be opened is refused, and only where
+    /// [`room`](StableArena::room) is 0. After a refusal the arena is as before, and the item is
+    /// dropped. Constant time, but for the opening of a bucket.
+    pub fn alloc(&mut self, item: T) -> Result<Key, ArenaError>
+    where
+        T: Drop,
+        A: Clone,
+        ensures key { IfOk result (λ key. key ≡ Key.keys.key (length self.old)) }
+        ensures ok { OnOk result (self.new ≡ self.old ++ item ∷ []) }
+        ensures has_key { OnOk result (length self.old < most_items Key.keys true) }
+        ensures no_key { IsErrOf result ArenaError.NotEnoughKeys ↔ (most_items Key.keys true ≤ length self.old) }
+        ensures memory { IsErrOf result ArenaError.OutOfSystemMemory → room (length self.old) ≡ 0 }
+        ensures errors { IfErr result (λ error. (error ≡ ArenaError.NotEnoughKeys) ⊎ (error ≡ ArenaError.OutOfSystemMemory)) }
+        ensures err { OnErr result (self.new ≡ self.old) }
+    {
+        let key = self.next_key()?;
+        self.items.push(item)?;
+        Ok(key)
+    }
+
+    /// The item under a key, or `KeyOutOfBounds` where there is none. Constant time.
+    pub fn get(&self, key: Key) -> Result<&T, ArenaError>
+        ensures item { IfOk result (λ item. slice_get self.now (Key.keys.number key) ≡ Some item.now) }
+        ensures out_of_bounds { IsErrOf result ArenaError.KeyOutOfBounds ↔ (length self.now ≤ Key.keys.number key) }
+        ensures error { IfErr result (λ error. error ≡ ArenaError.KeyOutOfBounds) }
+    {
+        self.items
+            .get(key.into_usize())
+            .ok_or(ArenaError::KeyOutOfBounds)
+    }
+
+    /// How many items can be added before a bucket must be opened. Constant time.
+    pub fn room(&self) -> usize
+        ensures { result ≡ room (length self.now) }
+    {
+        self.items.room()
+    }
+
+    /// The vector that keeps the items.
+    pub fn items(&self) -> &StableVec<T, A>
+        ensures { result.now ≡ self.now }
+    {
+        &self.items
+    }
+
+    /// Each key with its item, in order.
+    pub fn iter(&self) -> StableArenaIter<'_, Key, T, A>
+        ensures { result ≡ record { items = self.now; from = 0 } }
+    {
+        StableArenaIter {
+            items: self.items.iter(),
+            next: 0,
+            keys: PhantomData,
+        }
+    }
+}
