@@ -1,11 +1,11 @@
 -- Facts on the buckets of a stable vector.
-use Rattle.std.proofs.Common.{◌≡◌, ℕ, zero, suc, ◌+◌, ◌*◌, ◌<◌, ◌≤◌, Bool, true, false, cond, nat_le, refl, ap, subst, inl, inr, add-one, arith}
+use Rattle.std.proofs.Common.{◌≡◌, ℕ, zero, suc, ◌+◌, ◌-◌, ◌*◌, ◌<◌, ◌≤◌, Bool, true, false, cond, nat_le, refl, ap, subst, inl, inr, add-one, arith}
 use Rattle.std.proofs.Math.Nat.{pow-succ'}
 use Rattle.std.proofs.lemmas.Bool.{cases_lt, cases_eq, cases_order, leb-true, leb-false, le-leb}
 use Rattle.std.proofs.lemmas.Nat.{pow_pos}
 use Rattle.std.proofs.Math.Pow.{pow_mono}
 use Rattle.std.proofs.Math.Nat.{mul-le-mul_left}
-use Rattle.wasmi_arena.specs.Geometry.{size, start, cap, IsPlace, IsFewest, least_from, fewest, room}
+use Rattle.wasmi_arena.specs.Geometry.{size, start, max_len, IsPlace, IsFewest, least_from, fewest, slots, room}
 
 -- a bucket has twice the slots of the one before
 pub size-suc : (b : ℕ) → size (suc b) ≡ 2 * size b
@@ -28,12 +28,12 @@ start_below b c h = start_mono (suc b) c (omega arith)
 -- an index has no other place
 pub place_unique : {i b s c t : ℕ} → IsPlace i b s → IsPlace i c t → (b ≡ c) × (s ≡ t)
 place_unique {i} {b} {s} {c} {t} p q = elim (cases_order b c) [
-    | inl same ↦ (same, let at : start b ≡ start c = ap start same in omega arith)
-    | inr apart ↦ elim apart [
-      | inl less ↦ absurd (omega (arith, start_below b c less))
-      | inr more ↦ absurd (omega (arith, start_below c b more))
-    ]
+  | inl same ↦ (same, let at : start b ≡ start c = ap start same in omega arith)
+  | inr apart ↦ elim apart [
+    | inl less ↦ absurd (omega (arith, start_below b c less))
+    | inr more ↦ absurd (omega (arith, start_below c b more))
   ]
+]
 
 -- the fewest are one number
 pub fewest_unique : {n b c : ℕ} → IsFewest n b → IsFewest n c → b ≡ c
@@ -42,9 +42,9 @@ fewest_unique {n} {b} {c} p q = let up = p.least c q.enough in let down = q.leas
 -- what the fewest buckets have room for begins before the last of them ends, and no sooner
 pub below_of_start : (b c n : ℕ) → start b < n → n ≤ start c → b < c
 below_of_start b c n low high = elim (cases_lt b c) [
-    | inl less ↦ less
-    | inr more ↦ absurd (omega (arith, start_mono c b more))
-  ]
+  | inl less ↦ less
+  | inr more ↦ absurd (omega (arith, start_mono c b more))
+]
 
 -- no item needs no bucket
 pub fewest_of_none : IsFewest 0 0
@@ -65,9 +65,9 @@ module _ (passes : ℕ → Bool) where
       (elim (passes b) as (λ v. passes b ≡ v → c < cond v b (least_from (suc b) k passes) → passes c ≡ false) [
         | true ↦ λ here below. absurd (omega arith)
         | false ↦ λ here below. elim (cases_eq b c) [
-            | inl same ↦ subst (λ (d : ℕ). passes d ≡ false) same here
-            | inr other ↦ least_from-fails (suc b) k c (omega arith) below
-          ]
+          | inl same ↦ subst (λ (d : ℕ). passes d ≡ false) same here
+          | inr other ↦ least_from-fails (suc b) k c (omega arith) below
+        ]
       ]) refl high
 
   -- the least one passes, where the number after the k does
@@ -86,24 +86,61 @@ least_is n k h =
     record {
       enough = leb-true n (start found) (least_from-passes passes 0 k k (omega arith) (le-leb n (start k) h));
       least = λ c room. elim (cases_lt c found) [
-          | inl less ↦ absurd (let below = leb-false n (start c) (least_from-fails passes 0 k c (omega arith) less) in omega arith)
-          | inr more ↦ more
-        ];
+        | inl less ↦ absurd (let below = leb-false n (start c) (least_from-fails passes 0 k c (omega arith) less) in omega arith)
+        | inr more ↦ more
+      ];
     }
 
 -- `fewest` is the least number of buckets with room
-pub fewest_is_least : (n : ℕ) → n ≤ cap → IsFewest n (fewest n)
+pub fewest_is_least : (n : ℕ) → n ≤ max_len → IsFewest n (fewest n)
 unfolding fewest
 fewest_is_least n small = least_is n 27 small
 
 -- it is what has the law of the fewest
-pub fewest_is : {n b : ℕ} → n ≤ cap → IsFewest n b → fewest n ≡ b
+pub fewest_is : {n b : ℕ} → n ≤ max_len → IsFewest n b → fewest n ≡ b
 fewest_is {n} {b} small few = fewest_unique (fewest_is_least n small) few
 
 -- one more item takes one place of the room at the most
-pub room-add-one : (n : ℕ) → n < cap → room n ≤ room (n + 1) + 1
+pub room-add-one : (n : ℕ) → n < max_len → room n ≤ room (n + 1) + 1
 room-add-one n below =
     let here = fewest_is_least n (omega arith) in
     let next = fewest_is_least (n + 1) (omega arith) in
     let no_fewer : fewest n ≤ fewest (n + 1) = here.least (fewest (n + 1)) (let enough = next.enough in omega arith) in
     omega (arith, start_mono (fewest n) (fewest (n + 1)) no_fewer)
+
+-- each index below `max_len` has a place
+pub place_of : (i : ℕ) → i < max_len → (b : ℕ) × (s : ℕ) × IsPlace i b s
+place_of i below =
+    let few = fewest_is_least (i + 1) (omega arith) in
+    let b = fewest (i + 1) - 1 in
+    let some : 0 < fewest (i + 1) = below_of_start 0 (fewest (i + 1)) (i + 1) (omega arith) few.enough in
+    let last : fewest (i + 1) ≡ suc b = omega arith in
+    let end : start (fewest (i + 1)) ≡ start (suc b) = ap start last in
+    let begun : start b ≤ i = elim (cases_lt i (start b)) [
+      | inl early ↦ absurd (let fewer = few.least b (omega arith) in omega arith)
+      | inr late ↦ late
+    ] in
+    let within : fewest (i + 1) ≤ 27 = few.least 27 (omega arith) in
+    let enough = few.enough in
+    (b, i - start b, record { bucket_exists = omega arith; slot_exists = omega arith; index_is = omega arith })
+
+-- each slot of the 27 buckets is the place of an index below `max_len`
+pub place_of_slot : (b s : ℕ) → b < 27 → s < size b → IsPlace (start b + s) b s × (start b + s < max_len)
+place_of_slot b s below slot = (record { bucket_exists = below; slot_exists = slot; index_is = refl }, omega (arith, start_below b 27 below))
+
+pub slots-zero : slots 0 ≡ 0
+slots-zero = ap start (fewest_is {n = 0} {b = 0} (omega arith) fewest_of_none)
+
+-- the slots are at most twice the items, and 30
+pub slots-le : (n : ℕ) → 0 < n → n ≤ max_len → slots n ≤ 2 * n + 30
+slots-le n some small =
+    let few = fewest_is_least n small in
+    let b = fewest n - 1 in
+    let one : 0 < fewest n = below_of_start 0 (fewest n) n (omega arith) few.enough in
+    let last : fewest n ≡ suc b = omega arith in
+    let end : start (fewest n) ≡ start (suc b) = ap start last in
+    let begun : start b < n = elim (cases_lt (start b) n) [
+      | inl early ↦ early
+      | inr late ↦ absurd (let fewer = few.least b late in omega arith)
+    ] in
+    omega (arith, start-size b)

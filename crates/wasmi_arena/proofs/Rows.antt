@@ -92,5 +92,5 @@ module _ {T : Type 0} where
   table-filled width (suc b) items (row ∷ rows) pos table within early =
       let first : width * 2 ^ 0 < length items + width = early 0 (omega arith) in
       let rest = table-filled (2 * width) b (drop width items) rows (omega arith) table.1 (omega arith)
-          (λ c below. let next = early (suc c) (omega arith) in omega (arith, doubled width c, length-drop width items)) in
+      (λ c below. let next = early (suc c) (omega arith) in omega (arith, doubled width c, length-drop width items)) in
       subst (λ (r : Option (Bucket T)). AreFilled (r ∷ take b rows)) (sym table.0) (filled_row width items (take b rows) pos (omega arith) rest)

@@ -1,7 +1,7 @@
 -- Facts on the steps and runs of an arena.
 use Rattle.std.proofs.Common.{◌≡◌, ℕ, ◌+◌, ◌<◌, ◌≤◌, Bool, true, List, [], ◌∷◌, ◌++◌, length, min, refl, sym, ◌∙◌, ap, subst, inl, inr, ◌⊎◌, ◌↔◌, Result, Err, IsErrOf, arith, length-append}
 use Rattle.std.proofs.lemmas.Bool.{cases_lt}
-use Rattle.wasmi_arena.specs.Geometry.{cap, room}
+use Rattle.wasmi_arena.specs.Geometry.{max_len, room}
 use Rattle.wasmi_arena.specs.Keys.{Keys}
 use Rattle.wasmi_arena.specs.Arena.{State, Step, Run, RefusesItem, most_items, state_of}
 use Rattle.wasmi_arena.specs.declared.error.ArenaError.{ArenaError}
@@ -19,7 +19,7 @@ module _ {K T : Type 0} (keys : Keys K) (bounded : Bool) where
   Run-push old (c ∷ cs) [] mid command reply new run step = absurd run
 
 -- an item that goes to the end takes one place of the room at the most
-pub room-push : {T : Type 0} (items : List T) (item : T) → length items < cap → room (length items) ≤ room (length (items ++ item ∷ [])) + 1
+pub room-push : {T : Type 0} (items : List T) (item : T) → length items < max_len → room (length items) ≤ room (length (items ++ item ∷ [])) + 1
 room-push items item below = rw (length-append items (item ∷ [])) (room-add-one (length items) below)
 
 module _ {K T : Type 0} (keys : Keys K) (items : List T) (error : ArenaError) where
@@ -29,7 +29,10 @@ module _ {K T : Type 0} (keys : Keys K) (items : List T) (error : ArenaError) wh
       → (IsErrOf {T = K} (Err error) OutOfSystemMemory → room (length items) ≡ 0)
       → RefusesItem keys true (state_of items) error
   refuses_item (inl full) no_key memory = rw full (no_key.0 (ap Err full))
-  refuses_item (inr lacking) no_key memory = rw lacking (elim (cases_lt (length items) (most_items keys true)) [
+  refuses_item (inr lacking) no_key memory = rw lacking (
+    elim (cases_lt (length items) (most_items keys true)) [
       | inl few ↦ few
       | inr many ↦ absurd (let full = no_key.1 many in cc)
-    ], memory (ap Err lacking))
+    ],
+    memory (ap Err lacking),
+  )

@@ -1,13 +1,13 @@
 -- What the fields of a stable vector tell, once they agree.
-use Rattle.std.proofs.Common.{◌≡◌, ℕ, ◌+◌, ◌-◌, ◌*◌, ◌^◌, ◌<◌, ◌≤◌, List, [], ◌∷◌, ◌++◌, length, take, drop, get_or, set, Option, Some, None, cond, refl, sym, ◌∙◌, ap, inl, inr, arith, lit<, length-append, length-drop, slice_get}
+use Rattle.std.proofs.Common.{◌≡◌, ℕ, ◌+◌, ◌-◌, ◌*◌, ◌^◌, ◌<◌, ◌≤◌, List, [], ◌∷◌, ◌++◌, length, take, drop, get_or, set, Option, Some, None, cond, refl, sym, ◌∙◌, ap, inl, inr, arith, lit<, length-append, length-drop, slice_get, MatchOption}
 use Rattle.std.proofs.lemmas.Bool.{cases_lt, lt-ltb, le-ltb}
 use Rattle.std.proofs.Math.ListN.{length-set, drop_of_length-le}
 use Rattle.std.proofs.lemmas.List.{get_or_default, take_all, length-take, get_or-take, get_or-drop}
 use Rattle.std.proofs.lemmas.Option.{slice_get-get_or}
-use Rattle.wasmi_arena.specs.Geometry.{size, start, IsPlace, fewest, room}
+use Rattle.wasmi_arena.specs.Geometry.{size, start, max_len, IsPlace, fewest, room}
 use Rattle.wasmi_arena.specs.StableVec.{Bucket, bucket_at}
 use Rattle.wasmi_arena.specs.Table.{items_of, held, row_with, row_of, IsTable, AreFilled, IsLaidOut, IsAhead}
-use Rattle.wasmi_arena.proofs.Buckets.{start-size, size-suc, size_pos, start_mono, start_below, fewest_is, fewest_of_place, fewest_of_none}
+use Rattle.wasmi_arena.proofs.Buckets.{start-size, size-suc, size_pos, start_mono, start_below, fewest_is, fewest_is_least, below_of_start, fewest_of_place, fewest_of_none}
 use Rattle.wasmi_arena.proofs.Rows.{row_at, items_of-table, table-push, table-take, table-filled, table_of_none}
 
 module _ {T : Type 0} where
@@ -48,11 +48,11 @@ module _ {T : Type 0} where
     -- row b is bucket b
     pub row-bucket_at : (b : ℕ) → b < 27 → get_or rows b None ≡ bucket_at (items_of rows) b
     row-bucket_at b below = elim (cases_lt b (fewest (length (items_of rows)))) [
-        | inl needed ↦ row_some b below (let e = opened_is in let least = v.few_rows.least b in elim (cases_lt (start b) len) [ | inl early ↦ early | inr late ↦ absurd (let few = least late in omega arith) ])
+      | inl needed ↦ row_some b below (let e = opened_is in let least = v.few_rows.least b in elim (cases_lt (start b) len) [ inl early ↦ early | inr late ↦ absurd (let few = least late in omega arith) ])
           ∙ sym (ap (λ t. cond t (Some record { items = take (size b) (drop (start b) (items_of rows)); capacity = size b }) None) (lt-ltb b (fewest (length (items_of rows))) needed))
-        | inr free ↦ row_is b below ∙ (ap (row_of (size b)) (drop_of_length-le (items_of rows) {i = start b} (let e = opened_is in let enough = v.few_rows.enough in omega (arith, v.items_counted, start_mono opened b (omega arith))))
+      | inr free ↦ row_is b below ∙ (ap (row_of (size b)) (drop_of_length-le (items_of rows) {i = start b} (let e = opened_is in let enough = v.few_rows.enough in omega (arith, v.items_counted, start_mono opened b (omega arith))))
           ∙ sym (ap (λ t. cond t (Some record { items = take (size b) (drop (start b) (items_of rows)); capacity = size b }) None) (le-ltb b (fewest (length (items_of rows))) free)))
-      ]
+    ]
 
     -- there is no bucket past the last
     pub none-bucket_at : (b : ℕ) → 27 ≤ b → bucket_at (items_of rows) b ≡ None
@@ -127,10 +127,10 @@ module _ {T : Type 0} where
       -- where it isn't open, no slot is free
       pub no_room : get_or rows b None ≡ None → room (length (items_of rows)) ≡ 0
       no_room shut = elim (cases_lt (start b) len) [
-          | inl early ↦ absurd (let full = row_some b below early in let none = sym shut ∙ full in cc)
-          | inr late ↦ let few = v.few_rows.least b late in
+        | inl early ↦ absurd (let full = row_some b below early in let none = sym shut ∙ full in cc)
+        | inr late ↦ let few = v.few_rows.least b late in
             omega (arith, v.few_rows.enough, start_mono opened b few, ap start opened_is, v.items_counted)
-        ]
+      ]
 
   -- where no row is open, there is no item
   pub laid_out_none : (rows : List (Option (Bucket T))) → length rows ≡ 27 → ((b : ℕ) → b < length rows → get_or rows b None ≡ None) → IsLaidOut rows 0 0 × (items_of rows ≡ [])
@@ -138,3 +138,18 @@ module _ {T : Type 0} where
       let table = table_of_none 32 rows empty in
       let none = items_of-table 32 [] rows table in
       (record { rows_counted = counted; table = rw none table; items_counted = sym (ap length none); few_items = omega arith; few_rows = fewest_of_none }, none)
+
+  -- a part of a list reads what the list reads
+  slice_get-part : (xs : List T) (m n s i : ℕ) → s < n → m + s ≡ i → i < length xs → slice_get (take n (drop m xs)) s ≡ slice_get xs i
+  slice_get-part [] m n s i slot at below = absurd (omega arith)
+  slice_get-part (x ∷ xs) m n s i slot at below =
+      let there : s < length (take n (drop m (x ∷ xs))) = omega (arith, length-take n (drop m (x ∷ xs)), length-drop m (x ∷ xs)) in
+      let same = get_or-take n (drop m (x ∷ xs)) s x slot ∙ (get_or-drop m (x ∷ xs) s x ∙ ap (λ k. get_or (x ∷ xs) k x) at) in
+      slice_get-get_or (take n (drop m (x ∷ xs))) s x there ∙ (ap Some same ∙ sym (slice_get-get_or (x ∷ xs) i x below))
+
+  -- an item lies in the slot of its index
+  pub item_in_slot : (items : List T) (i b s : ℕ) → length items ≤ max_len → i < length items → IsPlace i b s → MatchOption (bucket_at items b) ⊥ (λ bucket. slice_get bucket.items s ≡ slice_get items i)
+  item_in_slot items i b s small below place =
+      let enough = (fewest_is_least (length items) small).enough in
+      let needed : b < fewest (length items) = below_of_start b (fewest (length items)) (length items) (omega (arith, place.index_is)) enough in
+      rw (lt-ltb b (fewest (length items)) needed) (slice_get-part items (start b) (size b) s i place.slot_exists place.index_is below)

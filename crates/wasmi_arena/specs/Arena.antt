@@ -1,7 +1,7 @@
 -- The steps of an arena, and its runs: what each command may be replied to, and what it leaves.
 use Rattle.std.specs.Prelude.{◌≡◌, ℕ, ◌+◌, ◌<◌, ◌≤◌, ◌↔◌, Bool, if◌then◌else◌, List, [], ◌∷◌, ◌++◌, length, IsTrue, min}
 use Rattle.wasmi_arena.specs.Keys.{Keys}
-use Rattle.wasmi_arena.specs.Geometry.{cap, room}
+use Rattle.wasmi_arena.specs.Geometry.{max_len, room}
 use Rattle.wasmi_arena.specs.declared.error.ArenaError.{ArenaError}
 use Rattle.wasmi_arena.specs.declared.error.ArenaError.TheVariants.{OutOfSystemMemory, KeyOutOfBounds, NotEnoughKeys, AliasingPairAccess}
 use Rattle.wasmi_arena.specs.declared.run.ArenaCommand.{ArenaCommand}
@@ -9,9 +9,9 @@ use Rattle.wasmi_arena.specs.declared.run.ArenaCommand.TheVariants.{Alloc, Has}
 use Rattle.wasmi_arena.specs.declared.run.ArenaReply.{ArenaReply}
 use Rattle.wasmi_arena.specs.declared.run.ArenaReply.TheVariants.{Key, Has as Told, Refused}
 
--- how many items an arena can hold: those that have keys, and where it is bounded at most `cap`
+-- how many items an arena can hold: those that have keys, and where it is bounded at most `max_len`
 abbrev pub most_items : {K : Type 0} → Keys K → Bool → ℕ
-most_items keys bounded = if bounded then min keys.count cap else keys.count
+most_items keys bounded = if bounded then min keys.count max_len else keys.count
 
 -- what an arena is: the list of its items, and how many more fit before memory is asked for
 pub record State (T : Type 0) : Type 0 where

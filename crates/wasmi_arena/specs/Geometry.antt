@@ -11,8 +11,8 @@ start zero = 0
 start (suc b) = start b + size b
 
 -- how many items the 27 buckets hold together
-abbrev pub cap : ℕ
-cap = start 27
+abbrev pub max_len : ℕ
+max_len = start 27
 
 -- the item at an index lies in this slot of this bucket
 pub record IsPlace (index bucket slot : ℕ) : Type 0 where
@@ -30,7 +30,7 @@ abbrev pub least_from : ℕ → ℕ → (ℕ → Bool) → ℕ
 least_from b zero passes = b
 least_from b (suc k) passes = if passes b then b else least_from (suc b) k passes
 
--- the fewest buckets with room for n items, for n up to `cap`: the least b with n at most `start b`
+-- the fewest buckets with room for n items, for n up to `max_len`: the least b with n at most `start b`
 unfoldable pub fewest : ℕ → ℕ
 fewest n = least_from 0 27 (λ b. nat_le n (start b))
 

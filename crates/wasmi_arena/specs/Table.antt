@@ -1,6 +1,6 @@
 -- How a stable vector lays out its items. No public clause cites this module.
 use Rattle.std.specs.Prelude.{◌≡◌, ℕ, ◌+◌, ◌*◌, ◌<◌, ◌≤◌, List, [], ◌∷◌, ◌++◌, length, take, drop, Option, Some, None}
-use Rattle.wasmi_arena.specs.Geometry.{IsFewest, cap}
+use Rattle.wasmi_arena.specs.Geometry.{IsFewest, max_len}
 use Rattle.wasmi_arena.specs.StableVec.{Bucket}
 
 module _ {T : Type 0} where
@@ -40,11 +40,11 @@ module _ {T : Type 0} where
     pub rows_counted : length rows ≡ 27
     pub table : IsTable 32 (items_of rows) rows
     pub items_counted : len ≡ length (items_of rows)
-    pub few_items : len ≤ cap
+    pub few_items : len ≤ max_len
     pub few_rows : IsFewest len opened
 
   -- an iterator has these items of one row left, and then these rows, which hold `behind` items
   pub record IsAhead (front : List T) (rows : List (Option (Bucket T))) (behind : ℕ) : Type 0 where
     pub filled : AreFilled rows
     pub counted : behind ≡ length (items_of rows)
-    pub few : length front + behind ≤ cap
+    pub few : length front + behind ≤ max_len

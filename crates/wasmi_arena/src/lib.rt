@@ -4,9 +4,12 @@
 mod bucket;
 mod error;
 mod key;
+pub mod laws;
 mod run;
 mod stable_arena;
 mod stable_vec;
+#[cfg(test)]
+mod tests;
 
 pub use bucket::Bucket;
 pub use error::ArenaError;

@@ -27,7 +27,7 @@ pub enum ArenaReply<Key> {
 }
 
 // Makes one command's call.
-fn reply_to<Key: ArenaKey + Drop, T: Drop, A: Allocator + Clone>(
+fn reply_to<Key: ArenaKey, T: Drop, A: Allocator + Clone>(
     arena: &mut StableArena<Key, T, A>,
     command: ArenaCommand<Key, T>,
 ) -> ArenaReply<Key>
@@ -47,7 +47,7 @@ fn reply_to<Key: ArenaKey + Drop, T: Drop, A: Allocator + Clone>(
 /// A refused command is replied to as `Refused`, and the run goes on. Room for all replies is asked of
 /// `alloc` before the first command; where that is refused, the answer is `OutOfSystemMemory`, no
 /// command ran, and the commands are dropped.
-pub fn run_arena<Key: ArenaKey + Drop, T: Drop, A: Allocator + Clone>(
+pub fn run_arena<Key: ArenaKey, T: Drop, A: Allocator + Clone>(
     alloc: Global,
     arena: &mut StableArena<Key, T, A>,
     commands: Vec<ArenaCommand<Key, T>>,

@@ -8,10 +8,9 @@ mod iter;
 
 use crate::stable_vec::CAP;
 use crate::{ArenaError, ArenaKey, StableVec};
+pub use iter::StableArenaIter;
 use std::alloc::{Allocator, Global};
 use std::marker::{Model, PhantomData};
-
-pub use iter::StableArenaIter;
 
 /// A list of items, each under the key of its position, which stays where it is for good.
 ///

@@ -1,17 +1,16 @@
 //! A vector whose items stay in the slots that they were pushed into.
 ghost use Rattle.std.specs.Prelude.{◌≡◌, ◌+◌, ◌-◌, ◌<◌, ◌≤◌, ◌==◌, ◌↔◌, [], ◌∷◌, ◌++◌, length, IfOk, IfErr, OnOk, OnErr, IsOk, IsErrOf, ◌⊎◌, option_copied, slice_get, slice_index_or, slice_set, Some, None};
-ghost use Rattle.wasmi_arena.specs.Geometry.{size, start, cap, IsPlace, IsFewest, fewest, slots, room};
+ghost use Rattle.wasmi_arena.specs.Geometry.{size, start, max_len, IsPlace, IsFewest, fewest, slots, room};
 ghost use Rattle.wasmi_arena.specs.StableVec.{Bucket as Shelf, bucket_at};
 ghost use Rattle.wasmi_arena.specs.Table.{held, row_with};
 
 mod iter;
 
 use crate::{ArenaError, Bucket};
+pub use iter::StableVecIter;
 use std::alloc::{Allocator, Global};
 use std::array;
 use std::marker::Model;
-
-pub use iter::StableVecIter;
 
 // How many buckets a vector has at the most.
 const BUCKETS: usize = 27;
@@ -57,7 +56,7 @@ fn start_of(bucket: usize) -> usize
 // The bucket that takes one more item, or 27 where there is none.
 fn next_bucket(len: usize, opened: usize) -> usize
     requires few { IsFewest len opened }
-    requires bound { len ≤ cap }
+    requires bound { len ≤ max_len }
     ensures bound { result ≤ 27 }
     ensures begun { start result ≤ len }
     ensures free { len < start result + size result }
@@ -97,7 +96,7 @@ fn push_into<T: Drop, A: Allocator + Clone>(
 impl<T> StableVec<T> {
     /// The bucket and the slot in it of the item at an index. At most 27 steps.
     pub fn place(index: usize) -> (usize, usize)
-        requires { index < cap }
+        requires { index < max_len }
         ensures { IsPlace index result.0 result.1 }
     {
         let mut bucket = 0;
@@ -132,7 +131,7 @@ impl<T, A: Allocator> StableVec<T, A> {
     /// The number of items. Constant time.
     pub fn len(&self) -> usize
         ensures value { result ≡ length self.now }
-        ensures bound { result ≤ cap }
+        ensures bound { result ≤ max_len }
     {
         self.len
     }
@@ -191,7 +190,7 @@ impl<T, A: Allocator> StableVec<T, A> {
     /// The items, in order.
     pub fn iter(&self) -> StableVecIter<'_, T, A>
         ensures items { result ≡ self.now }
-        ensures bound { length self.now ≤ cap }
+        ensures bound { length self.now ≤ max_len }
     {
         let nothing: &[T] = &[];
         let buckets = &self.buckets[..];
@@ -214,7 +213,7 @@ impl<T, A: Allocator> StableVec<T, A> {
         A: Clone,
         ensures index { IfOk result (λ index. index ≡ length self.old) }
         ensures ok { OnOk result (self.new ≡ self.old ++ value ∷ []) }
-        ensures full { IsErrOf result ArenaError.NotEnoughKeys ↔ (cap ≤ length self.old) }
+        ensures full { IsErrOf result ArenaError.NotEnoughKeys ↔ (max_len ≤ length self.old) }
         ensures memory { IsErrOf result ArenaError.OutOfSystemMemory → room (length self.old) ≡ 0 }
         ensures errors { IfErr result (λ error. (error ≡ ArenaError.NotEnoughKeys) ⊎ (error ≡ ArenaError.OutOfSystemMemory)) }
         ensures err { OnErr result (self.new ≡ self.old) }

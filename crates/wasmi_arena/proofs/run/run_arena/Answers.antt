@@ -7,10 +7,11 @@ use Rattle.wasmi_arena.proofs.run.run_arena.Goals as goal
 pub loop-command-preserved : goal.loop-command-preserved
 loop-command-preserved g c =
     let so_far = c.loop-command.invariant in
-    let goes_on = Run-push g.Key.ArenaKey.keys true _ _ _ _ _ _ _ so_far.0 c.reply_to.ensures in
-    (rw c.push_reserved.ensures.items goes_on,
+    let goes_on = Run-push g.Key.ArenaKey.keys true _ _ _ _ _ _ _ so_far.0 c.reply_to.ensures in (
+      rw c.push_reserved.ensures.items goes_on,
       c.push_reserved.ensures.len ∙ (let counted = so_far.1 in omega (arith, length-append c.loop-command.yielded (c.in-Some.command ∷ []))),
-      c.push_reserved.ensures.capacity ∙ so_far.2)
+      c.push_reserved.ensures.capacity ∙ so_far.2,
+    )
 
 pub returns-clause-run : goal.returns-clause-run
 returns-clause-run g c =

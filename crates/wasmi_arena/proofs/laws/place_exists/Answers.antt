@@ -1,0 +1,5 @@
+use Rattle.wasmi_arena.proofs.Buckets.{place_of}
+use Rattle.wasmi_arena.proofs.laws.place_exists.Goals as goal
+
+pub returns : goal.returns
+returns c = place_of

@@ -1,0 +1,217 @@
+//! What no clause says: the worked places and lengths, texts, and that calls succeed.
+ghost use Rattle.std.specs.Prelude.{◌≡◌, ◌<◌, ◌+◌, length, count_by, filter, map, All, IsTrue, ◌↔◌, sum};
+
+use crate::{ArenaCommand, ArenaError, ArenaKey, ArenaReply, StableArena, StableVec, run_arena};
+use std::alloc::Global;
+use std::num::NonZero;
+use std::test::Fail;
+
+// A vector of 0, 1 and so on.
+fn counted(alloc: Global, len: u32) -> Result<StableVec<u32>, ArenaError> {
+    let mut vec = StableVec::new(alloc);
+    for i in 0..len {
+        vec.push(i)?;
+    }
+    Ok(vec)
+}
+
+#[test]
+fn places_are_those_of_the_table(rt: HostRuntime) {
+    for (index, place) in [
+        (0, (0, 0)),
+        (31, (0, 31)),
+        (32, (1, 0)),
+        (95, (1, 63)),
+        (96, (2, 0)),
+        (223, (2, 127)),
+        (4294967263, (26, 2147483647)),
+    ] {
+        if index < 4294967264 {
+            assert_eq!(rt; StableVec::<u8>::place(index), place, "at {index}");
+        }
+    }
+    for (bucket, size) in [(0, 32), (1, 64), (2, 128), (26, 2147483648)] {
+        if bucket < 27 {
+            assert_eq!(rt;
+                StableVec::<u8>::size_of_bucket_at(bucket),
+                size,
+                "at {bucket}"
+            );
+        }
+    }
+}
+
+#[test]
+fn buckets_are_the_fewest(rt: HostRuntime) -> Result<(), Fail> {
+    for (len, open, slots) in [
+        (0, 0, 0),
+        (1, 1, 32),
+        (32, 1, 32),
+        (33, 2, 96),
+        (96, 2, 96),
+        (97, 3, 224),
+    ] {
+        let vec = counted(rt.alloc(), len)?;
+        assert_eq!(rt; vec.open_buckets(), open, "at {len}");
+        assert_eq!(rt; vec.slots(), slots, "at {len}");
+        assert_eq!(rt; vec.room() + vec.len(), slots, "at {len}");
+    }
+    Ok(())
+}
+
+#[test]
+fn two_hundred_pushes(rt: HostRuntime) -> Result<(), Fail> {
+    let mut vec = StableVec::new(rt.alloc());
+    assert!(rt; vec.is_empty());
+    for i in 0..200usize {
+        assert_eq!(rt; vec.push(i)?, i);
+    }
+    assert_eq!(rt; vec.len(), 200);
+    assert!(rt; !vec.is_empty());
+    for i in 0..200usize {
+        assert_eq!(rt; vec.get(i), Some(&i));
+    }
+    assert_eq!(rt; vec.get(200), None);
+    for (bucket, len, capacity) in [(0, 32, 32), (1, 64, 64), (2, 104, 128)] {
+        let open = vec.bucket(bucket).ok_or("not open")?;
+        assert_eq!(rt; open.slice().len(), len);
+        assert_eq!(rt; open.capacity(), capacity);
+    }
+    assert!(rt; vec.bucket(3).is_none());
+    assert!(rt; vec.bucket(27).is_none());
+    assert_eq!(rt; vec.room(), 24);
+    let mut items = vec.iter();
+    assert_eq!(rt; items.len(), 200);
+    assert_eq!(rt; items.next(), Some(&0));
+    assert_eq!(rt; items.len(), 199);
+    assert_eq!(rt; items.filter(|i| **i % 2 == 1).count(), 100);
+    Ok(())
+}
+
+#[test]
+fn items_without_size(rt: HostRuntime) -> Result<(), Fail> {
+    let mut vec = StableVec::new(rt.alloc());
+    for _ in 0..40 {
+        vec.push(())?;
+    }
+    assert_eq!(rt; (vec.len(), vec.open_buckets(), vec.slots()), (40, 2, 96));
+    Ok(())
+}
+
+// A push may be refused for memory, once: then nothing has changed, and the next try goes on.
+#[test]
+fn refused_pushes_change_nothing(rt: HostRuntime) -> Result<(), Fail> {
+    let mut vec = StableVec::new(rt.alloc());
+    for i in 0..100usize {
+        let before = (vec.len(), vec.open_buckets(), vec.slots());
+        if let Err(error) = vec.push(i) {
+            assert_eq!(rt; error, ArenaError::OutOfSystemMemory);
+            assert_eq!(rt; vec.room(), 0);
+            assert_eq!(rt; (vec.len(), vec.open_buckets(), vec.slots()), before);
+            assert_eq!(rt; vec.push(i)?, before.0);
+        }
+        assert_eq!(rt; vec.get(i), Some(&i));
+    }
+    assert_eq!(rt; (vec.len(), vec.open_buckets(), vec.slots()), (100, 3, 224));
+    Ok(())
+}
+
+#[test]
+fn keys_have_their_numbers(rt: HostRuntime) -> Result<(), Fail> {
+    assert_eq!(rt; NonZero::<u32>::from_usize(4294967295), None);
+    assert_eq!(rt; u32::from_usize(4294967295), Some(4294967295));
+    assert_eq!(rt; u32::from_usize(4294967296), None);
+    assert_eq!(rt; usize::from_usize(usize::MAX), Some(usize::MAX));
+    assert_eq!(rt; NonZero::<usize>::from_usize(usize::MAX), None);
+    for n in [0, 1, 4294967294] {
+        assert_eq!(rt; n.into_usize(), n);
+        assert_eq!(rt; u32::from_usize(n).ok_or("u32")?.into_usize(), n);
+        assert_eq!(rt; NonZero::<u32>::from_usize(n).ok_or("u32")?.into_usize(), n);
+        assert_eq!(rt;
+            NonZero::<usize>::from_usize(n).ok_or("usize")?.into_usize(),
+            n
+        );
+    }
+    Ok(())
+}
+
+#[test]
+fn texts_of_the_refusals(rt: HostRuntime) -> Result<(), Fail> {
+    for (error, text) in [
+        (ArenaError::OutOfSystemMemory, "ran out of system memory"),
+        (ArenaError::KeyOutOfBounds, "encounteded out of bounds key"),
+        (ArenaError::NotEnoughKeys, "ran out of valid keys"),
+        (
+            ArenaError::AliasingPairAccess,
+            "tried to access aliasing item pair",
+        ),
+    ] {
+        assert_eq!(rt; error.text(), text);
+        let shown = format!(in rt.alloc(); "{error}")?;
+        assert_eq!(rt; shown.as_str(), text);
+    }
+    assert_eq!(rt;
+        ArenaError::from(std::alloc::AllocError),
+        ArenaError::OutOfSystemMemory
+    );
+    Ok(())
+}
+
+// An arena under the keys of one type, from the first key on.
+fn fills<Key: ArenaKey + PartialEq>(
+    alloc: Global,
+    first: Key,
+    second: Key,
+) -> Result<bool, ArenaError> {
+    let mut arena: StableArena<Key, u8> = StableArena::new(alloc);
+    let starts = arena.is_empty() && arena.next_key()? == first && arena.room() == 0;
+    let keys = arena.alloc(7)? == first && arena.alloc(8)? == second;
+    let reads = *arena.get(first)? == 7 && *arena.get(second)? == 8;
+    let mut entries = arena.iter();
+    let walks = entries.len() == 2 && entries.next() == Some((first, &7)) && entries.len() == 1;
+    Ok(
+        starts
+            && keys
+            && reads
+            && walks
+            && arena.len() == 2
+            && arena.room() == 30
+            && arena.items().len() == 2,
+    )
+}
+
+#[test]
+fn arenas_under_two_keys(rt: HostRuntime) -> Result<(), Fail> {
+    assert!(rt; fills(rt.alloc(), 0usize, 1)?);
+    assert!(rt; fills(rt.alloc(), 0u32, 1)?);
+    let one = NonZero::<u32>::new(1).ok_or("one")?;
+    let two = NonZero::<u32>::new(2).ok_or("two")?;
+    assert!(rt; fills(rt.alloc(), one, two)?);
+    let arena: StableArena<usize, u8> = StableArena::new(rt.alloc());
+    assert_eq!(rt; arena.get(0), Err(ArenaError::KeyOutOfBounds));
+    Ok(())
+}
+
+#[test]
+fn a_run_of_commands(rt: HostRuntime) -> Result<(), Fail> {
+    let mut arena: StableArena<u32, u8> = StableArena::new(rt.alloc());
+    let commands = vec![in rt.alloc();
+        ArenaCommand::Alloc(7),
+        ArenaCommand::Has(0),
+        ArenaCommand::Has(1),
+        ArenaCommand::Alloc(8),
+    ]?;
+    let replies = run_arena(rt.alloc(), &mut arena, commands)?;
+    assert_eq!(rt;
+        replies.as_slice(),
+        [
+            ArenaReply::Key(0),
+            ArenaReply::Has(true),
+            ArenaReply::Has(false),
+            ArenaReply::Key(1)
+        ]
+        .as_slice()
+    );
+    assert_eq!(rt; arena.get(1)?, &8);
+    Ok(())
+}
