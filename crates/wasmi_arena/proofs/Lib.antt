@@ -2,3 +2,4 @@ pub mod Buckets
 pub mod Rows
 pub mod Vectors
 pub mod Steps
+pub mod EntryLemmas

@@ -1,9 +1,9 @@
 -- Facts on the steps and runs of an arena.
-use Rattle.std.proofs.Common.{◌≡◌, ℕ, ◌+◌, ◌<◌, ◌≤◌, Bool, true, List, [], ◌∷◌, ◌++◌, length, min, refl, sym, ◌∙◌, ap, subst, inl, inr, ◌⊎◌, ◌↔◌, Result, Err, IsErrOf, arith, length-append}
+use Rattle.std.proofs.Common.{◌≡◌, ◌+◌, ◌<◌, ◌≤◌, Bool, true, List, [], ◌∷◌, ◌++◌, length, refl, sym, ap, subst, inl, inr, ◌⊎◌, ◌↔◌, Err, IsErrOf, arith, length-append}
 use Rattle.std.proofs.lemmas.Bool.{cases_lt}
 use Rattle.wasmi_arena.specs.Geometry.{max_len, room}
 use Rattle.wasmi_arena.specs.Keys.{Keys}
-use Rattle.wasmi_arena.specs.Arena.{State, Step, Run, RefusesItem, most_items, state_of}
+use Rattle.wasmi_arena.specs.Arena.{State, Allocates, Step, Run, RefusesItem, most_items, state_of}
 use Rattle.wasmi_arena.specs.declared.error.ArenaError.{ArenaError}
 use Rattle.wasmi_arena.specs.declared.error.ArenaError.TheVariants.{NotEnoughKeys, OutOfSystemMemory}
 use Rattle.wasmi_arena.proofs.Buckets.{room-add-one}
@@ -21,6 +21,10 @@ module _ {K T : Type 0} (keys : Keys K) (bounded : Bool) where
 -- an item that goes to the end takes one place of the room at the most
 pub room-push : {T : Type 0} (items : List T) (item : T) → length items < max_len → room (length items) ≤ room (length (items ++ item ∷ [])) + 1
 room-push items item below = rw (length-append items (item ∷ [])) (room-add-one (length items) below)
+
+-- what a stable arena's `alloc` says of an item that it takes
+pub allocates : {K T : Type 0} (keys : Keys K) (old new : List T) (item : T) (key : K) → length old < most_items keys true → key ≡ keys.key (length old) → new ≡ old ++ item ∷ [] → Allocates keys true (state_of old) item key (state_of new)
+allocates keys old new item key below is after = (below, is, after, subst (λ (items : List _). room (length old) ≤ room (length items) + 1) (sym after) (room-push old item (omega arith)))
 
 module _ {K T : Type 0} (keys : Keys K) (items : List T) (error : ArenaError) where
   -- what a stable arena's `alloc` says of a refusal

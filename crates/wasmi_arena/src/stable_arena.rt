@@ -1,8 +1,8 @@
 //! An arena whose items stay in their slots.
 ghost use Rattle.std.specs.Prelude.{◌≡◌, ◌<◌, ◌≤◌, ◌==◌, ◌↔◌, ◌⊎◌, [], ◌∷◌, ◌++◌, length, IfOk, IfErr, OnOk, OnErr, IsErrOf, true, slice_get, Some, MatchResult};
-ghost use Rattle.wasmi_arena.specs.Geometry.{room};
+ghost use Rattle.wasmi_arena.specs.Geometry.{max_len, room};
 ghost use Rattle.wasmi_arena.specs.Arena.{most_items};
-ghost use Rattle.wasmi_arena.specs.Entries.{Entries, entries};
+ghost use Rattle.wasmi_arena.specs.Entries.{entries};
 
 mod iter;
 
@@ -125,7 +125,9 @@ impl<Key: ArenaKey, T, A: Allocator> StableArena<Key, T, A> {
 
     /// Each key with its item, in order.
     pub fn iter(&self) -> StableArenaIter<'_, Key, T, A>
-        ensures { result ≡ record { items = self.now; from = 0 } }
+        ensures entries { result ≡ entries Key.keys self.now }
+        ensures len { length result ≡ length self.now }
+        ensures bound { length self.now ≤ max_len }
     {
         StableArenaIter {
             items: self.items.iter(),

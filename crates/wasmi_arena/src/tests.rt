@@ -1,6 +1,8 @@
 //! What no clause says: the worked places and lengths, texts, and that calls succeed.
 ghost use Rattle.std.specs.Prelude.{◌≡◌, ◌<◌, ◌+◌, length, count_by, filter, map, All, IsTrue, ◌↔◌, sum};
 
+mod callers;
+
 use crate::{ArenaCommand, ArenaError, ArenaKey, ArenaReply, StableArena, StableVec, run_arena};
 use std::alloc::Global;
 use std::num::NonZero;

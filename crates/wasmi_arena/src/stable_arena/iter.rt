@@ -1,7 +1,6 @@
 //! The iterator over a stable arena.
 ghost use Rattle.std.specs.Prelude.{◌≡◌, length};
 ghost use Rattle.std.specs.Iterator.{YieldsFirstBy, item_count};
-ghost use Rattle.wasmi_arena.specs.Entries.{Entries, entries};
 
 use crate::{ArenaKey, StableVecIter};
 use std::alloc::{Allocator, Global};
@@ -17,15 +16,14 @@ pub struct StableArenaIter<'a, Key: ArenaKey, T, A: Allocator = Global> {
 }
 
 impl<'a, Key: ArenaKey, T, A: Allocator> Model for StableArenaIter<'a, Key, T, A> {
-    ghost use Rattle.std.specs.Prelude.{◌+◌, ◌≤◌, length, true};
+    ghost use Rattle.std.specs.Prelude.{List, ◌+◌, ◌≤◌, length, true};
+
+    ghost Value = { List (Key × T) };
+
     ghost use Rattle.wasmi_arena.specs.Arena.{most_items};
-    ghost use Rattle.wasmi_arena.specs.Entries.{Entries as Left, entries_code};
+    ghost use Rattle.wasmi_arena.specs.Entries.{entries_from};
 
-    ghost Value = { Left T };
-
-    ghost coded = { entries_code T.code };
-
-    ghost view = { λ it. record { items = it.items; from = it.next } };
+    ghost view = { λ it. entries_from Key.keys it.next it.items };
 
     // Each position that is left has a key.
     ghost invariant = { λ it. it.next + length it.items ≤ most_items Key.keys true };
@@ -34,7 +32,7 @@ impl<'a, Key: ArenaKey, T, A: Allocator> Model for StableArenaIter<'a, Key, T, A
 impl<'a, Key: ArenaKey, T, A: Allocator> StableArenaIter<'a, Key, T, A> {
     /// How many entries are left. Constant time.
     pub fn len(&self) -> usize
-        ensures { result ≡ length self.now.items }
+        ensures { result ≡ length self.now }
     {
         self.items.len()
     }
@@ -43,9 +41,9 @@ impl<'a, Key: ArenaKey, T, A: Allocator> StableArenaIter<'a, Key, T, A> {
 impl<'a, Key: ArenaKey, T, A: Allocator> Iterator for StableArenaIter<'a, Key, T, A> {
     type Item = (Key, &'a T);
 
-    ghost next_gives = { YieldsFirstBy (λ entry. (entry.0, entry.1.now)) (entries Key.keys) };
+    ghost next_gives = { YieldsFirstBy (λ entry. (entry.0, entry.1.now)) (λ entries. entries) };
 
-    ghost remaining = { item_count (entries Key.keys) };
+    ghost remaining = { item_count (λ entries. entries) };
 
     fn next(&mut self) -> Option<(Key, &'a T)> {
         let item = self.items.next()?;

@@ -1,6 +1,5 @@
-use Rattle.std.proofs.Common.{◌≡◌, ◌∙◌, sym, subst, true, length, length-append, arith, [], ◌∷◌}
+use Rattle.std.proofs.Common.{◌∙◌, true, length-append, arith, [], ◌∷◌}
 use Rattle.std.proofs.IntoIterSteps.{All-taken}
-use Rattle.wasmi_arena.specs.Arena.{state_of, Run}
 use Rattle.wasmi_arena.proofs.Steps.{Run-push}
 use Rattle.wasmi_arena.proofs.run.run_arena.Goals as goal
 

@@ -1,0 +1,6 @@
+use Rattle.std.proofs.Common.{◌∙◌, ap, length}
+use Rattle.wasmi_arena.proofs.EntryLemmas.{length-entries_from}
+use Rattle.wasmi_arena.proofs.stable_arena.StableArena.iter.Goals as goal
+
+pub returns-clause-len : goal.returns-clause-len
+returns-clause-len g c = length-entries_from g.Key.ArenaKey.keys 0 c.iter.result ∙ ap length (c.iter.ensures.items ∙ c.self.view_is)

@@ -1,0 +1,59 @@
+//! Callers whose contracts follow from those of the iterators.
+ghost use Rattle.std.specs.Prelude.{◌≡◌, ℕ, ◌<◌, ◌/◌, ◌+◌, ◌%◌, ◌*◌, ◌==◌, ◌↔◌, List, ◌≤◌, All, Any, IsTrue, IfOk, length, map, count_by};
+
+use crate::{ArenaKey, StableArena, StableVec};
+use std::alloc::{AllocError, Global};
+
+pub fn all_below(vec: &StableVec<u32>, limit: u32) -> bool
+    ensures { IsTrue result ↔ All (λ x. x < limit) vec.now }
+{
+    vec.iter().all(|x| *x < limit)
+}
+
+pub fn odd_count(vec: &StableVec<u32>) -> usize
+    ensures { result ≡ count_by (λ x. x % 2 == 1) vec.now }
+{
+    vec.iter().filter(|x| **x % 2 == 1).count()
+}
+
+pub fn thirds(alloc: Global, vec: &StableVec<u32>) -> Result<Vec<u32>, AllocError>
+    ensures { IfOk result (λ thirds. thirds.items ≡ map (λ x. x / 3) vec.now) }
+{
+    vec.iter().map(|x| *x / 3).collect(alloc)
+}
+
+pub fn has(vec: &StableVec<u32>, wanted: u32) -> bool
+    ensures { IsTrue result ↔ Any (λ x. x ≡ wanted) vec.now }
+{
+    vec.iter().any(|x| *x == wanted)
+}
+
+pub fn small_count(vec: &StableVec<u8>) -> usize
+    ensures { result ≤ length vec.now }
+{
+    let mut count = 0;
+    for x in vec.iter() {
+        if *x < 9 {
+            count += 1;
+        }
+    }
+    count
+}
+
+pub fn entry_count<Key: ArenaKey, T>(arena: &StableArena<Key, T>) -> usize
+    ensures { result ≡ length arena.now }
+{
+    arena.iter().count()
+}
+
+pub fn small_entry_count(arena: &StableArena<u32, u8>) -> usize
+    ensures { result ≤ length arena.now }
+{
+    let mut count = 0;
+    for (key, x) in arena.iter() {
+        if key < 9 && *x < 9 {
+            count += 1;
+        }
+    }
+    count
+}
