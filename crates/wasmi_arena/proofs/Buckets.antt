@@ -1,11 +1,11 @@
 -- Facts on the buckets of a stable vector.
-use Rattle.std.proofs.Common.{◌≡◌, ℕ, zero, suc, ◌+◌, ◌-◌, ◌*◌, ◌<◌, ◌≤◌, Bool, true, false, cond, nat_le, refl, ap, subst, inl, inr, add-one, arith}
+use Rattle.std.proofs.Common.{◌≡◌, ℕ, zero, suc, ◌+◌, ◌-◌, ◌*◌, ◌<◌, ◌≤◌, Bool, true, false, cond, nat_le, refl, ap, ◌∙◌, ◌^◌, subst, inl, inr, add-one, arith}
 use Rattle.std.proofs.Math.Nat.{pow-succ'}
 use Rattle.std.proofs.lemmas.Bool.{cases_lt, cases_eq, cases_order, leb-true, leb-false, le-leb}
-use Rattle.std.proofs.lemmas.Nat.{pow_pos}
+use Rattle.std.proofs.lemmas.Nat.{pow_pos, pow-add}
 use Rattle.std.proofs.Math.Pow.{pow_mono}
 use Rattle.std.proofs.Math.Nat.{mul-le-mul_left}
-use Rattle.wasmi_arena.specs.Geometry.{size, start, max_len, IsPlace, IsFewest, least_from, fewest, slots, room}
+use Rattle.wasmi_arena.specs.Geometry.{size, start, max_len, IsPlace, IsFewest, least_from, fewest, slots, room, bucket_of, slot_of}
 
 -- a bucket has twice the slots of the one before
 pub size-suc : (b : ℕ) → size (suc b) ≡ 2 * size b
@@ -109,20 +109,41 @@ room-add-one n below =
     omega (arith, start_mono (fewest n) (fewest (n + 1)) no_fewer)
 
 -- each index below `max_len` has a place
-pub place_of : (i : ℕ) → i < max_len → (b : ℕ) × (s : ℕ) × IsPlace i b s
+pub place_of : (i : ℕ) → i < max_len → IsPlace i (bucket_of i) (slot_of i)
 place_of i below =
     let few = fewest_is_least (i + 1) (omega arith) in
-    let b = fewest (i + 1) - 1 in
+    let b = bucket_of i in
     let some : 0 < fewest (i + 1) = below_of_start 0 (fewest (i + 1)) (i + 1) (omega arith) few.enough in
     let last : fewest (i + 1) ≡ suc b = omega arith in
     let end : start (fewest (i + 1)) ≡ start (suc b) = ap start last in
     let begun : start b ≤ i = elim (cases_lt i (start b)) [
-      | inl early ↦ absurd (let fewer = few.least b (omega arith) in omega arith)
-      | inr late ↦ late
-    ] in
+        | inl early ↦ absurd (let fewer = few.least b (omega arith) in omega arith)
+        | inr late ↦ late
+      ] in
     let within : fewest (i + 1) ≤ 27 = few.least 27 (omega arith) in
     let enough = few.enough in
-    (b, i - start b, record { bucket_exists = omega arith; slot_exists = omega arith; index_is = omega arith })
+    record { bucket_exists = omega arith; slot_exists = omega arith; index_is = omega arith }
+
+-- the top bit of an index and 32 tells its place
+module _ (i m : ℕ) (low : 2 ^ m ≤ i + 32) (high : i + 32 < 2 * 2 ^ m) (below : i < max_len) where
+  pub top_from_5 : 5 ≤ m
+  top_from_5 = elim (cases_lt m 5) [
+      | inl few ↦ absurd (let least : m ≤ 4 = omega arith in let small : 2 ^ m ≤ 2 ^ 4 = pow_mono {i = m} {j = 4} least in omega arith)
+      | inr many ↦ many
+    ]
+
+  pub top_below_32 : m < 32
+  top_below_32 = elim (cases_lt m 32) [
+      | inl few ↦ few
+      | inr many ↦ absurd (let large : 2 ^ 32 ≤ 2 ^ m = pow_mono {i = 32} {j = m} many in omega arith)
+    ]
+
+  pub place_of_top : IsPlace i (m - 5) (i + 32 - 2 ^ m)
+  place_of_top =
+      let five = top_from_5 in
+      let few = top_below_32 in
+      let power : 2 ^ m ≡ 2 ^ 5 * 2 ^ (m - 5) = ap (λ n. 2 ^ n) (let whole : m ≡ 5 + (m - 5) = omega arith in whole) ∙ pow-add 2 5 (m - 5) in
+      record { bucket_exists = omega arith; slot_exists = omega arith; index_is = omega (arith, start-size (m - 5)) }
 
 -- each slot of the 27 buckets is the place of an index below `max_len`
 pub place_of_slot : (b s : ℕ) → b < 27 → s < size b → IsPlace (start b + s) b s × (start b + s < max_len)

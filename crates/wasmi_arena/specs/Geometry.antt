@@ -41,3 +41,11 @@ slots n = start (fewest n)
 -- how many of these slots are free
 abbrev pub room : ℕ → ℕ
 room n = slots n - n
+
+-- the bucket of an index: the last of the fewest that hold the items up to it
+abbrev pub bucket_of : ℕ → ℕ
+bucket_of index = fewest (index + 1) - 1
+
+-- how far behind the start of its bucket an index lies
+abbrev pub slot_of : ℕ → ℕ
+slot_of index = index - start (bucket_of index)

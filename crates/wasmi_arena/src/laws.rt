@@ -1,6 +1,6 @@
 //! What the definitions of `specs/` tell, as contracts of functions without code.
 ghost use Rattle.std.specs.Prelude.{◌≡◌, ℕ, ◌+◌, ◌*◌, ◌<◌, ◌≤◌, [], ◌∷◌, List, length, map, slice_get, Some, None, MatchOption};
-ghost use Rattle.wasmi_arena.specs.Geometry.{size, start, max_len, IsPlace, IsFewest, fewest, slots, room};
+ghost use Rattle.wasmi_arena.specs.Geometry.{size, start, max_len, IsPlace, IsFewest, fewest, slots, room, bucket_of, slot_of};
 ghost use Rattle.wasmi_arena.specs.StableVec.{bucket_at};
 
 /// The 27 buckets, each with its number of slots and its first index.
@@ -32,10 +32,11 @@ pub fn place_is_unique()
     ensures { (index b s c t : ℕ) → IsPlace index b s → IsPlace index c t → (b ≡ c) × (s ≡ t) }
 {}
 
-/// Each index below `max_len` has a place.
+/// Each index below `max_len` has a place: its bucket, and its slot there.
 pub fn place_exists()
-    ensures { (index : ℕ) → index < max_len → (b : ℕ) × (s : ℕ) × IsPlace index b s }
-{}
+    ensures { (index : ℕ) → index < max_len → IsPlace index (bucket_of index) (slot_of index) }
+{
+}
 
 /// Each slot of each bucket is the place of an index below `max_len`, and of that one alone.
 pub fn slot_has_one_index()

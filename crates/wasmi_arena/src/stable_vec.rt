@@ -94,16 +94,15 @@ fn push_into<T: Drop, A: Allocator + Clone>(
 }
 
 impl<T> StableVec<T> {
-    /// The bucket and the slot in it of the item at an index. At most 27 steps.
+    /// The bucket and the slot in it of the item at an index. Constant time.
     pub fn place(index: usize) -> (usize, usize)
         requires { index < max_len }
         ensures { IsPlace index result.0 result.1 }
     {
-        let mut bucket = 0;
-        while start_of(bucket + 1) <= index {
-            bucket += 1;
-        }
-        (bucket, index - start_of(bucket))
+        // Bucket b begins at 32 * 2^b, once 32 is added.
+        let shifted = index + 32;
+        let top = shifted.ilog2() as usize;
+        (top - 5, shifted - (1 << top))
     }
 
     /// How many slots a bucket has. Constant time.

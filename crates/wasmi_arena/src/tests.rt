@@ -1,5 +1,6 @@
 //! What no clause says: the worked places and lengths, texts, and that calls succeed.
-ghost use Rattle.std.specs.Prelude.{◌≡◌, ◌<◌, ◌+◌, length, count_by, filter, map, All, IsTrue, ◌↔◌, sum};
+ghost use Rattle.std.specs.Prelude.{◌<◌};
+ghost use Rattle.wasmi_arena.specs.Geometry.{max_len, IsPlace};
 
 mod callers;
 
@@ -17,6 +18,20 @@ fn counted(alloc: Global, len: u32) -> Result<StableVec<u32>, ArenaError> {
     Ok(vec)
 }
 
+// The place of an index, by a walk over the starts of the buckets.
+fn place_by_walk(index: usize) -> (usize, usize)
+    requires { index < max_len }
+    ensures { IsPlace index result.0 result.1 }
+{
+    let (mut bucket, mut start, mut size) = (0, 0, 32);
+    while start + size <= index {
+        start += size;
+        size *= 2;
+        bucket += 1;
+    }
+    (bucket, index - start)
+}
+
 #[test]
 fn places_are_those_of_the_table(rt: HostRuntime) {
     for (index, place) in [
@@ -26,10 +41,13 @@ fn places_are_those_of_the_table(rt: HostRuntime) {
         (95, (1, 63)),
         (96, (2, 0)),
         (223, (2, 127)),
+        (2147483615, (25, 1073741823)),
+        (2147483616, (26, 0)),
         (4294967263, (26, 2147483647)),
     ] {
         if index < 4294967264 {
             assert_eq!(rt; StableVec::<u8>::place(index), place, "at {index}");
+            assert_eq!(rt; place_by_walk(index), place, "at {index}");
         }
     }
     for (bucket, size) in [(0, 32), (1, 64), (2, 128), (26, 2147483648)] {

@@ -1,7 +1,7 @@
 //! Callers whose contracts follow from those of the iterators.
-ghost use Rattle.std.specs.Prelude.{◌≡◌, ℕ, ◌<◌, ◌/◌, ◌+◌, ◌%◌, ◌*◌, ◌==◌, ◌↔◌, List, ◌≤◌, All, Any, IsTrue, IfOk, length, map, count_by};
+ghost use Rattle.std.specs.Prelude.{◌≡◌, ℕ, ◌<◌, ◌/◌, ◌+◌, ◌%◌, ◌*◌, ◌==◌, ◌↔◌, List, ◌≤◌, All, Any, IsTrue, IfOk, length, map, count_by, OnOk, [], ◌∷◌, ◌++◌};
 
-use crate::{ArenaKey, StableArena, StableVec};
+use crate::{ArenaError, ArenaKey, StableArena, StableVec};
 use std::alloc::{AllocError, Global};
 
 pub fn all_below(vec: &StableVec<u32>, limit: u32) -> bool
@@ -56,4 +56,16 @@ pub fn small_entry_count(arena: &StableArena<u32, u8>) -> usize
         }
     }
     count
+}
+
+pub fn alloc_pair<K: ArenaKey>(
+    arena: &mut StableArena<K, u8>,
+    first: u8,
+    second: u8,
+) -> Result<(K, K), ArenaError>
+    ensures { OnOk result (arena.new ≡ arena.old ++ first ∷ [] ++ second ∷ []) }
+{
+    let a = arena.alloc(first)?;
+    let b = arena.alloc(second)?;
+    Ok((a, b))
 }
