@@ -124,6 +124,10 @@ place_of i below =
     let enough = few.enough in
     record { bucket_exists = omega arith; slot_exists = omega arith; index_is = omega arith }
 
+-- and it is named by `bucket_of` and `slot_of`
+pub place_names : {i b s : ℕ} → IsPlace i b s → (b ≡ bucket_of i) × (s ≡ slot_of i)
+place_names {i} {b} {s} place = place_unique place (place_of i (omega (arith, start_below b 27 place.bucket_exists, place.slot_exists, place.index_is)))
+
 -- the top bit of an index and 32 tells its place
 module _ (i m : ℕ) (low : 2 ^ m ≤ i + 32) (high : i + 32 < 2 * 2 ^ m) (below : i < max_len) where
   pub top_from_5 : 5 ≤ m

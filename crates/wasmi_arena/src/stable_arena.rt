@@ -6,8 +6,7 @@ ghost use Rattle.wasmi_arena.specs.Entries.{entries};
 
 mod iter;
 
-use crate::stable_vec::CAP;
-use crate::{ArenaError, ArenaKey, StableVec};
+use crate::{ArenaError, ArenaKey, MAX_LEN, StableVec};
 pub use iter::StableArenaIter;
 use std::alloc::{Allocator, Global};
 use std::marker::{Model, PhantomData};
@@ -69,7 +68,7 @@ impl<Key: ArenaKey, T, A: Allocator> StableArena<Key, T, A> {
         ensures error { IfErr result (λ error. error ≡ ArenaError.NotEnoughKeys) }
     {
         let index = self.items.len();
-        if index >= CAP {
+        if index >= MAX_LEN {
             return Err(ArenaError::NotEnoughKeys);
         }
         Key::from_usize(index).ok_or(ArenaError::NotEnoughKeys)

@@ -1,6 +1,6 @@
 //! A vector whose items stay in the slots that they were pushed into.
 ghost use Rattle.std.specs.Prelude.{◌≡◌, ◌+◌, ◌-◌, ◌<◌, ◌≤◌, ◌==◌, ◌↔◌, [], ◌∷◌, ◌++◌, length, IfOk, IfErr, OnOk, OnErr, IsOk, IsErrOf, ◌⊎◌, option_copied, slice_get, slice_index_or, slice_set, Some, None};
-ghost use Rattle.wasmi_arena.specs.Geometry.{size, start, max_len, IsPlace, IsFewest, fewest, slots, room};
+ghost use Rattle.wasmi_arena.specs.Geometry.{size, start, max_len, IsPlace, IsFewest, fewest, slots, room, bucket_of, slot_of};
 ghost use Rattle.wasmi_arena.specs.StableVec.{Bucket as Shelf, bucket_at};
 ghost use Rattle.wasmi_arena.specs.Table.{held, row_with};
 
@@ -15,8 +15,8 @@ use std::marker::Model;
 // How many buckets a vector has at the most.
 const BUCKETS: usize = 27;
 
-// How many items these have slots for.
-pub(crate) const CAP: usize = 4_294_967_264;
+/// How many items a [`StableVec`] holds at the most, so that an index below it has a place.
+pub const MAX_LEN: usize = 4_294_967_264;
 
 /// A vector whose items stay where they are: a push never moves an item that is there.
 ///
@@ -94,10 +94,12 @@ fn push_into<T: Drop, A: Allocator + Clone>(
 }
 
 impl<T> StableVec<T> {
-    /// The bucket and the slot in it of the item at an index. Constant time.
+    /// The bucket and the slot in it of the item at an index below [`MAX_LEN`]. Constant time.
     pub fn place(index: usize) -> (usize, usize)
         requires { index < max_len }
-        ensures { IsPlace index result.0 result.1 }
+        ensures place { IsPlace index result.0 result.1 }
+        ensures bucket { result.0 ≡ bucket_of index }
+        ensures slot { result.1 ≡ slot_of index }
     {
         // Bucket b begins at 32 * 2^b, once 32 is added.
         let shifted = index + 32;
