@@ -1,0 +1,4 @@
+pub mod LineLemmas
+pub mod NumberLemmas
+pub mod OutputLemmas
+pub mod ReplyLemmas

@@ -1,0 +1,12 @@
+use Rattle.std.proofs.Common.{decimal, length, string_bytes}
+use Rattle.std.proofs.lemmas.List.{length-map}
+use Rattle.wasmi_arena.specs.Geometry.{slots}
+use Rattle.wasmi_script_lib.proofs.ReplyLemmas.{OnOk-same, counts_text}
+use Rattle.wasmi_script_lib.proofs.session.Session.count.Goals as goal
+
+pub returns-clause-reply : goal.returns-clause-reply
+returns-clause-reply c =
+    let session = c.args.self.now in
+    let kept = length session.arena in
+    let written = rw (c.len-kept.ensures, c.slots-slots.ensures, c.items.ensures) at c.writeln.ensures.bytes in
+    simp length-map (OnOk-same _ _ _ _ (counts_text (string_bytes session.replies) (decimal kept) (decimal (slots kept))) written)

@@ -1,0 +1,7 @@
+pub mod Lines
+pub mod Requests
+pub mod Meanings
+pub mod Replies
+pub mod Outputs
+pub mod Sessions
+pub mod Statuses

@@ -1,0 +1,51 @@
+-- What a script keeps, what it replies to each request, and what it keeps afterwards.
+use Rattle.std.specs.Prelude.{ℕ, List, [], ◌∷◌, ◌++◌, length, if◌then◌else◌, nat_lt, Option, Some, None, codes, decimal, slice_get}
+use Rattle.wasmi_arena.specs.Geometry.{max_len, bucket_of, slot_of, slots}
+use Rattle.wasmi_arena.specs.Errors.{text_of}
+use Rattle.wasmi_arena.specs.declared.error.ArenaError.{ArenaError}
+use Rattle.wasmi_arena.specs.declared.error.ArenaError.TheVariants.{KeyOutOfBounds, NotEnoughKeys}
+use Rattle.wasmi_script_lib.specs.Requests.{Request, Alloc, Get, Place, Count}
+
+-- the texts that a script keeps: in the arena, in the arena without doubles, and in the interner
+pub record Texts : Type 0 where
+  pub kept : List (List ℕ)
+  pub deduped : List (List ℕ)
+  pub interned : List (List ℕ)
+
+-- at first there is none
+abbrev pub no_texts : Texts
+no_texts = record { kept = []; deduped = []; interned = [] }
+
+-- `error` and why
+abbrev pub error_reply : ArenaError → List ℕ
+error_reply error = codes "error " ++ text_of error
+
+-- `text` and the text that was found
+abbrev pub text_reply : Option (List ℕ) → List ℕ
+text_reply (Some text) = codes "text " ++ text
+text_reply None = error_reply KeyOutOfBounds
+
+-- how many texts each list has, and how many slots the arena has for its own
+abbrev pub counts_reply : Texts → List ℕ
+counts_reply texts =
+    codes "counts " ++ decimal (length texts.kept) ++ codes " " ++ decimal (length texts.deduped)
+    ++ codes " " ++ decimal (length texts.interned) ++ codes " " ++ decimal (slots (length texts.kept))
+
+-- the reply to a request, without the line feed
+abbrev pub reply_to : Texts → Request → List ℕ
+reply_to texts (Alloc text) =
+    if nat_lt (length texts.kept) max_len then codes "key " ++ decimal (length texts.kept)
+    else error_reply NotEnoughKeys
+reply_to texts (Get key) = text_reply (slice_get texts.kept key)
+reply_to texts (Place index) =
+    if nat_lt index max_len then codes "place " ++ decimal (bucket_of index) ++ codes " " ++ decimal (slot_of index)
+    else codes "none"
+reply_to texts Count = counts_reply texts
+
+-- the texts after a request: only `a` adds one, and only while there is room
+abbrev pub texts_after : Texts → Request → Texts
+texts_after texts (Alloc text) =
+    if nat_lt (length texts.kept) max_len then record texts { kept = texts.kept ++ text ∷ [] } else texts
+texts_after texts (Get key) = texts
+texts_after texts (Place index) = texts
+texts_after texts Count = texts

@@ -1,0 +1,12 @@
+-- A script at work, and what one line does to it.
+use Rattle.std.specs.Prelude.{◌≡◌, ℕ, List, [], ◌∷◌, ◌++◌, map, string_bytes}
+use Rattle.wasmi_script_lib.specs.declared.session.Session.{Session}
+use Rattle.wasmi_script_lib.specs.Replies.{Texts}
+
+-- the texts that a session keeps
+abbrev pub texts_of : Session → Texts
+texts_of session = record { kept = map string_bytes session.arena; deduped = []; interned = [] }
+
+-- this reply and a line feed were added
+abbrev pub AddsReply : Session → Session → List ℕ → Type 0
+AddsReply old new reply = string_bytes new.replies ≡ string_bytes old.replies ++ (reply ++ 10 ∷ [])

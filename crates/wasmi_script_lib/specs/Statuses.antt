@@ -1,0 +1,11 @@
+-- The exit status of each error of a script.
+use Rattle.std.specs.Prelude.{ℕ}
+use Rattle.wasmi_script_lib.specs.declared.error.ScriptError.{ScriptError}
+use Rattle.wasmi_script_lib.specs.declared.error.ScriptError.TheVariants.{NoMemory, ReadFailed, WriteFailed, NotUtf8}
+
+-- 2 where the input is no text, and 1 where the machine let the script down
+abbrev pub status_of : ScriptError → ℕ
+status_of NoMemory = 1
+status_of ReadFailed = 1
+status_of WriteFailed = 1
+status_of NotUtf8 = 2

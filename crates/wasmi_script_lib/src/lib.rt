@@ -1,0 +1,24 @@
+//! A script of commands to an arena of texts: each line of the input is a command, and gets one line of reply.
+//!
+//! | Line | Reply |
+//! |---|---|
+//! | `a TEXT` | `key N`, the key of the text, which is kept; or an error |
+//! | `g N` | `text T`, the text of that key; or an error |
+//! | `p N` | `place B S`, the bucket and the slot of the index N; `none` from 4294967264 on |
+//! | `n` | `counts A D I SLOTS`: how many texts are kept, deduplicated and interned, and the arena's slots |
+//! | anything else | `bad line N`, the number of the line, from 1 |
+//!
+//! An error is `error` and the arena's own text. No line deduplicates or interns a text yet, so D and I are 0.
+#![tactic(auto)]
+
+mod error;
+mod line;
+mod program;
+mod session;
+
+pub use error::ScriptError;
+pub use program::run;
+pub use session::answer;
+
+#[cfg(test)]
+mod tests;
