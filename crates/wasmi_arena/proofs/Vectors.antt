@@ -5,7 +5,8 @@ use Rattle.std.proofs.Math.ListN.{length-set, drop_of_length-le}
 use Rattle.std.proofs.lemmas.List.{get_or_default, take_all, length-take, get_or-take, get_or-drop}
 use Rattle.std.proofs.lemmas.Option.{slice_get-get_or}
 use Rattle.wasmi_arena.specs.Geometry.{size, start, max_len, IsPlace, fewest, room}
-use Rattle.wasmi_arena.specs.StableVec.{Bucket, bucket_at}
+use Rattle.wasmi_arena.specs.Bucket.{Bucket}
+use Rattle.wasmi_arena.specs.StableVec.{bucket_at}
 use Rattle.wasmi_arena.specs.Table.{items_of, held, row_with, row_of, IsTable, AreFilled, IsLaidOut, IsAhead}
 use Rattle.wasmi_arena.proofs.Buckets.{start-size, size-suc, size_pos, start_mono, start_below, fewest_is, fewest_is_least, below_of_start, fewest_of_place, fewest_of_none}
 use Rattle.wasmi_arena.proofs.Rows.{row_at, items_of-table, table-push, table-take, table-filled, table_of_none}

@@ -2,6 +2,10 @@ pub mod Keys
 pub mod KeyLaws
 pub mod Errors
 pub mod Geometry
+pub mod Memory
+pub mod CellsLends
+pub mod Bucket
+pub mod BucketLends
 pub mod StableVec
 pub mod Table
 pub mod Arena

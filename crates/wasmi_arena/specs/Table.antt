@@ -1,7 +1,7 @@
 -- How a stable vector lays out its items. No public clause cites this module.
 use Rattle.std.specs.Prelude.{◌≡◌, ℕ, ◌+◌, ◌*◌, ◌<◌, ◌≤◌, List, [], ◌∷◌, ◌++◌, length, take, drop, Option, Some, None}
 use Rattle.wasmi_arena.specs.Geometry.{IsFewest, max_len}
-use Rattle.wasmi_arena.specs.StableVec.{Bucket}
+use Rattle.wasmi_arena.specs.Bucket.{Bucket}
 
 module _ {T : Type 0} where
   -- the items of the rows, one row after another

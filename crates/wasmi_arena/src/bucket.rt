@@ -1,60 +1,113 @@
-//! The buckets of a stable vector.
-ghost use Rattle.std.specs.Prelude.{◌≡◌, ◌<◌, [], ◌∷◌, ◌++◌, length, IfOk};
+//! `Bucket`, seen by clauses as its items and its capacity.
+ghost use Rattle.std.specs.Prelude.{◌≡◌, ◌*◌, ◌^◌, ◌<◌, [], ◌∷◌, ◌++◌, length, IfOk, IsOk};
+ghost use Rattle.std.specs.Borrow.{sem};
+ghost use Rattle.std.specs.Mem.{type_size};
+ghost use Rattle.wasmi_arena.specs.Bucket.{bucket};
 
+use crate::cells::{Base, Cells, Deed, allocate, deallocate, fits_in_block};
 use std::alloc::{AllocError, Allocator, Global};
 use std::marker::Model;
 
-/// A block of slots that is filled from its first slot on, and never grows or moves.
-///
-/// A [`StableVec`](crate::StableVec) keeps its items in buckets, and lends each one by
-/// [`bucket`](crate::StableVec::bucket).
-#[derive(Drop)]
+/// Up to `capacity` items side by side in one block, which never moves.
 pub struct Bucket<T, A: Allocator = Global> {
-    items: Vec<T, A>,
+    base: Base<T>,
+    len: usize,
+    capacity: usize,
+    cells: Cells<T>,
+    deed: Deed<T, A>,
+    alloc: A,
 }
 
 impl<T, A: Allocator> Model for Bucket<T, A> {
-    ghost use Rattle.std.specs.Prelude.{◌≤◌, vec_len, vec_capacity};
-    ghost use Rattle.wasmi_arena.specs.StableVec.{Bucket as Shelf, bucket_code};
+    ghost use Rattle.std.specs.Prelude.{◌≡◌, ◌+◌, length};
+    ghost use Rattle.wasmi_arena.specs.Bucket.{Bucket, bucket, bucket_code};
 
-    ghost Value = { Shelf T };
+    ghost Value = { Bucket T };
 
     ghost coded = { bucket_code T.code };
 
-    ghost view = { λ bucket. record { items = bucket.items.items; capacity = vec_capacity bucket.items } };
+    ghost view = { λ b. bucket b.cells.items b.capacity };
 
-    ghost invariant = { λ bucket. vec_len bucket.items ≤ vec_capacity bucket.items };
+    ghost invariant = { λ b. (b.cells.at ≡ b.base.ptr) × (b.cells.gone ≡ 0) × (b.len ≡ length b.cells.items) × (b.len + b.cells.spare ≡ b.capacity) × (b.deed.at ≡ b.base.ptr) × (b.deed.len ≡ b.capacity) × (b.deed.alloc ≡ b.alloc) };
 }
 
 impl<T, A: Allocator> Bucket<T, A> {
-    // An empty bucket of so many slots, in one block that it asks of `alloc`.
+    ghost use Rattle.wasmi_arena.specs.BucketLends.{lends_items};
+
+    /// Asks `alloc` for one block of `capacity` items and keeps the allocator. Where the items take no memory, nothing is asked for.
     pub(crate) fn open(alloc: A, capacity: usize) -> Result<Self, AllocError>
-        ensures { IfOk result (λ bucket. bucket ≡ record { items = []; capacity = capacity }) }
+        requires { capacity < 2 ^ 63 }
+        ensures items { IfOk result (λ b. b ≡ bucket [] capacity) }
+        ensures given { type_size T.row ≡ 0 → IsOk result }
     {
+        if !fits_in_block::<T>(capacity) {
+            return Err(AllocError);
+        }
+        let (base, cells, deed) = allocate(&alloc, capacity)?;
         Ok(Bucket {
-            items: Vec::with_capacity(alloc, capacity)?,
+            base,
+            len: 0,
+            capacity,
+            cells,
+            deed,
+            alloc,
         })
     }
 
-    // Fills the first free slot.
+    /// Adds an item behind the others. Constant time, no allocation.
     pub(crate) fn push(&mut self, value: T)
         requires { length self.old.items < self.old.capacity }
-        ensures { self.new ≡ record self.old { items = self.old.items ++ value ∷ [] } }
+        ensures { self.new ≡ bucket (self.old.items ++ value ∷ []) self.old.capacity }
     {
-        self.items.push_reserved(value);
+        self.cells.write(self.base, self.len, value);
+        self.len += 1;
     }
 
-    /// The items of the filled slots, in order. Constant time.
+    /// The items, first to last.
     pub fn slice(&self) -> &[T]
         ensures { result.now ≡ self.now.items }
     {
-        self.items.as_slice()
+        self.cells.slice(self.base, self.len)
     }
 
-    /// How many slots there are, filled and free. Constant time.
+    /// How many items the block holds at most.
     pub fn capacity(&self) -> usize
         ensures { result ≡ self.now.capacity }
     {
-        self.items.capacity()
+        self.capacity
+    }
+
+    /// The items, first to last, to write to.
+    pub(crate) fn slice_mut(&mut self) -> &mut [T]
+        ensures* writes_back { sem 𝓛 (lends_items T.row A.row A.Allocator self.entry result) }
+        ensures value { result.now ≡ self.old.items }
+    {
+        let (base, len) = (self.base, self.len);
+        self.cells.slice_mut(base, len)
+    }
+
+    /// Drops the items, first to last, and gives the block back.
+    pub(crate) fn close(self)
+    where
+        T: Drop,
+    {
+        let Bucket {
+            base,
+            len,
+            capacity,
+            mut cells,
+            deed,
+            alloc,
+        } = self;
+        for index in 0..len {
+            let _item = cells.read(base, index);
+        }
+        deallocate(&alloc, base, capacity, cells, deed);
+    }
+}
+
+impl<T: Drop, A: Allocator> Drop for Bucket<T, A> {
+    fn drop(self) {
+        self.close();
     }
 }

@@ -2,6 +2,7 @@
 #![tactic(auto)]
 
 mod bucket;
+mod cells;
 mod error;
 mod key;
 pub mod laws;
@@ -12,6 +13,9 @@ mod stable_vec;
 mod tests;
 
 pub use bucket::Bucket;
+// A crate above can name a bucket in a contract only if it reaches the types of its fields.
+#[doc(hidden)]
+pub use cells::{Base, Cells, Deed};
 pub use error::ArenaError;
 pub use key::ArenaKey;
 pub use run::{ArenaCommand, ArenaReply, run_arena};

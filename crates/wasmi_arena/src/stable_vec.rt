@@ -1,7 +1,8 @@
 //! A vector whose items stay in the slots that they were pushed into.
 ghost use Rattle.std.specs.Prelude.{◌≡◌, ◌+◌, ◌-◌, ◌<◌, ◌≤◌, ◌==◌, ◌↔◌, [], ◌∷◌, ◌++◌, length, IfOk, IfErr, OnOk, OnErr, IsOk, IsErrOf, ◌⊎◌, option_copied, slice_get, slice_index_or, slice_set, Some, None};
 ghost use Rattle.wasmi_arena.specs.Geometry.{size, start, max_len, IsPlace, IsFewest, fewest, slots, room, bucket_of, slot_of};
-ghost use Rattle.wasmi_arena.specs.StableVec.{Bucket as Shelf, bucket_at};
+ghost use Rattle.wasmi_arena.specs.StableVec.{bucket_at};
+ghost use Rattle.wasmi_arena.specs.Bucket.{Bucket as Shelf};
 ghost use Rattle.wasmi_arena.specs.Table.{held, row_with};
 
 mod iter;
