@@ -117,9 +117,9 @@ place_of i below =
     let last : fewest (i + 1) ≡ suc b = omega arith in
     let end : start (fewest (i + 1)) ≡ start (suc b) = ap start last in
     let begun : start b ≤ i = elim (cases_lt i (start b)) [
-        | inl early ↦ absurd (let fewer = few.least b (omega arith) in omega arith)
-        | inr late ↦ late
-      ] in
+      | inl early ↦ absurd (let fewer = few.least b (omega arith) in omega arith)
+      | inr late ↦ late
+    ] in
     let within : fewest (i + 1) ≤ 27 = few.least 27 (omega arith) in
     let enough = few.enough in
     record { bucket_exists = omega arith; slot_exists = omega arith; index_is = omega arith }
@@ -132,15 +132,15 @@ place_names {i} {b} {s} place = place_unique place (place_of i (omega (arith, st
 module _ (i m : ℕ) (low : 2 ^ m ≤ i + 32) (high : i + 32 < 2 * 2 ^ m) (below : i < max_len) where
   pub top_from_5 : 5 ≤ m
   top_from_5 = elim (cases_lt m 5) [
-      | inl few ↦ absurd (let least : m ≤ 4 = omega arith in let small : 2 ^ m ≤ 2 ^ 4 = pow_mono {i = m} {j = 4} least in omega arith)
-      | inr many ↦ many
-    ]
+    | inl few ↦ absurd (let least : m ≤ 4 = omega arith in let small : 2 ^ m ≤ 2 ^ 4 = pow_mono {i = m} {j = 4} least in omega arith)
+    | inr many ↦ many
+  ]
 
   pub top_below_32 : m < 32
   top_below_32 = elim (cases_lt m 32) [
-      | inl few ↦ few
-      | inr many ↦ absurd (let large : 2 ^ 32 ≤ 2 ^ m = pow_mono {i = 32} {j = m} many in omega arith)
-    ]
+    | inl few ↦ few
+    | inr many ↦ absurd (let large : 2 ^ 32 ≤ 2 ^ m = pow_mono {i = 32} {j = m} many in omega arith)
+  ]
 
   pub place_of_top : IsPlace i (m - 5) (i + 32 - 2 ^ m)
   place_of_top =

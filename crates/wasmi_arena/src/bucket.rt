@@ -1,4 +1,4 @@
-//! `Bucket`, seen by clauses as its items and its capacity.
+//! The buckets of a stable vector.
 ghost use Rattle.std.specs.Prelude.{◌≡◌, ◌*◌, ◌^◌, ◌<◌, [], ◌∷◌, ◌++◌, length, IfOk, IsOk};
 ghost use Rattle.std.specs.Borrow.{sem};
 ghost use Rattle.std.specs.Mem.{type_size};
@@ -8,7 +8,11 @@ use crate::cells::{Base, Cells, Deed, allocate, deallocate, fits_in_block};
 use std::alloc::{AllocError, Allocator, Global};
 use std::marker::Model;
 
-/// Up to `capacity` items side by side in one block, which never moves.
+/// A block of slots that is filled from its first slot on, and never grows or moves.
+///
+/// A [`StableVec`](crate::StableVec) keeps its items in buckets, and lends each one by
+/// [`bucket`](crate::StableVec::bucket). The block is one block of the allocator's; items without a
+/// size need none.
 pub struct Bucket<T, A: Allocator = Global> {
     base: Base<T>,
     len: usize,
@@ -28,13 +32,18 @@ impl<T, A: Allocator> Model for Bucket<T, A> {
 
     ghost view = { λ b. bucket b.cells.items b.capacity };
 
-    ghost invariant = { λ b. (b.cells.at ≡ b.base.ptr) × (b.cells.gone ≡ 0) × (b.len ≡ length b.cells.items) × (b.len + b.cells.spare ≡ b.capacity) × (b.deed.at ≡ b.base.ptr) × (b.deed.len ≡ b.capacity) × (b.deed.alloc ≡ b.alloc) };
+    // The cells are those of the block: the items, and then free slots. The deed is to that block.
+    ghost invariant = { λ b.
+        (b.cells.at ≡ b.base.ptr) × (b.cells.gone ≡ 0) × (b.len ≡ length b.cells.items)
+        × (b.len + b.cells.spare ≡ b.capacity)
+        × (b.deed.at ≡ b.base.ptr) × (b.deed.len ≡ b.capacity) × (b.deed.alloc ≡ b.alloc) };
 }
 
 impl<T, A: Allocator> Bucket<T, A> {
     ghost use Rattle.wasmi_arena.specs.BucketLends.{lends_items};
 
-    /// Asks `alloc` for one block of `capacity` items and keeps the allocator. Where the items take no memory, nothing is asked for.
+    // An empty bucket of so many slots, in one block that it asks of `alloc`, which it keeps. Nothing is
+    // asked for where the items take no memory.
     pub(crate) fn open(alloc: A, capacity: usize) -> Result<Self, AllocError>
         requires { capacity < 2 ^ 63 }
         ensures items { IfOk result (λ b. b ≡ bucket [] capacity) }
@@ -54,7 +63,7 @@ impl<T, A: Allocator> Bucket<T, A> {
         })
     }
 
-    /// Adds an item behind the others. Constant time, no allocation.
+    // Fills the first free slot. Constant time, no allocation.
     pub(crate) fn push(&mut self, value: T)
         requires { length self.old.items < self.old.capacity }
         ensures { self.new ≡ bucket (self.old.items ++ value ∷ []) self.old.capacity }
@@ -63,21 +72,21 @@ impl<T, A: Allocator> Bucket<T, A> {
         self.len += 1;
     }
 
-    /// The items, first to last.
+    /// The items of the filled slots, in order. Constant time.
     pub fn slice(&self) -> &[T]
         ensures { result.now ≡ self.now.items }
     {
         self.cells.slice(self.base, self.len)
     }
 
-    /// How many items the block holds at most.
+    /// How many slots there are, filled and free. Constant time.
     pub fn capacity(&self) -> usize
         ensures { result ≡ self.now.capacity }
     {
         self.capacity
     }
 
-    /// The items, first to last, to write to.
+    // The items of the filled slots, to write to.
     pub(crate) fn slice_mut(&mut self) -> &mut [T]
         ensures* writes_back { sem 𝓛 (lends_items T.row A.row A.Allocator self.entry result) }
         ensures value { result.now ≡ self.old.items }
@@ -86,7 +95,7 @@ impl<T, A: Allocator> Bucket<T, A> {
         self.cells.slice_mut(base, len)
     }
 
-    /// Drops the items, first to last, and gives the block back.
+    // Drops the items, first to last, and gives the block back to the allocator that it is of.
     pub(crate) fn close(self)
     where
         T: Drop,

@@ -1,10 +1,9 @@
-//! The block, as three runs of places: those emptied from the front, those that hold the items, and those that wait for one. Every raw
-//! pointer of the crate is in this file.
-ghost use Rattle.std.specs.Prelude.{◌≡◌, ℕ, ◌+◌, ◌-◌, ◌*◌, ◌^◌, ◌<◌, List, [], ◌∷◌, ◌++◌, length, IfOk, IsOk, IsTrue};
+//! The block of a bucket, as three runs of places: those emptied from the front, those that hold the
+//! items, and those that wait for one. Every raw pointer of the workspace is in this file.
+ghost use Rattle.std.specs.Prelude.{◌≡◌, ℕ, ◌+◌, ◌-◌, ◌*◌, ◌^◌, ◌<◌, List, [], ◌∷◌, ◌++◌, length, IfOk, IsOk, IsTrue, ⊤};
 ghost use Rattle.std.specs.Borrow.{sem};
 ghost use Rattle.std.specs.Mem.{type_size};
 ghost use Rattle.std.specs.Vec.Ownership.{FitsInBlock};
-ghost use Rattle.std.specs.Prelude.{⊤};
 ghost use base.Fml.{ftrue};
 ghost use denote.RawPtr.{Ptr};
 ghost use Rattle.wasmi_arena.specs.Memory.{cells_own, cells_lent, deed_owns};
@@ -60,7 +59,7 @@ impl<T, A: Allocator> Model for Deed<T, A> {
     ghost also_shares = { λ _ _ _. ftrue };
 }
 
-/// Whether a block can be large enough for `count` items. It always can where an item takes no memory.
+/// Whether a block can be large enough for `count` items. It can where an item takes no memory.
 pub(crate) fn fits_in_block<T>(count: usize) -> bool
     requires { count < 2 ^ 63 }
     ensures fits { IsTrue result → FitsInBlock T.row count }

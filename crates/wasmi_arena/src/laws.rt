@@ -35,8 +35,7 @@ pub fn place_is_unique()
 /// Each index below `max_len` has a place: its bucket, and its slot there.
 pub fn place_exists()
     ensures { (index : ℕ) → index < max_len → IsPlace index (bucket_of index) (slot_of index) }
-{
-}
+{}
 
 /// Each slot of each bucket is the place of an index below `max_len`, and of that one alone.
 pub fn slot_has_one_index()

@@ -67,7 +67,7 @@ impl<Key: ArenaKey, T, A: Allocator> StableArena<Key, T, A> {
         ensures no_key { IsErrOf result ArenaError.NotEnoughKeys ↔ (most_items Key.keys true ≤ length self.now) }
         ensures error { IfErr result (λ error. error ≡ ArenaError.NotEnoughKeys) }
     {
-        let index = self.items.len();
+        let index = self.len();
         if index >= MAX_LEN {
             return Err(ArenaError::NotEnoughKeys);
         }
