@@ -6,6 +6,7 @@ mod callers;
 
 use crate::{ArenaCommand, ArenaError, ArenaKey, ArenaReply, StableArena, StableVec, run_arena};
 use std::alloc::Global;
+use std::cell::Cell;
 use std::num::NonZero;
 use std::test::Fail;
 
@@ -115,6 +116,37 @@ fn items_without_size(rt: HostRuntime) -> Result<(), Fail> {
         vec.push(())?;
     }
     assert_eq!(rt; (vec.len(), vec.open_buckets(), vec.slots()), (40, 2, 96));
+    Ok(())
+}
+
+// Tells which items were dropped: how many, and the sum of their numbers.
+struct Told<'a> {
+    drops: &'a Cell<(u32, u32)>,
+    number: u32,
+}
+
+impl Drop for Told<'_> {
+    fn drop(self) {
+        let Told { drops, number } = self;
+        let (count, sum) = drops.get();
+        drops.set((count.wrapping_add(1), sum.wrapping_add(number)));
+    }
+}
+
+#[test]
+fn each_item_is_dropped_once(rt: HostRuntime) -> Result<(), Fail> {
+    let drops = Cell::new((0, 0));
+    let mut vec = StableVec::new(rt.alloc());
+    for number in 0..100 {
+        vec.push(Told {
+            drops: &drops,
+            number,
+        })?;
+    }
+    assert_eq!(rt; vec.open_buckets(), 3);
+    assert_eq!(rt; drops.get(), (0, 0));
+    drop(vec);
+    assert_eq!(rt; drops.get(), (100, 4950));
     Ok(())
 }
 
