@@ -59,6 +59,10 @@ module _ {T : Type 0} where
     pub none-bucket_at : (b : ℕ) → 27 ≤ b → bucket_at (items_of rows) b ≡ None
     none-bucket_at b above = ap (λ t. cond t (Some record { items = take (size b) (drop (start b) (items_of rows)); capacity = size b }) None) (le-ltb b (fewest (length (items_of rows))) (let e = opened_is in let o = opened_bound in omega arith))
 
+    -- where the last bucket is full, no slot is free
+    pub full_no_room : max_len ≤ len → room (length (items_of rows)) ≡ 0
+    full_no_room full = omega (arith, v.items_counted, ap start opened_is, start_mono opened 27 opened_bound)
+
     -- the open rows
     open_table : IsTable 32 (items_of rows) (take opened rows)
     open_table = table-take 32 opened (items_of rows) rows v.table (let enough = v.few_rows.enough in omega (arith, start-size opened, v.items_counted))

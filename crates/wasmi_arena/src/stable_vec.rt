@@ -218,6 +218,7 @@ impl<T, A: Allocator> StableVec<T, A> {
         ensures full { IsErrOf result ArenaError.NotEnoughKeys ↔ (max_len ≤ length self.old) }
         ensures memory { IsErrOf result ArenaError.OutOfSystemMemory → room (length self.old) ≡ 0 }
         ensures errors { IfErr result (λ error. (error ≡ ArenaError.NotEnoughKeys) ⊎ (error ≡ ArenaError.OutOfSystemMemory)) }
+        ensures with_room { 0 < room (length self.old) → IsOk result }
         ensures err { OnErr result (self.new ≡ self.old) }
     {
         let index = self.len;

@@ -1,7 +1,8 @@
-use Rattle.std.proofs.Common.{arith}
+use Rattle.std.proofs.Common.{◌≤◌, arith}
 use Rattle.std.proofs.lemmas.Result.{err_from_is_err_and}
+use Rattle.wasmi_arena.specs.Geometry.{max_len}
 use Rattle.wasmi_arena.proofs.Buckets.{start_below}
-use Rattle.wasmi_arena.proofs.Vectors.{row_free, row_size, no_room, items_with_one, laid_out_with_one}
+use Rattle.wasmi_arena.proofs.Vectors.{row_free, row_size, no_room, full_no_room, items_with_one, laid_out_with_one}
 use Rattle.wasmi_arena.proofs.stable_vec.StableVec.push.Goals as goal
 
 pub push_into-requires-clause-free : goal.push_into-requires-clause-free
@@ -42,3 +43,15 @@ returns-clause-full g c =
     let below = start_below c.next_bucket-bucket.result 27 (omega arith) in
     let counted = c.self.invariant.items_counted in
     rw (← c.self.view_is) (λ same. cc, λ late. absurd (omega arith))
+
+pub returns-then-bucket-eq-BUCKETS-clause-with_room : goal.returns-then-bucket-eq-BUCKETS-clause-with_room
+returns-then-bucket-eq-BUCKETS-clause-with_room g c =
+    let last : max_len ≤ c.self.inside.len = rw c.if-bucket-eq-BUCKETS.true at c.next_bucket-bucket.ensures.begun in
+    let none = full_no_room _ _ _ c.self.invariant last in
+    rw (← c.self.view_is) (λ some. absurd (omega arith))
+
+pub returns-in_err-push_into-clause-with_room : goal.returns-in_err-push_into-clause-with_room
+returns-in_err-push_into-clause-with_room g c =
+    let next = c.next_bucket-bucket.ensures in
+    let none = no_room _ _ _ c.self.invariant _ (omega arith) next.begun next.free c.in_err-push_into.ensures.err.1 in
+    rw (← c.self.view_is) (λ some. absurd (omega arith))
