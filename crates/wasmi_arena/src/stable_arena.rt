@@ -47,7 +47,8 @@ impl<Key: ArenaKey, T, A: Allocator> StableArena<Key, T, A> {
 
     /// The number of items. Constant time.
     pub fn len(&self) -> usize
-        ensures { result ≡ length self.now }
+        ensures value { result ≡ length self.now }
+        ensures keyed { length self.now ≤ most_items Key.keys true }
     {
         self.items.len()
     }
