@@ -154,7 +154,8 @@ impl<T, A: Allocator> StableVec<T, A> {
 
     /// How many slots the open buckets have. Constant time.
     pub fn slots(&self) -> usize
-        ensures { result ≡ slots (length self.now) }
+        ensures value { result ≡ slots (length self.now) }
+        ensures enough { length self.now ≤ result }
     {
         start_of(self.opened)
     }
@@ -163,7 +164,7 @@ impl<T, A: Allocator> StableVec<T, A> {
     pub fn room(&self) -> usize
         ensures { result ≡ room (length self.now) }
     {
-        start_of(self.opened) - self.len
+        self.slots() - self.len
     }
 
     /// The item at an index, if there is one. Constant time.

@@ -8,5 +8,5 @@ pub returns-clause-reply : goal.returns-clause-reply
 returns-clause-reply c =
     let session = c.args.self.now in
     let kept = length session.arena in
-    let written = rw (c.len-kept.ensures.value, c.slots-slots.ensures, c.items.ensures) at c.writeln.ensures.bytes in
+    let written = rw (c.len-kept.ensures.value, c.slots-slots.ensures.value, c.items.ensures) at c.writeln.ensures.bytes in
     simp length-map (OnOk-same _ _ _ _ (counts_text (string_bytes session.replies) (decimal kept) (decimal (slots kept))) written)
