@@ -4,7 +4,7 @@ ghost use Rattle.wasmi_arena.specs.Geometry.{room};
 ghost use Rattle.wasmi_arena.specs.Arena.{state_of, Step, Run};
 
 use crate::{ArenaError, ArenaKey, StableArena};
-use std::alloc::{Allocator, Global};
+use std::alloc::Allocator;
 
 /// What an arena is asked to do.
 #[derive(Debug, Drop)]
@@ -47,11 +47,11 @@ fn reply_to<Key: ArenaKey, T: Drop, A: Allocator + Clone>(
 /// A refused command is replied to as `Refused`, and the run goes on. Room for all replies is asked of
 /// `alloc` before the first command; where that is refused, the answer is `OutOfSystemMemory`, no
 /// command ran, and the commands are dropped.
-pub fn run_arena<Key: ArenaKey, T: Drop, A: Allocator + Clone>(
-    alloc: Global,
+pub fn run_arena<Key: ArenaKey, T: Drop, A: Allocator + Clone, B: Allocator>(
+    alloc: B,
     arena: &mut StableArena<Key, T, A>,
-    commands: Vec<ArenaCommand<Key, T>>,
-) -> Result<Vec<ArenaReply<Key>>, ArenaError>
+    commands: Vec<ArenaCommand<Key, T>, B>,
+) -> Result<Vec<ArenaReply<Key>, B>, ArenaError>
     ensures run { IfOk result (λ replies. Run Key.keys true (state_of arena.old) commands.items replies.items (state_of arena.new)) }
     ensures error { IfErr result (λ error. error ≡ ArenaError.OutOfSystemMemory) }
     ensures err { OnErr result (arena.new ≡ arena.old) }

@@ -1,5 +1,8 @@
-//! Tests of the workspace's crates that need more than the crate itself: allocators that are small, that count, and that refuse.
+//! Tests of the workspace's crates that need more than the crate itself: a heap of fixed size, and an allocator that counts and refuses.
 #![tactic(auto)]
 
 #[cfg(test)]
 mod heap;
+#[cfg(test)]
+mod memory;
+pub mod watched;
