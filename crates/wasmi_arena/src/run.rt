@@ -1,6 +1,5 @@
 //! Commands to an arena, and their replies.
-ghost use Rattle.std.specs.Prelude.{◌≡◌, ◌↔◌, length, IfOk, IfErr, OnErr, true};
-ghost use Rattle.wasmi_arena.specs.Geometry.{room};
+ghost use Rattle.std.specs.Prelude.{◌≡◌, IfOk, IfErr, OnErr, true};
 ghost use Rattle.wasmi_arena.specs.Arena.{state_of, Step, Run};
 
 use crate::{ArenaError, ArenaKey, StableArena};

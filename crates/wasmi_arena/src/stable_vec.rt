@@ -1,5 +1,5 @@
 //! A vector whose items stay in the slots that they were pushed into.
-ghost use Rattle.std.specs.Prelude.{◌≡◌, ◌+◌, ◌-◌, ◌<◌, ◌≤◌, ◌==◌, ◌↔◌, [], ◌∷◌, ◌++◌, length, IfOk, IfErr, OnOk, OnErr, IsOk, IsErrOf, ◌⊎◌, option_copied, slice_get, slice_index_or, slice_set, Some, None};
+ghost use Rattle.std.specs.Prelude.{◌≡◌, ◌+◌, ◌<◌, ◌≤◌, ◌==◌, ◌↔◌, [], ◌∷◌, ◌++◌, length, IfOk, IfErr, OnOk, OnErr, IsOk, IsErrOf, ◌⊎◌, option_copied, slice_get, slice_index_or, slice_set, Some, None};
 ghost use Rattle.wasmi_arena.specs.Geometry.{size, start, max_len, IsPlace, IsFewest, fewest, slots, room, bucket_of, slot_of};
 ghost use Rattle.wasmi_arena.specs.StableVec.{bucket_at};
 ghost use Rattle.wasmi_arena.specs.Bucket.{Bucket as Shelf};
@@ -27,7 +27,7 @@ pub const MAX_LEN: usize = 4_294_967_264;
 /// [`place`](StableVec::place) tells, whatever the length.
 #[derive(Drop)]
 pub struct StableVec<T, A: Allocator = Global> {
-    buckets: [Option<Bucket<T, A>>; 27],
+    buckets: [Option<Bucket<T, A>>; BUCKETS],
     len: usize,
     // How many of the buckets are open.
     opened: usize,
@@ -84,12 +84,14 @@ fn push_into<T: Drop, A: Allocator + Clone>(
     ensures err { OnErr result ((buckets.new ≡ buckets.old) × (slice_index_or buckets.old bucket None ≡ None)) }
 {
     let row = &mut buckets[bucket];
-    if row.is_none() {
-        let capacity = StableVec::<T>::size_of_bucket_at(bucket);
-        *row = Some(Bucket::open(alloc.clone()?, capacity)?);
-    }
-    if let Some(open) = row {
-        open.push(value);
+    match row {
+        Some(open) => open.push(value),
+        None => {
+            let capacity = StableVec::<T>::size_of_bucket_at(bucket);
+            let mut opened = Bucket::open(alloc.clone()?, capacity)?;
+            opened.push(value);
+            *row = Some(opened);
+        }
     }
     Ok(())
 }
@@ -175,6 +177,7 @@ impl<T, A: Allocator> StableVec<T, A> {
             return None;
         }
         let (bucket, slot) = StableVec::<T>::place(index);
+        // By the slice, since an array of buckets may be of any size.
         let buckets = &self.buckets[..];
         match &buckets[bucket] {
             Some(open) => Some(&open.slice()[slot]),

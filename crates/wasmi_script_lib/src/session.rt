@@ -1,4 +1,4 @@
-ghost use Rattle.std.specs.Prelude.{◌≡◌, ◌+◌, ◌^◌, ◌<◌, ◌∷◌, ◌++◌, [], IfOk, OnOk, IsOkUnless, string_bytes, codes, decimal};
+ghost use Rattle.std.specs.Prelude.{◌≡◌, ◌+◌, ◌^◌, ◌<◌, ◌++◌, [], IfOk, OnOk, IsOkUnless, string_bytes, codes, decimal};
 ghost use Rattle.wasmi_script_lib.specs.Outputs.{line_reply, output_of, texts_after_line};
 ghost use Rattle.wasmi_script_lib.specs.Replies.{no_texts, reply_to, texts_after};
 ghost use Rattle.wasmi_script_lib.specs.Requests as request;

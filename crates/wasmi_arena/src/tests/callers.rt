@@ -1,5 +1,5 @@
 //! Callers whose contracts follow from those of the iterators.
-ghost use Rattle.std.specs.Prelude.{◌≡◌, ℕ, ◌<◌, ◌/◌, ◌+◌, ◌%◌, ◌*◌, ◌==◌, ◌↔◌, List, ◌≤◌, All, Any, IsTrue, IfOk, length, map, count_by, OnOk, [], ◌∷◌, ◌++◌};
+ghost use Rattle.std.specs.Prelude.{◌≡◌, ◌<◌, ◌/◌, ◌+◌, ◌%◌, ◌*◌, ◌==◌, ◌↔◌, ◌≤◌, All, Any, IsTrue, IfOk, length, map, count_by, OnOk, [], ◌∷◌, ◌++◌};
 
 use crate::{ArenaError, ArenaKey, StableArena, StableVec};
 use std::alloc::{AllocError, Global};
