@@ -169,3 +169,30 @@ slots-le n some small =
       | inr late ↦ absurd (let fewer = few.least b late in omega arith)
     ] in
     omega (arith, start-size b)
+
+-- the top bit of a length and 31 tells how many buckets it needs
+module _ (n m : ℕ) (low : 2 ^ m ≤ n + 31) (high : n + 31 < 2 * 2 ^ m) (small : n ≤ max_len) where
+  pub top_from_4 : 4 ≤ m
+  top_from_4 = elim (cases_lt m 4) [
+    | inl few ↦ absurd (let least : m ≤ 3 = omega arith in let power : 2 ^ m ≤ 2 ^ 3 = pow_mono {i = m} {j = 3} least in omega arith)
+    | inr many ↦ many
+  ]
+
+  fewest_by_top : IsFewest n (m - 4)
+  fewest_by_top =
+      let four = top_from_4 in
+      let power : 2 ^ m ≡ 2 ^ 4 * 2 ^ (m - 4) = ap (λ k. 2 ^ k) (let whole : m ≡ 4 + (m - 4) = omega arith in whole) ∙ pow-add 2 4 (m - 4) in
+      record {
+        enough = omega (arith, start-size (m - 4));
+        least = λ c room. elim (cases_lt c (m - 4)) [
+          | inl less ↦ absurd (omega (arith, start-size (m - 4), start_below c (m - 4) less, start-size c))
+          | inr more ↦ more
+        ];
+      }
+
+  pub fewest_of_top : m - 4 ≡ fewest n
+  fewest_of_top = fewest_unique fewest_by_top (fewest_is_least n small)
+
+-- no more than all
+pub fewest-le : (n : ℕ) → n ≤ max_len → fewest n ≤ 27
+fewest-le n small = (fewest_is_least n small).least 27 small

@@ -4,7 +4,7 @@ use Rattle.std.proofs.lemmas.Bool.{cases_lt, lt-ltb, le-ltb}
 use Rattle.std.proofs.Math.ListN.{length-set, drop_of_length-le}
 use Rattle.std.proofs.lemmas.List.{get_or_default, take_all, length-take, get_or-take, get_or-drop}
 use Rattle.std.proofs.lemmas.Option.{slice_get-get_or}
-use Rattle.wasmi_arena.specs.Geometry.{size, start, max_len, IsPlace, fewest, room}
+use Rattle.wasmi_arena.specs.Geometry.{size, start, max_len, IsPlace, IsFewest, fewest, room}
 use Rattle.wasmi_arena.specs.Bucket.{Bucket}
 use Rattle.wasmi_arena.specs.StableVec.{bucket_at}
 use Rattle.wasmi_arena.specs.Table.{items_of, held, row_with, row_of, IsTable, AreFilled, IsLaidOut, IsAhead}
@@ -29,12 +29,16 @@ module _ {T : Type 0} where
   row_of-capacity width [] bucket is = cc
   row_of-capacity width (x ∷ xs) bucket is = sym (ap capacity_of is)
 
-  module _ (rows : List (Option (Bucket T))) (len opened : ℕ) (v : IsLaidOut rows len opened) where
-    pub opened_is : opened ≡ fewest (length (items_of rows))
-    opened_is = sym (fewest_is (rw (← v.items_counted) v.few_items) (rw (← v.items_counted) v.few_rows))
+  module _ (rows : List (Option (Bucket T))) (len : ℕ) (v : IsLaidOut rows len) where
+    -- the open rows are the fewest
+    few_rows : IsFewest len (fewest len)
+    few_rows = fewest_is_least len v.few_items
 
-    pub opened_bound : opened ≤ 27
-    opened_bound = v.few_rows.least 27 v.few_items
+    pub opened_is : fewest len ≡ fewest (length (items_of rows))
+    opened_is = ap fewest v.items_counted
+
+    pub opened_bound : fewest len ≤ 27
+    opened_bound = few_rows.least 27 v.few_items
 
     -- row b holds what begins at the start of bucket b
     pub row_is : (b : ℕ) → b < 27 → get_or rows b None ≡ row_of (size b) (drop (start b) (items_of rows))
@@ -49,9 +53,9 @@ module _ {T : Type 0} where
     -- row b is bucket b
     pub row-bucket_at : (b : ℕ) → b < 27 → get_or rows b None ≡ bucket_at (items_of rows) b
     row-bucket_at b below = elim (cases_lt b (fewest (length (items_of rows)))) [
-      | inl needed ↦ row_some b below (let e = opened_is in let least = v.few_rows.least b in elim (cases_lt (start b) len) [ inl early ↦ early | inr late ↦ absurd (let few = least late in omega arith) ])
+      | inl needed ↦ row_some b below (let e = opened_is in let least = few_rows.least b in elim (cases_lt (start b) len) [ inl early ↦ early | inr late ↦ absurd (let few = least late in omega arith) ])
           ∙ sym (ap (λ t. cond t (Some record { items = take (size b) (drop (start b) (items_of rows)); capacity = size b }) None) (lt-ltb b (fewest (length (items_of rows))) needed))
-      | inr free ↦ row_is b below ∙ (ap (row_of (size b)) (drop_of_length-le (items_of rows) {i = start b} (let e = opened_is in let enough = v.few_rows.enough in omega (arith, v.items_counted, start_mono opened b (omega arith))))
+      | inr free ↦ row_is b below ∙ (ap (row_of (size b)) (drop_of_length-le (items_of rows) {i = start b} (let e = opened_is in let enough = few_rows.enough in omega (arith, v.items_counted, start_mono (fewest len) b (omega arith))))
           ∙ sym (ap (λ t. cond t (Some record { items = take (size b) (drop (start b) (items_of rows)); capacity = size b }) None) (le-ltb b (fewest (length (items_of rows))) free)))
     ]
 
@@ -59,28 +63,32 @@ module _ {T : Type 0} where
     pub none-bucket_at : (b : ℕ) → 27 ≤ b → bucket_at (items_of rows) b ≡ None
     none-bucket_at b above = ap (λ t. cond t (Some record { items = take (size b) (drop (start b) (items_of rows)); capacity = size b }) None) (le-ltb b (fewest (length (items_of rows))) (let e = opened_is in let o = opened_bound in omega arith))
 
+    -- the open buckets have a slot for each item
+    pub enough_slots : length (items_of rows) ≤ start (fewest len)
+    enough_slots = rw (← v.items_counted) few_rows.enough
+
     -- where the last bucket is full, no slot is free
     pub full_no_room : max_len ≤ len → room (length (items_of rows)) ≡ 0
-    full_no_room full = omega (arith, v.items_counted, ap start opened_is, start_mono opened 27 opened_bound)
+    full_no_room full = omega (arith, v.items_counted, ap start opened_is, start_mono (fewest len) 27 opened_bound)
 
     -- the open rows
-    open_table : IsTable 32 (items_of rows) (take opened rows)
-    open_table = table-take 32 opened (items_of rows) rows v.table (let enough = v.few_rows.enough in omega (arith, start-size opened, v.items_counted))
+    open_table : IsTable 32 (items_of rows) (take (fewest len) rows)
+    open_table = table-take 32 (fewest len) (items_of rows) rows v.table (let enough = few_rows.enough in omega (arith, start-size (fewest len), v.items_counted))
 
     -- the open rows hold every item
-    pub items_of-open : items_of (take opened rows) ≡ items_of rows
-    items_of-open = items_of-table 32 (items_of rows) (take opened rows) open_table
+    pub items_of-open : items_of (take (fewest len) rows) ≡ items_of rows
+    items_of-open = items_of-table 32 (items_of rows) (take (fewest len) rows) open_table
 
     -- and each of them has one
-    pub open_filled : AreFilled (take opened rows)
-    open_filled = table-filled 32 opened (items_of rows) rows (lit< tt) v.table (rw v.rows_counted opened_bound)
+    pub open_filled : AreFilled (take (fewest len) rows)
+    open_filled = table-filled 32 (fewest len) (items_of rows) rows (lit< tt) v.table (rw v.rows_counted opened_bound)
         (λ c below. elim (cases_lt (start c) len) [
           | inl early ↦ omega (arith, start-size c, v.items_counted)
-          | inr late ↦ absurd (let few = v.few_rows.least c late in omega arith)
+          | inr late ↦ absurd (let few = few_rows.least c late in omega arith)
         ])
 
     -- all items are ahead of an iterator that begins
-    pub all_ahead : (nothing : List T) → nothing ≡ [] → IsAhead nothing (take opened rows) len × (nothing ++ items_of (take opened rows) ≡ items_of rows)
+    pub all_ahead : (nothing : List T) → nothing ≡ [] → IsAhead nothing (take (fewest len) rows) len × (nothing ++ items_of (take (fewest len) rows) ≡ items_of rows)
     all_ahead nothing none = (record { filled = open_filled; counted = rw items_of-open v.items_counted; few = rw none (let few = v.few_items in omega arith) }, rw none items_of-open)
 
     -- what is read at the row of an index
@@ -104,45 +112,46 @@ module _ {T : Type 0} where
             let same : x ≡ get_or (items_of rows) i x = at ∙ (ap (λ (xs : List T). get_or xs s x) slice_is ∙ (here ∙ ap (λ n. get_or (items_of rows) n x) place.index_is)) in
             ap Some same ∙ sym (slice_get-get_or (items_of rows) i x (rw (← v.items_counted) below))
 
-    -- one more item goes into the bucket that has begun and isn't full
-    module _ (b : ℕ) (below : b < 27) (begun : start b ≤ len) (free : len < start b + size b) where
-      pub table_with_one : (item : T) → IsTable 32 (items_of rows ++ item ∷ []) (set rows b (row_with (size b) (get_or rows b None) item))
-      table_with_one item = table-push 32 b (items_of rows) rows item (lit< tt) v.table (rw v.rows_counted below) (omega (arith, start-size b, v.items_counted)) (omega (arith, start-size b, size-suc b, v.items_counted))
+    -- one more item goes to its place
+    module _ (b s : ℕ) (place : IsPlace len b s) where
+      table_with_one : (item : T) → IsTable 32 (items_of rows ++ item ∷ []) (set rows b (row_with (size b) (get_or rows b None) item))
+      table_with_one item = table-push 32 b (items_of rows) rows item (lit< tt) v.table (rw v.rows_counted place.bucket_exists)
+          (omega (arith, start-size b, v.items_counted, place.index_is)) (omega (arith, start-size b, size-suc b, v.items_counted, place.index_is, place.slot_exists))
 
       pub items_with_one : (item : T) → items_of (set rows b (row_with (size b) (get_or rows b None) item)) ≡ items_of rows ++ item ∷ []
       items_with_one item = items_of-table 32 (items_of rows ++ item ∷ []) (set rows b (row_with (size b) (get_or rows b None) item)) (table_with_one item)
 
-      pub laid_out_with_one : (item : T) → IsLaidOut (set rows b (row_with (size b) (get_or rows b None) item)) (len + 1) (b + 1)
+      pub laid_out_with_one : (item : T) → IsLaidOut (set rows b (row_with (size b) (get_or rows b None) item)) (len + 1)
       laid_out_with_one item = record {
         rows_counted = length-set rows b (row_with (size b) (get_or rows b None) item) ∙ v.rows_counted;
         table = rw (items_with_one item) (table_with_one item);
-        items_counted = rw (items_with_one item) (omega (arith, lit<, length-append (items_of rows) (item ∷ []), v.items_counted));
-        few_items = omega (arith, start_below b 27 below);
-        few_rows = fewest_of_place {i = len} {b = b} {s = len - start b} (record { bucket_exists = below; slot_exists = omega arith; index_is = omega arith });
+        items_counted = rw (items_with_one item) (omega (arith, length-append (items_of rows) (item ∷ []), v.items_counted));
+        few_items = omega (arith, start_below b 27 place.bucket_exists, place.index_is, place.slot_exists);
       }
 
-      -- so far that bucket has room
+      -- so far its bucket has room
       pub row_free : length (held (get_or rows b None)) < size b
-      row_free = rw (row_is b below, held-row_of) (omega (arith, length-take (size b) (drop (start b) (items_of rows)), length-drop (start b) (items_of rows), v.items_counted, size_pos b))
+      row_free = rw (row_is b place.bucket_exists, held-row_of)
+          (omega (arith, length-take (size b) (drop (start b) (items_of rows)), length-drop (start b) (items_of rows), v.items_counted, place.index_is, place.slot_exists))
 
       -- and its size, if it is open
       pub row_size : (bucket : Bucket T) → get_or rows b None ≡ Some bucket → bucket.capacity ≡ size b
-      row_size bucket is = row_of-capacity (size b) (drop (start b) (items_of rows)) bucket (sym (row_is b below) ∙ is)
+      row_size bucket is = row_of-capacity (size b) (drop (start b) (items_of rows)) bucket (sym (row_is b place.bucket_exists) ∙ is)
 
       -- where it isn't open, no slot is free
       pub no_room : get_or rows b None ≡ None → room (length (items_of rows)) ≡ 0
       no_room shut = elim (cases_lt (start b) len) [
-        | inl early ↦ absurd (let full = row_some b below early in let none = sym shut ∙ full in cc)
-        | inr late ↦ let few = v.few_rows.least b late in
-            omega (arith, v.few_rows.enough, start_mono opened b few, ap start opened_is, v.items_counted)
+        | inl early ↦ absurd (let full = row_some b place.bucket_exists early in let none = sym shut ∙ full in cc)
+        | inr late ↦ let few = few_rows.least b late in
+            omega (arith, few_rows.enough, start_mono (fewest len) b few, ap start opened_is, v.items_counted, place.index_is)
       ]
 
   -- where no row is open, there is no item
-  pub laid_out_none : (rows : List (Option (Bucket T))) → length rows ≡ 27 → ((b : ℕ) → b < length rows → get_or rows b None ≡ None) → IsLaidOut rows 0 0 × (items_of rows ≡ [])
+  pub laid_out_none : (rows : List (Option (Bucket T))) → length rows ≡ 27 → ((b : ℕ) → b < length rows → get_or rows b None ≡ None) → IsLaidOut rows 0 × (items_of rows ≡ [])
   laid_out_none rows counted empty =
       let table = table_of_none 32 rows empty in
       let none = items_of-table 32 [] rows table in
-      (record { rows_counted = counted; table = rw none table; items_counted = sym (ap length none); few_items = omega arith; few_rows = fewest_of_none }, none)
+      (record { rows_counted = counted; table = rw none table; items_counted = sym (ap length none); few_items = omega arith }, none)
 
   -- a part of a list reads what the list reads
   slice_get-part : (xs : List T) (m n s i : ℕ) → s < n → m + s ≡ i → i < length xs → slice_get (take n (drop m xs)) s ≡ slice_get xs i

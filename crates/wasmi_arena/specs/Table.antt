@@ -1,6 +1,6 @@
 -- How a stable vector lays out its items. No public clause cites this module.
 use Rattle.std.specs.Prelude.{◌≡◌, ℕ, ◌+◌, ◌*◌, ◌<◌, ◌≤◌, List, [], ◌∷◌, ◌++◌, length, take, drop, Option, Some, None}
-use Rattle.wasmi_arena.specs.Geometry.{IsFewest, max_len}
+use Rattle.wasmi_arena.specs.Geometry.{max_len}
 use Rattle.wasmi_arena.specs.Bucket.{Bucket}
 
 module _ {T : Type 0} where
@@ -36,12 +36,11 @@ module _ {T : Type 0} where
   AreFilled (Some bucket ∷ rows) = (0 < length bucket.items) × AreFilled rows
 
   -- the fields of a stable vector agree
-  pub record IsLaidOut (rows : List (Option (Bucket T))) (len opened : ℕ) : Type 0 where
+  pub record IsLaidOut (rows : List (Option (Bucket T))) (len : ℕ) : Type 0 where
     pub rows_counted : length rows ≡ 27
     pub table : IsTable 32 (items_of rows) rows
     pub items_counted : len ≡ length (items_of rows)
     pub few_items : len ≤ max_len
-    pub few_rows : IsFewest len opened
 
   -- an iterator has these items of one row left, and then these rows, which hold `behind` items
   pub record IsAhead (front : List T) (rows : List (Option (Bucket T))) (behind : ℕ) : Type 0 where

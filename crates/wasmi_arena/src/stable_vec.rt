@@ -29,8 +29,6 @@ pub const MAX_LEN: usize = 4_294_967_264;
 pub struct StableVec<T, A: Allocator = Global> {
     buckets: [Option<Bucket<T, A>>; BUCKETS],
     len: usize,
-    // How many of the buckets are open.
-    opened: usize,
     alloc: A,
 }
 
@@ -43,7 +41,7 @@ impl<T, A: Allocator> Model for StableVec<T, A> {
 
     ghost view = { λ vec. items_of vec.buckets };
 
-    ghost invariant = { λ vec. IsLaidOut vec.buckets vec.len vec.opened };
+    ghost invariant = { λ vec. IsLaidOut vec.buckets vec.len };
 }
 
 // The first index of a bucket.
@@ -54,19 +52,14 @@ fn start_of(bucket: usize) -> usize
     (32 << bucket) - 32
 }
 
-// The bucket that takes one more item, or 27 where there is none.
-fn next_bucket(len: usize, opened: usize) -> usize
-    requires few { IsFewest len opened }
-    requires bound { len ≤ max_len }
+// The fewest buckets with room for so many items.
+fn buckets_for(len: usize) -> usize
+    requires { len ≤ max_len }
+    ensures value { result ≡ fewest len }
     ensures bound { result ≤ 27 }
-    ensures begun { start result ≤ len }
-    ensures free { len < start result + size result }
 {
-    if len < start_of(opened) {
-        opened - 1
-    } else {
-        opened
-    }
+    // Bucket b ends at 64 * 2^b, once 32 is added.
+    (len + 31).ilog2() as usize - 4
 }
 
 // Puts `value` into the first free slot of a bucket, which is opened if need be.
@@ -127,7 +120,6 @@ impl<T, A: Allocator> StableVec<T, A> {
         StableVec {
             buckets: array::from_fn(|_| None),
             len: 0,
-            opened: 0,
             alloc,
         }
     }
@@ -151,7 +143,7 @@ impl<T, A: Allocator> StableVec<T, A> {
     pub fn open_buckets(&self) -> usize
         ensures { result ≡ fewest (length self.now) }
     {
-        self.opened
+        buckets_for(self.len)
     }
 
     /// How many slots the open buckets have. Constant time.
@@ -159,7 +151,7 @@ impl<T, A: Allocator> StableVec<T, A> {
         ensures value { result ≡ slots (length self.now) }
         ensures enough { length self.now ≤ result }
     {
-        start_of(self.opened)
+        start_of(buckets_for(self.len))
     }
 
     /// How many items can be pushed before a bucket must be opened. Constant time.
@@ -202,7 +194,7 @@ impl<T, A: Allocator> StableVec<T, A> {
         let buckets = &self.buckets[..];
         StableVecIter {
             front: nothing.iter(),
-            buckets: buckets[..self.opened].iter(),
+            buckets: buckets[..buckets_for(self.len)].iter(),
             behind: self.len,
         }
     }
@@ -226,12 +218,11 @@ impl<T, A: Allocator> StableVec<T, A> {
         ensures err { OnErr result (self.new ≡ self.old) }
     {
         let index = self.len;
-        let bucket = next_bucket(index, self.opened);
-        if bucket == BUCKETS {
+        if index == MAX_LEN {
             return Err(ArenaError::NotEnoughKeys);
         }
+        let (bucket, _) = StableVec::<T>::place(index);
         push_into(&mut self.buckets[..], bucket, &self.alloc, value)?;
-        self.opened = bucket + 1;
         self.len = index + 1;
         Ok(index)
     }
