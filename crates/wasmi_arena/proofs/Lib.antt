@@ -3,6 +3,8 @@ pub mod Rows
 pub mod Vectors
 pub mod Steps
 pub mod EntryLemmas
-pub mod Blocks
-pub mod Parts
+pub mod SlotRuns
+pub mod Frame
 pub mod Sharing
+pub mod Lending
+pub mod NewBlock

@@ -129,9 +129,9 @@ module _ {T : Type 0} where
         few_items = omega (arith, start_below b 27 place.bucket_exists, place.index_is, place.slot_exists);
       }
 
-      -- so far its bucket has room
-      pub row_free : length (held (get_or rows b None)) < size b
-      row_free = rw (row_is b place.bucket_exists, held-row_of)
+      -- its slot is the first free one of its bucket
+      pub row_next : s ≡ length (held (get_or rows b None))
+      row_next = rw (row_is b place.bucket_exists, held-row_of)
           (omega (arith, length-take (size b) (drop (start b) (items_of rows)), length-drop (start b) (items_of rows), v.items_counted, place.index_is, place.slot_exists))
 
       -- and its size, if it is open

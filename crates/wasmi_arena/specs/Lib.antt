@@ -2,10 +2,12 @@ pub mod Keys
 pub mod KeyLaws
 pub mod Errors
 pub mod Geometry
-pub mod Memory
-pub mod CellsLends
+pub mod Block
+pub mod Slots
+pub mod SlotsLend
+pub mod Filled
 pub mod Bucket
-pub mod BucketLends
+pub mod BucketLend
 pub mod StableVec
 pub mod Table
 pub mod Arena

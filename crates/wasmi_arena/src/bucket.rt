@@ -1,10 +1,11 @@
 //! The buckets of a stable vector.
-ghost use Rattle.std.specs.Prelude.{◌≡◌, ◌*◌, ◌^◌, ◌<◌, [], ◌∷◌, ◌++◌, length, IfOk, IsOk};
+ghost use Rattle.std.specs.Prelude.{◌≡◌, ◌^◌, ◌<◌, [], ◌∷◌, ◌++◌, length, IfOk, IsOk};
 ghost use Rattle.std.specs.Borrow.{sem};
 ghost use Rattle.std.specs.Mem.{type_size};
 ghost use Rattle.wasmi_arena.specs.Bucket.{bucket};
 
-use crate::cells::{Base, Cells, Deed, allocate, deallocate, fits_in_block};
+use crate::block::{BlockPtr, DeallocRight, Slots, allocate, deallocate, without_block};
+use std_alloc::room::may_hold;
 use std::alloc::{AllocError, Allocator, Global};
 use std::marker::Model;
 
@@ -14,69 +15,71 @@ use std::marker::Model;
 /// [`bucket`](crate::StableVec::bucket). The block is one block of the allocator's; items without a
 /// size need none.
 pub struct Bucket<T, A: Allocator = Global> {
-    base: Base<T>,
+    ptr: BlockPtr<T>,
     len: usize,
     capacity: usize,
-    cells: Cells<T>,
-    deed: Deed<T, A>,
+    slots: Slots<T>,
+    right: DeallocRight<T, A>,
     alloc: A,
 }
 
 impl<T, A: Allocator> Model for Bucket<T, A> {
-    ghost use Rattle.std.specs.Prelude.{◌≡◌, ◌+◌, length};
     ghost use Rattle.wasmi_arena.specs.Bucket.{Bucket, bucket, bucket_code};
+    ghost use Rattle.wasmi_arena.specs.Filled.{IsFilledBlock};
 
     ghost Value = { Bucket T };
 
     ghost coded = { bucket_code T.code };
 
-    ghost view = { λ b. bucket b.cells.items b.capacity };
+    ghost view = { λ b. bucket b.slots.items b.capacity };
 
-    // The cells are those of the block: the items, and then free slots. The deed is to that block.
-    ghost invariant = { λ b.
-        (b.cells.at ≡ b.base.ptr) × (b.cells.gone ≡ 0) × (b.len ≡ length b.cells.items)
-        × (b.len + b.cells.spare ≡ b.capacity)
-        × (b.deed.at ≡ b.base.ptr) × (b.deed.len ≡ b.capacity) × (b.deed.alloc ≡ b.alloc) };
+    ghost invariant = { λ b. IsFilledBlock b.ptr b.len b.capacity b.slots b.right b.alloc };
 }
 
 impl<T, A: Allocator> Bucket<T, A> {
-    ghost use Rattle.wasmi_arena.specs.BucketLends.{lends_items};
+    ghost use Rattle.wasmi_arena.specs.BucketLend.{lends_items};
 
     // An empty bucket of so many slots, in one block that it asks of `alloc`, which it keeps. Nothing is
     // asked for where the items take no memory.
     pub(crate) fn open(alloc: A, capacity: usize) -> Result<Self, AllocError>
-        requires { capacity < 2 ^ 63 }
+        requires { (0 < capacity) × (capacity < 2 ^ 63) }
         ensures items { IfOk result (λ b. b ≡ bucket [] capacity) }
-        ensures given { type_size T.row ≡ 0 → IsOk result }
+        ensures without_size { type_size T.row ≡ 0 → IsOk result }
     {
-        if !fits_in_block::<T>(capacity) {
-            return Err(AllocError);
-        }
-        let (base, cells, deed) = allocate(&alloc, capacity)?;
+        let (ptr, slots, right) = match without_block(&alloc, capacity) {
+            Some(block) => block,
+            None => {
+                if !may_hold::<T>(capacity) {
+                    return Err(AllocError);
+                }
+                allocate(&alloc, capacity)?
+            }
+        };
         Ok(Bucket {
-            base,
+            ptr,
             len: 0,
             capacity,
-            cells,
-            deed,
+            slots,
+            right,
             alloc,
         })
     }
 
-    // Fills the first free slot. Constant time, no allocation.
-    pub(crate) fn push(&mut self, value: T)
-        requires { length self.old.items < self.old.capacity }
-        ensures { self.new ≡ bucket (self.old.items ++ value ∷ []) self.old.capacity }
+    // Fills the first free slot, which is `slot`. Constant time, no allocation.
+    pub(crate) fn fill(&mut self, slot: usize, item: T)
+        requires slot { slot ≡ length self.old.items }
+        requires free { length self.old.items < self.old.capacity }
+        ensures { self.new ≡ bucket (self.old.items ++ item ∷ []) self.old.capacity }
     {
-        self.cells.write(self.base, self.len, value);
-        self.len += 1;
+        self.slots.write(self.ptr, slot, item);
+        self.len = slot + 1;
     }
 
     /// The items of the filled slots, in order. Constant time.
     pub fn slice(&self) -> &[T]
         ensures { result.now ≡ self.now.items }
     {
-        self.cells.slice(self.base, self.len)
+        self.slots.slice(self.ptr, self.len)
     }
 
     /// How many slots there are, filled and free. Constant time.
@@ -91,8 +94,8 @@ impl<T, A: Allocator> Bucket<T, A> {
         ensures* writes_back { sem 𝓛 (lends_items T.row A.row A.Allocator self.entry result) }
         ensures value { result.now ≡ self.old.items }
     {
-        let (base, len) = (self.base, self.len);
-        self.cells.slice_mut(base, len)
+        let (ptr, len) = (self.ptr, self.len);
+        self.slots.slice_mut(ptr, len)
     }
 
     // Drops the items, first to last, and gives the block back to the allocator that it is of.
@@ -101,17 +104,17 @@ impl<T, A: Allocator> Bucket<T, A> {
         T: Drop,
     {
         let Bucket {
-            base,
+            ptr,
             len,
             capacity,
-            mut cells,
-            deed,
+            mut slots,
+            right,
             alloc,
         } = self;
-        for index in 0..len {
-            let _item = cells.read(base, index);
+        for slot in 0..len {
+            let _item = slots.take(ptr, slot);
         }
-        deallocate(&alloc, base, capacity, cells, deed);
+        deallocate(&alloc, ptr, capacity, slots, right);
     }
 }
 

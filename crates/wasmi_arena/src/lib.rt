@@ -1,8 +1,8 @@
 //! The arenas of the Wasmi interpreter: typed keys, a vector whose items stay in their slots, and an arena over it.
 #![tactic(auto)]
 
+mod block;
 mod bucket;
-mod cells;
 mod error;
 mod key;
 pub mod laws;
@@ -15,7 +15,7 @@ mod tests;
 pub use bucket::Bucket;
 // A crate above can name a bucket in a contract only if it reaches the types of its fields.
 #[doc(hidden)]
-pub use cells::{Base, Cells, Deed};
+pub use block::{BlockPtr, DeallocRight, Slots};
 pub use error::ArenaError;
 pub use key::ArenaKey;
 pub use run::{ArenaCommand, ArenaReply, run_arena};

@@ -62,27 +62,29 @@ fn buckets_for(len: usize) -> usize
     (len + 31).ilog2() as usize - 4
 }
 
-// Puts `value` into the first free slot of a bucket, which is opened if need be.
+// Puts `value` into a place, which is the first free slot of its bucket. The bucket is opened if need be.
 fn push_into<T: Drop, A: Allocator + Clone>(
     buckets: &mut [Option<Bucket<T, A>>],
-    bucket: usize,
+    place: (usize, usize),
     alloc: &A,
     value: T,
 ) -> Result<(), ArenaError>
-    requires bucket { (bucket < length buckets.old) × (bucket < 27) }
-    requires free { length (held (slice_index_or buckets.old bucket None)) < size bucket }
-    requires same { (b : Shelf T) → slice_index_or buckets.old bucket None ≡ Some b → b.capacity ≡ size bucket }
-    ensures ok { OnOk result (buckets.new ≡ slice_set buckets.old bucket (row_with (size bucket) (slice_index_or buckets.old bucket None) value)) }
+    requires bucket { (place.0 < length buckets.old) × (place.0 < 27) }
+    requires slot { place.1 ≡ length (held (slice_index_or buckets.old place.0 None)) }
+    requires free { place.1 < size place.0 }
+    requires same { (b : Shelf T) → slice_index_or buckets.old place.0 None ≡ Some b → b.capacity ≡ size place.0 }
+    ensures ok { OnOk result (buckets.new ≡ slice_set buckets.old place.0 (row_with (size place.0) (slice_index_or buckets.old place.0 None) value)) }
     ensures error { IfErr result (λ error. error ≡ ArenaError.OutOfSystemMemory) }
-    ensures err { OnErr result ((buckets.new ≡ buckets.old) × (slice_index_or buckets.old bucket None ≡ None)) }
+    ensures err { OnErr result ((buckets.new ≡ buckets.old) × (slice_index_or buckets.old place.0 None ≡ None)) }
 {
+    let (bucket, slot) = place;
     let row = &mut buckets[bucket];
     match row {
-        Some(open) => open.push(value),
+        Some(open) => open.fill(slot, value),
         None => {
             let capacity = StableVec::<T>::size_of_bucket_at(bucket);
             let mut opened = Bucket::open(alloc.clone()?, capacity)?;
-            opened.push(value);
+            opened.fill(slot, value);
             *row = Some(opened);
         }
     }
@@ -221,8 +223,8 @@ impl<T, A: Allocator> StableVec<T, A> {
         if index == MAX_LEN {
             return Err(ArenaError::NotEnoughKeys);
         }
-        let (bucket, _) = StableVec::<T>::place(index);
-        push_into(&mut self.buckets[..], bucket, &self.alloc, value)?;
+        let place = StableVec::<T>::place(index);
+        push_into(&mut self.buckets[..], place, &self.alloc, value)?;
         self.len = index + 1;
         Ok(index)
     }

@@ -1,5 +1,11 @@
 use Rattle.std.proofs.Common.{◌≡◌, ◌+◌, length}
 use Rattle.wasmi_arena.proofs.bucket.Bucket.close.Given as goal
 
-abbrev pub invariant-loop-index : goal.invariant-loop-index
-invariant-loop-index g l = record { places : (l.cells.at ≡ l.initial.cells.at) × (l.cells.gone ≡ l.index) × (l.cells.spare ≡ l.initial.cells.spare); left : l.index + length l.cells.items ≡ l.len }
+-- the slots before this one are empty, and the others are as they were
+abbrev pub invariant-loop-slot : goal.invariant-loop-slot
+invariant-loop-slot g l = record {
+  block : l.slots.block ≡ l.initial.slots.block;
+  taken : l.slots.taken ≡ l.slot;
+  left : l.slot + length l.slots.items ≡ l.len;
+  free : l.slots.free ≡ l.initial.slots.free;
+}

@@ -1,0 +1,81 @@
+-- Opened slots lend their items as one `&mut [T]`, and are slots again once it has ended. Assumes `Logic`.
+use mathlib.Core.Path.{◌≡◌, refl, sym, ap, subst, ◌∙◌}
+use Prim.Native.Nat.{ℕ, ◌+◌, ◌*◌, ◌<◌, ◌^◌}
+use native.Mathlib.Nat.{zero-mul}
+use native.Mathlib.Omega.{arith}
+use mathlib.Core.List.{List, [], ◌∷◌}
+use lib.ListN.{length, drop as rest_of}
+use lib.Seq.{take_at as front_of}
+use seplogic.Ra.Ura.{Ura}
+use base.Fraction.{full_share}
+use base.Logic.{SProp, ent, sep}
+use base.Fml.{Lft, GName, Share, Fml, fsep, flft, fobor, fobs, fauth}
+use mir.Syntax.{named}
+use mir.Val.{Val}
+use types.Logic.{Logic, sem}
+use types.Kit.{⋆, ‵, raw, ◌⊛◌, some, later, ◌$◌, ◌∵◌, !, qed, by, done, move, use1, split, join, group, rewrite, fsplit, fsplit3, fjoin, fjoin3, fpack, flt_i}
+use types.SemTy.{Body, cells}
+use denote.Array.{Array}
+use denote.Follow.{follows}
+use denote.FollowSlice.{Elements, lends_Elements}
+use denote.Index.{row}
+use denote.Memory.{mem, cell_at, part_of}
+use denote.RawPtr.{Ptr, block_ptr}
+use denote.Slice.{Room}
+use Rattle.core.proofs.mem.Param.{El, R, el_x}
+use Rattle.core.proofs.ptr.Rows.{times_below}
+use Rattle.std.specs.List.{refill}
+use Rattle.wasmi_arena.specs.Block.{runs, slots_own, empty}
+use Rattle.wasmi_arena.specs.Slots.{with_items}
+use Rattle.wasmi_arena.proofs.Frame.{SlotsRow, Marker, bytes}
+use Rattle.wasmi_arena.proofs.SlotRuns.{sz, to_cells, of_cells}
+
+-- slots s at the place (rb, ro), whose block begins at (b, o) and none of which was emptied
+module _ (E : El) {M : Type 1} {𝓤 : Ura M} (𝓛 : Logic 𝓤) (s : (SlotsRow E).Denot) (vs : List Val) (rb ro b o : ℕ) (at : s.block ≡ block_ptr b o) (none_taken : s.taken ≡ 0) (small : bytes E s < 2 ^ 63) (few : length s.items < 2 ^ 64) where
+  open 𝓛 use {H, A}
+
+  -- what the slots are once ws was written to their items
+  abbrev pub written : List (el_x E) → (SlotsRow E).Denot
+  written ws = with_items s (refill (length s.items) s.items ws)
+
+  -- the slots without items, and the value without bytes
+  abbrev pub beside_items : Fml
+  beside_items = fsep (fsep (empty (R E) s.taken b o) (empty (R E) s.free b ((s.taken + length s.items) * sz E + o))) (fsep ((Marker E).own_val (tt, tt) vs) (cell_at full_share (SlotsRow E).mir vs rb ro))
+
+  pub from_start : s.taken * sz E + o ≡ o
+  from_start = ap (λ n. n * sz E + o) none_taken ∙ omega (arith, zero-mul (sz E))
+
+  pub room_for_items : Room (R E) (length s.items)
+  room_for_items =
+      (few, times_below (length s.items) (s.taken + length s.items + s.free) (sz E) (2 ^ 63) (omega arith) small)
+
+  -- the items are put back among the slots
+  pub items_back : (ws : List (el_x E)) → length ws ≡ length s.items → ent 𝓤 (sep 𝓤 (sem 𝓛 (cells (mem (R E)) ws b o)) (sem 𝓛 beside_items)) (sem 𝓛 ((mem (SlotsRow E)).own_at (written ws) rb ro))
+  unfolding part_of
+  items_back ws same =
+      let size = sz E in
+      let last : ws ≡ refill (length s.items) s.items ws = sym (front_of ws (rest_of (length ws) s.items) (length s.items) same) in
+      let past : (s.taken + length s.items) * size + o ≡ (s.taken + length ws) * size + o = ap (λ n. (s.taken + n) * size + o) (sym same) in
+      let fits : (s.taken + length ws + s.free) * size < 2 ^ 63 = subst (λ n. (s.taken + n + s.free) * size < 2 ^ 63) (sym same) small in
+      qed 𝓛 (‵ (cells (mem (R E)) ws b o) ∷ ‵ beside_items ∷ []) ∵ use1 𝓛 (‵ (row (R E) full_share ws b o)) (of_cells E 𝓛 b o ws o) $
+      rewrite ! 0 (λ (from : ℕ). ‵ (row (R E) full_share ws b from)) (sym from_start) refl $ move ! (1 ∷ []) $ fsplit3 ! $ fsplit ! $ move ! (1 ∷ []) $
+      rewrite ! 0 (λ (from : ℕ). ‵ (empty (R E) s.free b from)) past refl $ move ! (4 ∷ 1 ∷ 0 ∷ []) $ fjoin3 ! $
+      flt_i ! ((s.taken + length ws + s.free) * size) (2 ^ 63) fits $ fjoin ! $
+      rewrite ! 0 (λ (p : Ptr). ‵ (slots_own (R E) p s.taken ws s.free)) (sym at) refl $ rewrite ! 0 (λ (xs : List (el_x E)). ‵ (slots_own (R E) s.block s.taken xs s.free)) last refl $
+      move ! (1 ∷ 0 ∷ []) $ fjoin ! $ move ! (1 ∷ 0 ∷ []) $ fjoin ! $
+      fpack ! (List Val) (λ us. fsep (cell_at full_share (SlotsRow E).mir us rb ro) ((SlotsRow E).own_val (written ws) us)) vs $ done !
+
+  module _ (κ : Lft) (q : Share) (γ : GName) where
+    -- the items as a slice lent for κ, whose name is δ, and what the slots are afterwards
+    abbrev pub Lent : GName → SProp 𝓤
+    Lent = Elements 𝓛 (SlotsRow E) (R E) written (named 0) κ q rb ro b o γ s.items room_for_items (sem 𝓛 beside_items) items_back
+
+    pub lends_all : ent 𝓤 (⋆ 𝓛 (‵ (runs (R E) b o s.taken s.items s.free) ∷ ‵ ((Marker E).own_val (tt, tt) vs) ∷ ‵ (cell_at full_share (SlotsRow E).mir vs rb ro)
+        ∷ ‵ (fobor κ q (Body (mem (SlotsRow E)) rb ro γ)) ∷ ‵ (fobs γ ((SlotsRow E).coded.code s)) ∷ ‵ (fauth γ ((SlotsRow E).coded.code s)) ∷ [])) (⋆ 𝓛 (later (some (λ (δ : GName). raw (Lent δ))) ∷ []))
+    lends_all =
+        let code = (SlotsRow E).coded.code s in
+        qed 𝓛 (‵ (runs (R E) b o s.taken s.items s.free) ∷ ‵ ((Marker E).own_val (tt, tt) vs) ∷ ‵ (cell_at full_share (SlotsRow E).mir vs rb ro)
+        ∷ ‵ (fobor κ q (Body (mem (SlotsRow E)) rb ro γ)) ∷ ‵ (fobs γ code) ∷ ‵ (fauth γ code) ∷ []) ∵
+        fsplit ! $ rewrite ! 0 (λ (from : ℕ). ‵ (row (R E) full_share s.items b from)) from_start refl $ use1 𝓛 (‵ (cells (mem (R E)) s.items b o)) (to_cells E 𝓛 b o s.items o) $
+        move ! (1 ∷ 2 ∷ 3 ∷ []) $ fjoin3 ! $ move ! (2 ∷ 3 ∷ 4 ∷ 1 ∷ 0 ∷ []) $ group ! 5 $
+        by ! (lends_Elements 𝓛 (SlotsRow E) (R E) written (named 0) κ q rb ro b o γ s.items room_for_items (sem 𝓛 beside_items) items_back code code)

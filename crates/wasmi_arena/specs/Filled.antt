@@ -1,0 +1,13 @@
+-- How the fields of a bucket agree. No public clause cites this module.
+use Rattle.std.specs.Prelude.{◌≡◌, ℕ, ◌+◌, ◌<◌, length}
+use Rattle.wasmi_arena.specs.declared.block.BlockPtr.{BlockPtr}
+use Rattle.wasmi_arena.specs.declared.block.Slots.{Slots}
+use Rattle.wasmi_arena.specs.declared.block.DeallocRight.{DeallocRight}
+use Rattle.wasmi_arena.specs.Slots.{IsOneBlock}
+
+-- one block of so many slots, of which the first `len` hold the items and the rest are free
+pub record IsFilledBlock {T A : Type 0} (ptr : BlockPtr T) (len capacity : ℕ) (slots : Slots T) (right : DeallocRight T A) (alloc : A) : Type 0 where
+  pub one : IsOneBlock ptr slots right capacity alloc
+  pub none_taken : slots.taken ≡ 0
+  pub items_counted : len ≡ length slots.items
+  pub rest_free : len + slots.free ≡ capacity
