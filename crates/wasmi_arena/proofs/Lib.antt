@@ -1,7 +1,7 @@
 pub mod Buckets
 pub mod Rows
 pub mod Vectors
-pub mod Steps
+pub mod Arena
 pub mod EntryLemmas
 pub mod Blocks
 pub mod Parts

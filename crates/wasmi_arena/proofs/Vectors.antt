@@ -8,7 +8,7 @@ use Rattle.wasmi_arena.specs.Geometry.{size, start, max_len, IsPlace, IsFewest, 
 use Rattle.wasmi_arena.specs.Bucket.{Bucket}
 use Rattle.wasmi_arena.specs.StableVec.{bucket_at}
 use Rattle.wasmi_arena.specs.Table.{items_of, held, row_with, row_of, IsTable, AreFilled, IsLaidOut, IsAhead}
-use Rattle.wasmi_arena.proofs.Buckets.{start-size, size-suc, size_pos, start_mono, start_below, fewest_is, fewest_is_least, below_of_start, fewest_of_place, fewest_of_none}
+use Rattle.wasmi_arena.proofs.Buckets.{start-size, size-suc, start_mono, start_below, fewest_is_least, below_of_start}
 use Rattle.wasmi_arena.proofs.Rows.{row_at, items_of-table, table-push, table-take, table-filled, table_of_none}
 
 module _ {T : Type 0} where

@@ -1,7 +1,7 @@
 //! An arena whose items stay in their slots.
-ghost use Rattle.std.specs.Prelude.{◌≡◌, ◌<◌, ◌≤◌, ◌==◌, ◌↔◌, ◌⊎◌, [], ◌∷◌, ◌++◌, length, IfOk, IfErr, OnOk, OnErr, IsErrOf, IsOk, true, slice_get, Some};
+ghost use Rattle.std.specs.Prelude.{◌≡◌, ◌<◌, ◌≤◌, ◌==◌, ◌↔◌, ◌⊎◌, [], ◌∷◌, ◌++◌, length, IfOk, IfErr, OnOk, OnErr, IsErrOf, IsOk, slice_get, Some};
 ghost use Rattle.wasmi_arena.specs.Geometry.{max_len, room};
-ghost use Rattle.wasmi_arena.specs.Arena.{most_items};
+ghost use Rattle.wasmi_arena.specs.Arena.{stable_limit};
 ghost use Rattle.wasmi_arena.specs.Entries.{entries};
 
 mod iter;
@@ -22,16 +22,16 @@ pub struct StableArena<Key: ArenaKey, T, A: Allocator = Global> {
 }
 
 impl<Key: ArenaKey, T, A: Allocator> Model for StableArena<Key, T, A> {
-    ghost use Rattle.std.specs.Prelude.{List, ◌≤◌, length, true};
+    ghost use Rattle.std.specs.Prelude.{List, ◌≤◌, length};
 
     ghost Value = { List T };
 
-    ghost use Rattle.wasmi_arena.specs.Arena.{most_items};
+    ghost use Rattle.wasmi_arena.specs.Arena.{stable_limit};
 
     ghost view = { λ arena. arena.items };
 
     // Each position has a key.
-    ghost invariant = { λ arena. length arena.items ≤ most_items Key.keys true };
+    ghost invariant = { λ arena. length arena.items ≤ stable_limit Key.keys };
 }
 
 impl<Key: ArenaKey, T, A: Allocator> StableArena<Key, T, A> {
@@ -48,7 +48,7 @@ impl<Key: ArenaKey, T, A: Allocator> StableArena<Key, T, A> {
     /// The number of items. Constant time.
     pub fn len(&self) -> usize
         ensures value { result ≡ length self.now }
-        ensures keyed { length self.now ≤ most_items Key.keys true }
+        ensures keyed { length self.now ≤ stable_limit Key.keys }
     {
         self.items.len()
     }
@@ -64,8 +64,8 @@ impl<Key: ArenaKey, T, A: Allocator> StableArena<Key, T, A> {
     /// `NotEnoughKeys` where that is. Constant time, and takes no memory.
     pub fn next_key(&self) -> Result<Key, ArenaError>
         ensures key { IfOk result (λ key. key ≡ Key.keys.key (length self.now)) }
-        ensures has_key { OnOk result (length self.now < most_items Key.keys true) }
-        ensures no_key { IsErrOf result ArenaError.NotEnoughKeys ↔ (most_items Key.keys true ≤ length self.now) }
+        ensures has_key { OnOk result (length self.now < stable_limit Key.keys) }
+        ensures no_key { IsErrOf result ArenaError.NotEnoughKeys ↔ (stable_limit Key.keys ≤ length self.now) }
         ensures error { IfErr result (λ error. error ≡ ArenaError.NotEnoughKeys) }
     {
         let index = self.len();
@@ -87,11 +87,11 @@ impl<Key: ArenaKey, T, A: Allocator> StableArena<Key, T, A> {
         A: Clone,
         ensures key { IfOk result (λ key. key ≡ Key.keys.key (length self.old)) }
         ensures ok { OnOk result (self.new ≡ self.old ++ item ∷ []) }
-        ensures has_key { OnOk result (length self.old < most_items Key.keys true) }
-        ensures no_key { IsErrOf result ArenaError.NotEnoughKeys ↔ (most_items Key.keys true ≤ length self.old) }
+        ensures has_key { OnOk result (length self.old < stable_limit Key.keys) }
+        ensures no_key { IsErrOf result ArenaError.NotEnoughKeys ↔ (stable_limit Key.keys ≤ length self.old) }
         ensures memory { IsErrOf result ArenaError.OutOfSystemMemory → room (length self.old) ≡ 0 }
         ensures errors { IfErr result (λ error. (error ≡ ArenaError.NotEnoughKeys) ⊎ (error ≡ ArenaError.OutOfSystemMemory)) }
-        ensures with_room { length self.old < most_items Key.keys true → 0 < room (length self.old) → IsOk result }
+        ensures with_room { length self.old < stable_limit Key.keys → 0 < room (length self.old) → IsOk result }
         ensures err { OnErr result (self.new ≡ self.old) }
     {
         let key = self.next_key()?;

@@ -1,6 +1,4 @@
-use Rattle.std.proofs.Common.{◌≤◌, arith}
-use Rattle.std.proofs.lemmas.Result.{err_from_is_err_and}
-use Rattle.wasmi_arena.specs.Geometry.{max_len}
+use Rattle.std.proofs.Common.{arith}
 use Rattle.wasmi_arena.proofs.Vectors.{row_free, row_size, no_room, full_no_room, items_with_one, laid_out_with_one}
 use Rattle.wasmi_arena.proofs.stable_vec.StableVec.push.Goals as goal
 
