@@ -6,7 +6,7 @@ use Rattle.wasmi_arena.specs.Keys.{Keys}
 use Rattle.wasmi_arena.specs.Arena.{ArenaState, AllocatesItem, ArenaStep, ArenaRun, RefusesItem, stable_limit, stable_state}
 use Rattle.wasmi_arena.specs.declared.error.ArenaError.{ArenaError}
 use Rattle.wasmi_arena.specs.declared.error.ArenaError.TheVariants.{NotEnoughKeys, OutOfSystemMemory}
-use Rattle.wasmi_arena.proofs.Buckets.{room-add-one}
+use Rattle.wasmi_arena.proofs.Geometry.{room-add-one}
 use Rattle.wasmi_arena.specs.declared.run.ArenaCommand.{ArenaCommand}
 use Rattle.wasmi_arena.specs.declared.run.ArenaReply.{ArenaReply}
 

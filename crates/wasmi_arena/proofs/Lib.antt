@@ -1,8 +1,8 @@
-pub mod Buckets
-pub mod Rows
-pub mod Vectors
+pub mod Geometry
+pub mod Table
+pub mod LaidOut
 pub mod Arena
-pub mod EntryLemmas
+pub mod Entries
 pub mod Blocks
 pub mod Parts
 pub mod Sharing

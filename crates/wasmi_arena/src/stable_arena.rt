@@ -1,5 +1,5 @@
 //! An arena whose items stay in their slots.
-ghost use Rattle.std.specs.Prelude.{◌≡◌, ◌<◌, ◌≤◌, ◌==◌, ◌↔◌, ◌⊎◌, [], ◌∷◌, ◌++◌, length, IfOk, IfErr, OnOk, OnErr, IsErrOf, IsOk, slice_get, Some};
+ghost use Rattle.std.specs.Prelude.{◌≡◌, ◌<◌, ◌≤◌, ◌==◌, ◌↔◌, ◌⊎◌, [], ◌∷◌, ◌++◌, length, IfOk, IfErr, OnOk, OnErr, IsErrOf, IsOk, IsOkUnless, slice_get, Some};
 ghost use Rattle.wasmi_arena.specs.Geometry.{max_len, room};
 ghost use Rattle.wasmi_arena.specs.Arena.{stable_limit};
 ghost use Rattle.wasmi_arena.specs.Entries.{entries};
@@ -66,7 +66,7 @@ impl<Key: ArenaKey, T, A: Allocator> StableArena<Key, T, A> {
         ensures key { IfOk result (λ key. key ≡ Key.keys.key (length self.now)) }
         ensures has_key { OnOk result (length self.now < stable_limit Key.keys) }
         ensures no_key { IsErrOf result ArenaError.NotEnoughKeys ↔ (stable_limit Key.keys ≤ length self.now) }
-        ensures error { IfErr result (λ error. error ≡ ArenaError.NotEnoughKeys) }
+        ensures errors { IsOkUnless result ArenaError.NotEnoughKeys }
     {
         let index = self.len();
         if index >= MAX_LEN {
@@ -90,8 +90,10 @@ impl<Key: ArenaKey, T, A: Allocator> StableArena<Key, T, A> {
         ensures has_key { OnOk result (length self.old < stable_limit Key.keys) }
         ensures no_key { IsErrOf result ArenaError.NotEnoughKeys ↔ (stable_limit Key.keys ≤ length self.old) }
         ensures memory { IsErrOf result ArenaError.OutOfSystemMemory → room (length self.old) ≡ 0 }
-        ensures errors { IfErr result (λ error. (error ≡ ArenaError.NotEnoughKeys) ⊎ (error ≡ ArenaError.OutOfSystemMemory)) }
-        ensures with_room { length self.old < stable_limit Key.keys → 0 < room (length self.old) → IsOk result }
+        ensures errors { IfErr result (λ error. (error ≡ ArenaError.NotEnoughKeys)
+            ⊎ (error ≡ ArenaError.OutOfSystemMemory)) }
+        ensures with_room { length self.old < stable_limit Key.keys → 0 < room (length self.old)
+            → IsOk result }
         ensures err { OnErr result (self.new ≡ self.old) }
     {
         let key = self.next_key()?;
@@ -103,7 +105,7 @@ impl<Key: ArenaKey, T, A: Allocator> StableArena<Key, T, A> {
     pub fn get(&self, key: Key) -> Result<&T, ArenaError>
         ensures item { IfOk result (λ item. slice_get self.now (Key.keys.number key) ≡ Some item.now) }
         ensures out_of_bounds { IsErrOf result ArenaError.KeyOutOfBounds ↔ (length self.now ≤ Key.keys.number key) }
-        ensures error { IfErr result (λ error. error ≡ ArenaError.KeyOutOfBounds) }
+        ensures errors { IsOkUnless result ArenaError.KeyOutOfBounds }
     {
         self.items
             .get(key.into_usize())

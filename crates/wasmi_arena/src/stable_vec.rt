@@ -1,9 +1,9 @@
 //! A vector whose items stay in the slots that they were pushed into.
-ghost use Rattle.std.specs.Prelude.{◌≡◌, ◌+◌, ◌<◌, ◌≤◌, ◌==◌, ◌↔◌, [], ◌∷◌, ◌++◌, length, IfOk, IfErr, OnOk, OnErr, IsOk, IsErrOf, ◌⊎◌, option_copied, slice_get, slice_index_or, slice_set, Some, None};
+ghost use Rattle.std.specs.Prelude.{◌≡◌, ◌+◌, ◌<◌, ◌≤◌, ◌==◌, ◌↔◌, [], ◌∷◌, ◌++◌, length, IfOk, IfErr, OnOk, OnErr, IsOk, IsOkUnless, IsErrOf, ◌⊎◌, option_copied, slice_get, slice_index_or, slice_set, Some, None};
+ghost use Rattle.std.specs.Option.{ForSome};
 ghost use Rattle.wasmi_arena.specs.Geometry.{size, start, max_len, IsPlace, IsFewest, fewest, slots, room, bucket_of, slot_of};
 ghost use Rattle.wasmi_arena.specs.StableVec.{bucket_at};
-ghost use Rattle.wasmi_arena.specs.Bucket.{Bucket as Shelf};
-ghost use Rattle.wasmi_arena.specs.Table.{held, row_with};
+ghost use Rattle.wasmi_arena.specs.Table.{items_in, bucket_with};
 
 mod iter;
 
@@ -69,21 +69,25 @@ fn push_into<T: Drop, A: Allocator + Clone>(
     alloc: &A,
     value: T,
 ) -> Result<(), ArenaError>
-    requires bucket { (bucket < length buckets.old) × (bucket < 27) }
-    requires free { length (held (slice_index_or buckets.old bucket None)) < size bucket }
-    requires same { (b : Shelf T) → slice_index_or buckets.old bucket None ≡ Some b → b.capacity ≡ size bucket }
-    ensures ok { OnOk result (buckets.new ≡ slice_set buckets.old bucket (row_with (size bucket) (slice_index_or buckets.old bucket None) value)) }
-    ensures error { IfErr result (λ error. error ≡ ArenaError.OutOfSystemMemory) }
-    ensures err { OnErr result ((buckets.new ≡ buckets.old) × (slice_index_or buckets.old bucket None ≡ None)) }
+    requires in_table { bucket < length buckets.old }
+    requires exists { bucket < 27 }
+    requires free { length (items_in (slice_index_or buckets.old bucket None)) < size bucket }
+    requires capacity { ForSome (slice_index_or buckets.old bucket None)
+        (λ b. b.capacity ≡ size bucket) }
+    ensures ok { OnOk result (buckets.new ≡ slice_set buckets.old bucket
+        (bucket_with (size bucket) (slice_index_or buckets.old bucket None) value)) }
+    ensures errors { IsOkUnless result ArenaError.OutOfSystemMemory }
+    ensures err { OnErr result (buckets.new ≡ buckets.old) }
+    ensures shut { OnErr result (slice_index_or buckets.old bucket None ≡ None) }
 {
-    let row = &mut buckets[bucket];
-    match row {
+    let target = &mut buckets[bucket];
+    match target {
         Some(open) => open.push(value),
         None => {
             let capacity = StableVec::<T>::size_of_bucket_at(bucket);
             let mut opened = Bucket::open(alloc.clone()?, capacity)?;
             opened.push(value);
-            *row = Some(opened);
+            *target = Some(opened);
         }
     }
     Ok(())
@@ -213,7 +217,8 @@ impl<T, A: Allocator> StableVec<T, A> {
         ensures ok { OnOk result (self.new ≡ self.old ++ value ∷ []) }
         ensures full { IsErrOf result ArenaError.NotEnoughKeys ↔ (max_len ≤ length self.old) }
         ensures memory { IsErrOf result ArenaError.OutOfSystemMemory → room (length self.old) ≡ 0 }
-        ensures errors { IfErr result (λ error. (error ≡ ArenaError.NotEnoughKeys) ⊎ (error ≡ ArenaError.OutOfSystemMemory)) }
+        ensures errors { IfErr result (λ error. (error ≡ ArenaError.NotEnoughKeys)
+            ⊎ (error ≡ ArenaError.OutOfSystemMemory)) }
         ensures with_room { 0 < room (length self.old) → IsOk result }
         ensures err { OnErr result (self.new ≡ self.old) }
     {

@@ -119,15 +119,15 @@ fn items_without_size(rt: HostRuntime) -> Result<(), Fail> {
     Ok(())
 }
 
-// Tells which items were dropped: how many, and the sum of their numbers.
-struct Told<'a> {
+// Counts the items that are dropped, and adds up their numbers.
+struct DropCount<'a> {
     drops: &'a Cell<(u32, u32)>,
     number: u32,
 }
 
-impl Drop for Told<'_> {
+impl Drop for DropCount<'_> {
     fn drop(self) {
-        let Told { drops, number } = self;
+        let DropCount { drops, number } = self;
         let (count, sum) = drops.get();
         drops.set((count.wrapping_add(1), sum.wrapping_add(number)));
     }
@@ -138,7 +138,7 @@ fn each_item_is_dropped_once(rt: HostRuntime) -> Result<(), Fail> {
     let drops = Cell::new((0, 0));
     let mut vec = StableVec::new(rt.alloc());
     for number in 0..100 {
-        vec.push(Told {
+        vec.push(DropCount {
             drops: &drops,
             number,
         })?;
