@@ -1,5 +1,5 @@
 -- What the fields of a stable vector tell, once they agree.
-use Rattle.std.proofs.Common.{◌≡◌, ℕ, ◌+◌, ◌-◌, ◌*◌, ◌^◌, ◌<◌, ◌≤◌, List, [], ◌∷◌, ◌++◌, length, take, drop, get_or, set, Option, Some, None, cond, refl, sym, ◌∙◌, ap, inl, inr, arith, lit<, length-append, length-drop, slice_get, MatchOption}
+use Rattle.std.proofs.Common.{◌≡◌, ℕ, ◌+◌, ◌-◌, ◌*◌, ◌^◌, ◌<◌, ◌≤◌, List, [], ◌∷◌, ◌++◌, length, take, drop, get_or, set, Option, Some, None, cond, refl, sym, ◌∙◌, ap, inl, inr, arith, lit<, length-append, length-drop, slice_get, IsSomeAnd}
 use Rattle.std.proofs.lemmas.Bool.{cases_lt, lt-ltb, le-ltb}
 use Rattle.std.proofs.Math.ListN.{length-set, drop_of_length-le}
 use Rattle.std.proofs.lemmas.List.{get_or_default, take_all, length-take, get_or-take, get_or-drop}
@@ -162,7 +162,7 @@ module _ {T : Type 0} where
       slice_get-get_or (take n (drop m (x ∷ xs))) s x there ∙ (ap Some same ∙ sym (slice_get-get_or (x ∷ xs) i x below))
 
   -- an item lies in the slot of its index
-  pub slice_get-bucket_at : (items : List T) (i b s : ℕ) → length items ≤ max_len → i < length items → IsPlace i b s → MatchOption (bucket_at items b) ⊥ (λ bucket. slice_get bucket.items s ≡ slice_get items i)
+  pub slice_get-bucket_at : (items : List T) (i b s : ℕ) → length items ≤ max_len → i < length items → IsPlace i b s → IsSomeAnd (bucket_at items b) (λ bucket. slice_get bucket.items s ≡ slice_get items i)
   slice_get-bucket_at items i b s small below place =
       let enough = (fewest_is_least (length items) small).enough in
       let needed : b < fewest (length items) = below_of_start b (fewest (length items)) (length items) (omega (arith, place.index_is)) enough in

@@ -30,10 +30,11 @@ IsStableState state = state.room ≡ room (length state.items)
 abbrev pub ArenaUnchanged : {T : Type 0} → ArenaState T → ArenaState T → Type 0
 ArenaUnchanged old new = (new.items ≡ old.items) × (old.room ≤ new.room)
 
--- An arena has one key type, holds at most `limit` items, and may be in the states that `IsState` says.
+-- An arena has one type of keys, and holds at most `limit` items.
 module _ {K T : Type 0} (keys : Keys K) (limit : ℕ) where
   -- an item goes to the end, under the key of its position, and takes one place of the room
-  pub record AllocatesItem (old : ArenaState T) (item : T) (key : K) (new : ArenaState T) : Type 0 where
+  pub record AllocatesItem (old : ArenaState T) (item : T) (key : K) (new : ArenaState T)
+      : Type 0 where
     pub has_key : length old.items < limit
     pub key_is : key ≡ keys.key (length old.items)
     pub items_are : new.items ≡ old.items ++ item ∷ []
@@ -57,11 +58,13 @@ module _ {K T : Type 0} (keys : Keys K) (limit : ℕ) where
   ArenaStep old (Has key) (Key other) new = ⊥
   ArenaStep old (Has key) (Refused error) new = ⊥
 
-  -- the arena may give these replies to these commands, one step after another, and is in one of its states
-  -- before, between and after them
-  abbrev pub ArenaRun : (ArenaState T → Type 0) → ArenaState T → List (ArenaCommand K T) → List (ArenaReply K) → ArenaState T → Type 0
+  -- the arena may give these replies to these commands, one step after another. Before, between and
+  -- after them it is in a state in which it may be: one of `IsState`.
+  abbrev pub ArenaRun : (ArenaState T → Type 0)
+      → ArenaState T → List (ArenaCommand K T) → List (ArenaReply K) → ArenaState T → Type 0
   ArenaRun IsState old [] [] new = IsState old × (new ≡ old)
   ArenaRun IsState old (command ∷ commands) (reply ∷ replies) new =
-      IsState old × ((next : ArenaState T) × ArenaStep old command reply next × ArenaRun IsState next commands replies new)
+      IsState old × ((next : ArenaState T) × ArenaStep old command reply next
+      × ArenaRun IsState next commands replies new)
   ArenaRun IsState old [] (reply ∷ replies) new = ⊥
   ArenaRun IsState old (command ∷ commands) [] new = ⊥

@@ -1,4 +1,5 @@
--- How a stable vector lays out its items: in a table of buckets, each open or not. No public clause cites this module.
+-- How a stable vector lays out its items: in a table of buckets, each open or not. No public clause
+-- cites this module.
 use Rattle.std.specs.Prelude.{◌≡◌, ℕ, ◌+◌, ◌*◌, ◌<◌, ◌≤◌, List, [], ◌∷◌, ◌++◌, length, take, drop, Option, Some, None}
 use Rattle.wasmi_arena.specs.Geometry.{max_len}
 use Rattle.wasmi_arena.specs.Bucket.{Bucket}
@@ -17,17 +18,20 @@ module _ {T : Type 0} where
 
   -- a bucket of so many slots after one more item at its end
   abbrev pub bucket_with : ℕ → Option (Bucket T) → T → Option (Bucket T)
-  bucket_with capacity bucket item = Some record { items = items_in bucket ++ item ∷ []; capacity = capacity }
+  bucket_with capacity bucket item =
+      Some record { items = items_in bucket ++ item ∷ []; capacity = capacity }
 
-  -- the bucket of `width` slots that holds the first of these items: not open where there are no items
+  -- the bucket of `width` slots that holds the first of these items, and isn't open where there are
+  -- none
   abbrev pub bucket_from : ℕ → List T → Option (Bucket T)
   bucket_from width [] = None
   bucket_from width (x ∷ xs) = Some record { items = take width (x ∷ xs); capacity = width }
 
-  -- the table holds these items: its first bucket has `width` slots, and each next one twice as many
+  -- the table holds these items: its first bucket has `width` slots, each next one twice as many
   abbrev pub IsTable : ℕ → List T → List (Option (Bucket T)) → Type 0
   IsTable width items [] = items ≡ []
-  IsTable width items (bucket ∷ buckets) = (bucket ≡ bucket_from width items) × IsTable (2 * width) (drop width items) buckets
+  IsTable width items (bucket ∷ buckets) =
+      (bucket ≡ bucket_from width items) × IsTable (2 * width) (drop width items) buckets
 
   -- each bucket is open and has an item
   abbrev pub AreFilled : List (Option (Bucket T)) → Type 0
@@ -42,8 +46,9 @@ module _ {T : Type 0} where
     pub items_counted : len ≡ length (items_of buckets)
     pub few_items : len ≤ max_len
 
-  -- an iterator has these items of one bucket left, and then these buckets, which hold `behind` items
-  pub record IsAhead (front : List T) (buckets : List (Option (Bucket T))) (behind : ℕ) : Type 0 where
+  -- an iterator has these items of one bucket left, and then these buckets, which hold `behind` more
+  pub record IsAhead (front : List T) (buckets : List (Option (Bucket T))) (behind : ℕ)
+      : Type 0 where
     pub filled : AreFilled buckets
     pub counted : behind ≡ length (items_of buckets)
     pub few : length front + behind ≤ max_len

@@ -7,7 +7,7 @@ use std::alloc::{AllocError, AllocFailed};
 use std::error::Error;
 use std::fmt;
 
-/// Why a call on an arena was refused. The value that it was called on has the same items as before.
+/// Why a call on an arena was refused. The value that it was called on has the items that it had.
 #[derive(Clone, Copy, Debug, PartialEq, Eq)]
 pub enum ArenaError {
     /// A growth was refused for want of memory.

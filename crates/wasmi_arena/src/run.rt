@@ -1,5 +1,5 @@
 //! Commands to an arena, and their replies.
-ghost use Rattle.std.specs.Prelude.{◌≡◌, IfOk, IsOkUnless, OnErr};
+ghost use Rattle.std.specs.Prelude.{◌≡◌, [], IfOk, IsOk, IsOkUnless, OnErr};
 ghost use Rattle.wasmi_arena.specs.Arena.{stable_limit, stable_state, IsStableState, ArenaStep, ArenaRun};
 
 use crate::{ArenaError, ArenaKey, StableArena};
@@ -42,11 +42,11 @@ fn perform<Key: ArenaKey, T: Drop, A: Allocator + Clone>(
     }
 }
 
-/// Makes the calls that the commands ask for, one after the other, and answers one reply a command.
+/// Makes the calls that the commands ask for, one after the other, and returns one reply for each.
 ///
-/// A refused command is replied to as `Refused`, and the run goes on. Room for all replies is asked of
-/// `alloc` before the first command; where that is refused, the answer is `OutOfSystemMemory`, no
-/// command ran, and the commands are dropped.
+/// A refused command is replied to as `Refused`, and the run goes on. Memory for all replies is asked
+/// of `alloc` before the first command. Where it gives none the run fails with `OutOfSystemMemory`:
+/// no command ran, and the commands are dropped.
 pub fn run_arena<Key: ArenaKey, T: Drop, A: Allocator + Clone, B: Allocator>(
     alloc: B,
     arena: &mut StableArena<Key, T, A>,
@@ -56,6 +56,7 @@ pub fn run_arena<Key: ArenaKey, T: Drop, A: Allocator + Clone, B: Allocator>(
         (stable_state arena.old) commands.items replies.items (stable_state arena.new)) }
     ensures errors { IsOkUnless result ArenaError.OutOfSystemMemory }
     ensures err { OnErr result (arena.new ≡ arena.old) }
+    ensures empty { commands.items ≡ [] → IsOk result }
 {
     let mut replies = Vec::with_capacity(alloc, commands.len())?;
     for command in commands {

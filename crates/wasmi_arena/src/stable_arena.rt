@@ -1,5 +1,6 @@
 //! An arena whose items stay in their slots.
 ghost use Rattle.std.specs.Prelude.{◌≡◌, ◌<◌, ◌≤◌, ◌==◌, ◌↔◌, ◌⊎◌, [], ◌∷◌, ◌++◌, length, IfOk, IfErr, OnOk, OnErr, IsErrOf, IsOk, IsOkUnless, slice_get, Some};
+ghost use Rattle.std.specs.Mem.{type_size};
 ghost use Rattle.wasmi_arena.specs.Geometry.{max_len, room};
 ghost use Rattle.wasmi_arena.specs.Arena.{stable_limit};
 ghost use Rattle.wasmi_arena.specs.Entries.{entries};
@@ -13,8 +14,8 @@ use std::marker::{Model, PhantomData};
 
 /// A list of items, each under the key of its position, which stays where it is for good.
 ///
-/// It is kept in a [`StableVec`], so an item never moves, and at most 4,294,967,264 go in, or as many
-/// as there are keys.
+/// It is kept in a [`StableVec`], so an item never moves. At most 4,294,967,264 items go in, and at
+/// most as many as there are keys.
 #[derive(Drop)]
 pub struct StableArena<Key: ArenaKey, T, A: Allocator = Global> {
     items: StableVec<T, A>,
@@ -65,7 +66,8 @@ impl<Key: ArenaKey, T, A: Allocator> StableArena<Key, T, A> {
     pub fn next_key(&self) -> Result<Key, ArenaError>
         ensures key { IfOk result (λ key. key ≡ Key.keys.key (length self.now)) }
         ensures has_key { OnOk result (length self.now < stable_limit Key.keys) }
-        ensures no_key { IsErrOf result ArenaError.NotEnoughKeys ↔ (stable_limit Key.keys ≤ length self.now) }
+        ensures no_key { IsErrOf result ArenaError.NotEnoughKeys
+            ↔ (stable_limit Key.keys ≤ length self.now) }
         ensures errors { IsOkUnless result ArenaError.NotEnoughKeys }
     {
         let index = self.len();
@@ -88,12 +90,15 @@ impl<Key: ArenaKey, T, A: Allocator> StableArena<Key, T, A> {
         ensures key { IfOk result (λ key. key ≡ Key.keys.key (length self.old)) }
         ensures ok { OnOk result (self.new ≡ self.old ++ item ∷ []) }
         ensures has_key { OnOk result (length self.old < stable_limit Key.keys) }
-        ensures no_key { IsErrOf result ArenaError.NotEnoughKeys ↔ (stable_limit Key.keys ≤ length self.old) }
+        ensures no_key { IsErrOf result ArenaError.NotEnoughKeys
+            ↔ (stable_limit Key.keys ≤ length self.old) }
         ensures memory { IsErrOf result ArenaError.OutOfSystemMemory → room (length self.old) ≡ 0 }
         ensures errors { IfErr result (λ error. (error ≡ ArenaError.NotEnoughKeys)
             ⊎ (error ≡ ArenaError.OutOfSystemMemory)) }
         ensures with_room { length self.old < stable_limit Key.keys → 0 < room (length self.old)
             → IsOk result }
+        ensures without_size { length self.old < stable_limit Key.keys → type_size T.row ≡ 0
+            → ((a : A) → A.is_infallible a) → IsOk result }
         ensures err { OnErr result (self.new ≡ self.old) }
     {
         let key = self.next_key()?;
@@ -103,8 +108,10 @@ impl<Key: ArenaKey, T, A: Allocator> StableArena<Key, T, A> {
 
     /// The item under a key, or `KeyOutOfBounds` where there is none. Constant time.
     pub fn get(&self, key: Key) -> Result<&T, ArenaError>
-        ensures item { IfOk result (λ item. slice_get self.now (Key.keys.number key) ≡ Some item.now) }
-        ensures out_of_bounds { IsErrOf result ArenaError.KeyOutOfBounds ↔ (length self.now ≤ Key.keys.number key) }
+        ensures item { IfOk result (λ item.
+            slice_get self.now (Key.keys.number key) ≡ Some item.now) }
+        ensures out_of_bounds { IsErrOf result ArenaError.KeyOutOfBounds
+            ↔ (length self.now ≤ Key.keys.number key) }
         ensures errors { IsOkUnless result ArenaError.KeyOutOfBounds }
     {
         self.items

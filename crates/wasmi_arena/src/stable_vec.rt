@@ -1,5 +1,6 @@
 //! A vector whose items stay in the slots that they were pushed into.
 ghost use Rattle.std.specs.Prelude.{◌≡◌, ◌+◌, ◌<◌, ◌≤◌, ◌==◌, ◌↔◌, [], ◌∷◌, ◌++◌, length, IfOk, IfErr, OnOk, OnErr, IsOk, IsOkUnless, IsErrOf, ◌⊎◌, option_copied, slice_get, slice_index_or, slice_set, Some, None};
+ghost use Rattle.std.specs.Mem.{type_size};
 ghost use Rattle.std.specs.Option.{ForSome};
 ghost use Rattle.wasmi_arena.specs.Geometry.{size, start, max_len, IsPlace, IsFewest, fewest, slots, room, bucket_of, slot_of};
 ghost use Rattle.wasmi_arena.specs.StableVec.{bucket_at};
@@ -79,6 +80,7 @@ fn push_into<T: Drop, A: Allocator + Clone>(
     ensures errors { IsOkUnless result ArenaError.OutOfSystemMemory }
     ensures err { OnErr result (buckets.new ≡ buckets.old) }
     ensures shut { OnErr result (slice_index_or buckets.old bucket None ≡ None) }
+    ensures without_size { type_size T.row ≡ 0 → A.is_infallible alloc.now → IsOk result }
 {
     let target = &mut buckets[bucket];
     match target {
@@ -220,6 +222,8 @@ impl<T, A: Allocator> StableVec<T, A> {
         ensures errors { IfErr result (λ error. (error ≡ ArenaError.NotEnoughKeys)
             ⊎ (error ≡ ArenaError.OutOfSystemMemory)) }
         ensures with_room { 0 < room (length self.old) → IsOk result }
+        ensures without_size { length self.old < max_len → type_size T.row ≡ 0
+            → ((a : A) → A.is_infallible a) → IsOk result }
         ensures err { OnErr result (self.new ≡ self.old) }
     {
         let index = self.len;
