@@ -1,7 +1,10 @@
-//! What the definitions of `specs/` tell, as contracts of functions without code.
-ghost use Rattle.std.specs.Prelude.{◌≡◌, ℕ, ◌+◌, ◌*◌, ◌<◌, ◌≤◌, [], ◌∷◌, List, length, map, slice_get, IsSomeAnd};
+//! Laws: what the definitions of `specs/` tell, and what derived calls do, as contracts of functions.
+ghost use Rattle.std.specs.Prelude.{◌≡◌, ℕ, ◌+◌, ◌*◌, ◌<◌, ◌≤◌, [], ◌∷◌, List, length, map, slice_get, IsSomeAnd, IsTrue, ◌↔◌, Ok};
 ghost use Rattle.wasmi_arena.specs.Geometry.{size, start, max_len, IsPlace, IsFewest, fewest, slots, room, bucket_of, slot_of};
 ghost use Rattle.wasmi_arena.specs.StableVec.{bucket_at};
+
+use crate::{ArenaError, ArenaReply};
+use std::alloc::AllocError;
 
 /// The 27 buckets, each with its number of slots and its first index.
 pub fn bucket_table()
@@ -76,3 +79,24 @@ pub fn item_is_in_its_slot<T>()
         → IsPlace index b s
         → IsSomeAnd (bucket_at items b) (λ bucket. slice_get bucket.items s ≡ slice_get items index) }
 {}
+
+/// Two refusals are equal where they are the same.
+pub fn equal_errors(a: &ArenaError, b: &ArenaError) -> bool
+    ensures { IsTrue result ↔ (a.now ≡ b.now) }
+{
+    a == b
+}
+
+/// The clone of a refusal is that refusal, and can't fail.
+pub fn clone_of_error(error: &ArenaError) -> Result<ArenaError, AllocError>
+    ensures { result ≡ Ok error.now }
+{
+    error.clone()
+}
+
+/// Two replies are equal where they are the same, if two keys are.
+pub fn equal_replies<Key: PartialEq>(a: &ArenaReply<Key>, b: &ArenaReply<Key>) -> bool
+    ensures { ((x y : Key) → (IsTrue (Key.eq x y) ↔ (x ≡ y))) → (IsTrue result ↔ (a.now ≡ b.now)) }
+{
+    a == b
+}
