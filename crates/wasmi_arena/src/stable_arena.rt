@@ -61,8 +61,8 @@ impl<Key: ArenaKey, T, A: Allocator> StableArena<Key, T, A> {
         self.items.is_empty()
     }
 
-    /// The key that the next [`alloc`](StableArena::alloc) gives its item. Refused with
-    /// `NotEnoughKeys` where that is. Constant time, and takes no memory.
+    /// The key that the next [`alloc`](StableArena::alloc) gives its item, or `NotEnoughKeys` if that
+    /// fails with it. Constant time, and takes no memory.
     pub fn next_key(&self) -> Result<Key, ArenaError>
         ensures key { IfOk result (λ key. key ≡ Key.keys.key (length self.now)) }
         ensures has_key { OnOk result (length self.now < stable_limit Key.keys) }
@@ -77,12 +77,12 @@ impl<Key: ArenaKey, T, A: Allocator> StableArena<Key, T, A> {
         Key::from_usize(index).ok_or(ArenaError::NotEnoughKeys)
     }
 
-    /// Puts an item at the end, and answers its key.
+    /// Puts an item at the end, and returns its key.
     ///
-    /// Refused with `NotEnoughKeys` where there is no key or place for one more, then with
-    /// `OutOfSystemMemory` where a bucket to be opened is refused, and only where
-    /// [`room`](StableArena::room) is 0. After a refusal the arena is as before, and the item is
-    /// dropped. Constant time, but for the opening of a bucket.
+    /// Fails with `NotEnoughKeys` if there is no key or place for one more, and then with
+    /// `OutOfSystemMemory` if a bucket must be opened, which is only where
+    /// [`room`](StableArena::room) is 0, and there is no memory for it. After an error the arena is as
+    /// before, and the item is dropped. Constant time, but for the opening of a bucket.
     pub fn alloc(&mut self, item: T) -> Result<Key, ArenaError>
     where
         T: Drop,
@@ -106,7 +106,7 @@ impl<Key: ArenaKey, T, A: Allocator> StableArena<Key, T, A> {
         Ok(key)
     }
 
-    /// The item under a key, or `KeyOutOfBounds` where there is none. Constant time.
+    /// The item under a key, or `KeyOutOfBounds` if there is none. Constant time.
     pub fn get(&self, key: Key) -> Result<&T, ArenaError>
         ensures item { IfOk result (λ item.
             slice_get self.now (Key.keys.number key) ≡ Some item.now) }

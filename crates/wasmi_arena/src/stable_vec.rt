@@ -25,7 +25,7 @@ pub const MAX_LEN: usize = 4_294_967_264;
 /// The items lie in at most 27 buckets, of 32, 64, 128 and so on slots, which are opened in order,
 /// each when its first item is pushed. So a vector of n items has exactly the fewest buckets with
 /// room for n, and holds at most 4,294,967,264 items. The item at an index lies in the slot that
-/// [`place`](StableVec::place) tells, whatever the length.
+/// [`place`](StableVec::place) gives, whatever the length.
 #[derive(Drop)]
 pub struct StableVec<T, A: Allocator = Global> {
     buckets: [Option<Bucket<T, A>>; BUCKETS],
@@ -183,8 +183,8 @@ impl<T, A: Allocator> StableVec<T, A> {
         }
     }
 
-    /// A bucket as the vector keeps it: its items are the filled part, and its capacity is the number
-    /// of its slots. `None` if it isn't open. Constant time.
+    /// A bucket as the vector keeps it: its items are the filled part, and its capacity the number of
+    /// its slots. `None` if it isn't open. Constant time.
     pub fn bucket(&self, bucket: usize) -> Option<&Bucket<T, A>>
         ensures { option_copied result ≡ bucket_at self.now bucket }
     {
@@ -205,12 +205,12 @@ impl<T, A: Allocator> StableVec<T, A> {
         }
     }
 
-    /// Puts an item at the end, and answers its index.
+    /// Puts an item at the end, and returns its index.
     ///
-    /// A bucket is opened only where [`room`](StableVec::room) is 0; no item moves. Refused with
-    /// `NotEnoughKeys` where the vector is full, then with `OutOfSystemMemory` where the bucket to be
-    /// opened is refused. After a refusal the vector is as before, and the item is dropped. Constant
-    /// time, but for the opening.
+    /// A bucket is opened only where [`room`](StableVec::room) is 0; no item moves. Fails with
+    /// `NotEnoughKeys` if the vector is full, and then with `OutOfSystemMemory` if a bucket must be
+    /// opened and there is no memory for it. After an error the vector is as before, and the item is
+    /// dropped. Constant time, but for the opening.
     pub fn push(&mut self, value: T) -> Result<usize, ArenaError>
     where
         T: Drop,

@@ -119,7 +119,7 @@ fn items_without_size(rt: HostRuntime) -> Result<(), Fail> {
     Ok(())
 }
 
-// Counts the items that are dropped, and adds up their numbers.
+// Counts its drop: how many were dropped so far, and the sum of their numbers.
 struct DropCount<'a> {
     drops: &'a Cell<(u32, u32)>,
     number: u32,
@@ -189,23 +189,61 @@ fn keys_have_their_numbers(rt: HostRuntime) -> Result<(), Fail> {
 
 #[test]
 fn texts_of_the_refusals(rt: HostRuntime) -> Result<(), Fail> {
-    for (error, text) in [
-        (ArenaError::OutOfSystemMemory, "ran out of system memory"),
-        (ArenaError::KeyOutOfBounds, "encounteded out of bounds key"),
-        (ArenaError::NotEnoughKeys, "ran out of valid keys"),
+    for (error, text, debug) in [
+        (
+            ArenaError::OutOfSystemMemory,
+            "ran out of system memory",
+            "OutOfSystemMemory",
+        ),
+        (
+            ArenaError::KeyOutOfBounds,
+            "encounteded out of bounds key",
+            "KeyOutOfBounds",
+        ),
+        (
+            ArenaError::NotEnoughKeys,
+            "ran out of valid keys",
+            "NotEnoughKeys",
+        ),
         (
             ArenaError::AliasingPairAccess,
             "tried to access aliasing item pair",
+            "AliasingPairAccess",
         ),
     ] {
         assert_eq!(rt; error.text(), text);
         let shown = format!(in rt.alloc(); "{error}")?;
         assert_eq!(rt; shown.as_str(), text);
+        let shown = format!(in rt.alloc(); "{error:?}")?;
+        assert_eq!(rt; shown.as_str(), debug);
     }
     assert_eq!(rt;
         ArenaError::from(std::alloc::AllocError),
         ArenaError::OutOfSystemMemory
     );
+    Ok(())
+}
+
+#[test]
+fn debug_texts_of_commands_and_replies(rt: HostRuntime) -> Result<(), Fail> {
+    for (command, text) in [
+        (ArenaCommand::<u32, u8>::Alloc(7), "Alloc(7)"),
+        (ArenaCommand::Has(1), "Has(1)"),
+    ] {
+        let shown = format!(in rt.alloc(); "{command:?}")?;
+        assert_eq!(rt; shown.as_str(), text);
+    }
+    for (reply, text) in [
+        (ArenaReply::Key(0u32), "Key(0)"),
+        (ArenaReply::Has(true), "Has(true)"),
+        (
+            ArenaReply::Refused(ArenaError::NotEnoughKeys),
+            "Refused(NotEnoughKeys)",
+        ),
+    ] {
+        let shown = format!(in rt.alloc(); "{reply:?}")?;
+        assert_eq!(rt; shown.as_str(), text);
+    }
     Ok(())
 }
 
