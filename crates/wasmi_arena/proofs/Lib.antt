@@ -1,8 +1,8 @@
-pub mod Buckets
-pub mod Rows
-pub mod Vectors
-pub mod Steps
-pub mod EntryLemmas
+pub mod Geometry
+pub mod Table
+pub mod LaidOut
+pub mod Arena
+pub mod Entries
 pub mod SlotRuns
 pub mod Frame
 pub mod Sharing

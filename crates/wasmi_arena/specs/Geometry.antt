@@ -30,7 +30,8 @@ abbrev pub least_from : ℕ → ℕ → (ℕ → Bool) → ℕ
 least_from b zero passes = b
 least_from b (suc k) passes = if passes b then b else least_from (suc b) k passes
 
--- the fewest buckets with room for n items, for n up to `max_len`: the least b with n at most `start b`
+-- the fewest buckets with room for n items, for n up to `max_len`: the least b such that n is at
+-- most `start b`
 unfoldable pub fewest : ℕ → ℕ
 fewest n = least_from 0 27 (λ b. nat_le n (start b))
 

@@ -3,7 +3,10 @@ use Rattle.std.specs.Prelude.{ℕ, List, length, take, drop, Option, Some, None,
 use Rattle.wasmi_arena.specs.Bucket.{Bucket}
 use Rattle.wasmi_arena.specs.Geometry.{size, start, fewest}
 
--- bucket b of a vector of these items: what the list holds from `start b` on, the first `size b` of
--- it, if the vector needs that bucket
+-- bucket b of a vector of these items, which is one of the fewest that hold them: what the list holds
+-- from `start b` on, the first `size b` of it. The vector has no other bucket.
 abbrev pub bucket_at : {T : Type 0} → List T → ℕ → Option (Bucket T)
-bucket_at items b = if nat_lt b (fewest (length items)) then Some record { items = take (size b) (drop (start b) items); capacity = size b } else None
+bucket_at items b =
+    if nat_lt b (fewest (length items))
+    then Some record { items = take (size b) (drop (start b) items); capacity = size b }
+    else None

@@ -1,49 +1,54 @@
--- How a stable vector lays out its items. No public clause cites this module.
+-- How a stable vector lays out its items: in a table of buckets, each open or not. No public clause
+-- cites this module.
 use Rattle.std.specs.Prelude.{◌≡◌, ℕ, ◌+◌, ◌*◌, ◌<◌, ◌≤◌, List, [], ◌∷◌, ◌++◌, length, take, drop, Option, Some, None}
 use Rattle.wasmi_arena.specs.Geometry.{max_len}
 use Rattle.wasmi_arena.specs.Bucket.{Bucket}
 
 module _ {T : Type 0} where
-  -- the items of the rows, one row after another
+  -- the items of a table, one bucket after another
   abbrev pub items_of : List (Option (Bucket T)) → List T
   items_of [] = []
-  items_of (None ∷ rows) = items_of rows
-  items_of (Some bucket ∷ rows) = bucket.items ++ items_of rows
+  items_of (None ∷ buckets) = items_of buckets
+  items_of (Some bucket ∷ buckets) = bucket.items ++ items_of buckets
 
-  -- the items of one row
-  abbrev pub held : Option (Bucket T) → List T
-  held None = []
-  held (Some bucket) = bucket.items
+  -- the items of one bucket: none where it isn't open
+  abbrev pub items_in : Option (Bucket T) → List T
+  items_in None = []
+  items_in (Some bucket) = bucket.items
 
-  -- a row of so many slots after one more item at its end
-  abbrev pub row_with : ℕ → Option (Bucket T) → T → Option (Bucket T)
-  row_with capacity row item = Some record { items = held row ++ item ∷ []; capacity = capacity }
+  -- a bucket of so many slots after one more item at its end
+  abbrev pub bucket_with : ℕ → Option (Bucket T) → T → Option (Bucket T)
+  bucket_with capacity bucket item =
+      Some record { items = items_in bucket ++ item ∷ []; capacity = capacity }
 
-  -- the row of `width` slots that begins these items: none where there are no items
-  abbrev pub row_of : ℕ → List T → Option (Bucket T)
-  row_of width [] = None
-  row_of width (x ∷ xs) = Some record { items = take width (x ∷ xs); capacity = width }
+  -- the bucket of `width` slots that holds the first of these items, and isn't open where there are
+  -- none
+  abbrev pub bucket_from : ℕ → List T → Option (Bucket T)
+  bucket_from width [] = None
+  bucket_from width (x ∷ xs) = Some record { items = take width (x ∷ xs); capacity = width }
 
-  -- the rows hold these items: the first row has `width` slots, and each next one twice as many
+  -- the table holds these items: its first bucket has `width` slots, each next one twice as many
   abbrev pub IsTable : ℕ → List T → List (Option (Bucket T)) → Type 0
   IsTable width items [] = items ≡ []
-  IsTable width items (row ∷ rows) = (row ≡ row_of width items) × IsTable (2 * width) (drop width items) rows
+  IsTable width items (bucket ∷ buckets) =
+      (bucket ≡ bucket_from width items) × IsTable (2 * width) (drop width items) buckets
 
-  -- each row has an item
+  -- each bucket is open and has an item
   abbrev pub AreFilled : List (Option (Bucket T)) → Type 0
   AreFilled [] = Unit {0}
-  AreFilled (None ∷ rows) = ⊥
-  AreFilled (Some bucket ∷ rows) = (0 < length bucket.items) × AreFilled rows
+  AreFilled (None ∷ buckets) = ⊥
+  AreFilled (Some bucket ∷ buckets) = (0 < length bucket.items) × AreFilled buckets
 
   -- the fields of a stable vector agree
-  pub record IsLaidOut (rows : List (Option (Bucket T))) (len : ℕ) : Type 0 where
-    pub rows_counted : length rows ≡ 27
-    pub table : IsTable 32 (items_of rows) rows
-    pub items_counted : len ≡ length (items_of rows)
+  pub record IsLaidOut (buckets : List (Option (Bucket T))) (len : ℕ) : Type 0 where
+    pub buckets_counted : length buckets ≡ 27
+    pub table : IsTable 32 (items_of buckets) buckets
+    pub items_counted : len ≡ length (items_of buckets)
     pub few_items : len ≤ max_len
 
-  -- an iterator has these items of one row left, and then these rows, which hold `behind` items
-  pub record IsAhead (front : List T) (rows : List (Option (Bucket T))) (behind : ℕ) : Type 0 where
-    pub filled : AreFilled rows
-    pub counted : behind ≡ length (items_of rows)
+  -- an iterator has these items of one bucket left, and then these buckets, which hold `behind` more
+  pub record IsAhead (front : List T) (buckets : List (Option (Bucket T))) (behind : ℕ)
+      : Type 0 where
+    pub filled : AreFilled buckets
+    pub counted : behind ≡ length (items_of buckets)
     pub few : length front + behind ≤ max_len

@@ -7,12 +7,12 @@ use std::alloc::{AllocError, AllocFailed};
 use std::error::Error;
 use std::fmt;
 
-/// Why a call on an arena was refused. The value that it was called on has the same items as before.
+/// Why a call on an arena was refused. The value that it was called on has the items that it had.
 #[derive(Clone, Copy, Debug, PartialEq, Eq)]
 pub enum ArenaError {
-    /// A growth was refused for want of memory.
+    /// Memory ran out where more was asked for.
     OutOfSystemMemory,
-    /// The key, or the index, reads no item.
+    /// There is no item under the key, or at the index.
     KeyOutOfBounds,
     /// There is no key for one more item, or no slot.
     NotEnoughKeys,

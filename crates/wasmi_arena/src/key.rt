@@ -10,7 +10,7 @@ use std::num::NonZero;
 /// A type of keys, each of which has a number.
 ///
 /// The keys of an arena are those of the numbers 0, 1, 2 and so on, in the order in which its items
-/// came. A type with few keys bounds the arena: past the last key nothing more goes in.
+/// came. A type with few keys bounds the arena: after its last key nothing more goes in.
 pub trait ArenaKey: Copy {
     /// How many keys there are, the key of each number below that, and the number of each key.
     ghost keys: { Keys Self };

@@ -1,18 +1,24 @@
-//! What the definitions of `specs/` tell, as contracts of functions without code.
-ghost use Rattle.std.specs.Prelude.{◌≡◌, ℕ, ◌+◌, ◌*◌, ◌<◌, ◌≤◌, [], ◌∷◌, List, length, map, slice_get, Some, MatchOption};
+//! Laws: what the definitions of `specs/` tell, and what derived calls do, as contracts of functions.
+ghost use Rattle.std.specs.Prelude.{◌≡◌, ℕ, ◌+◌, ◌*◌, ◌<◌, ◌≤◌, [], ◌∷◌, List, length, map, slice_get, IsSomeAnd, IsTrue, ◌↔◌, Ok};
 ghost use Rattle.wasmi_arena.specs.Geometry.{size, start, max_len, IsPlace, IsFewest, fewest, slots, room, bucket_of, slot_of};
 ghost use Rattle.wasmi_arena.specs.StableVec.{bucket_at};
 
+use crate::{ArenaError, ArenaReply};
+use std::alloc::AllocError;
+
 /// The 27 buckets, each with its number of slots and its first index.
 pub fn bucket_table()
-    ensures slots { map size (0 ∷ 1 ∷ 2 ∷ 3 ∷ 4 ∷ 5 ∷ 6 ∷ 7 ∷ 8 ∷ 9 ∷ 10 ∷ 11 ∷ 12 ∷ 13 ∷ 14 ∷ 15 ∷ 16 ∷ 17 ∷ 18 ∷ 19 ∷ 20 ∷ 21 ∷ 22 ∷ 23 ∷ 24 ∷ 25 ∷ 26 ∷ [])
-        ≡ 32 ∷ 64 ∷ 128 ∷ 256 ∷ 512 ∷ 1024 ∷ 2048 ∷ 4096 ∷ 8192 ∷ 16384 ∷ 32768 ∷ 65536 ∷ 131072 ∷ 262144
-        ∷ 524288 ∷ 1048576 ∷ 2097152 ∷ 4194304 ∷ 8388608 ∷ 16777216 ∷ 33554432 ∷ 67108864 ∷ 134217728
-        ∷ 268435456 ∷ 536870912 ∷ 1073741824 ∷ 2147483648 ∷ [] }
-    ensures starts { map start (0 ∷ 1 ∷ 2 ∷ 3 ∷ 4 ∷ 5 ∷ 6 ∷ 7 ∷ 8 ∷ 9 ∷ 10 ∷ 11 ∷ 12 ∷ 13 ∷ 14 ∷ 15 ∷ 16 ∷ 17 ∷ 18 ∷ 19 ∷ 20 ∷ 21 ∷ 22 ∷ 23 ∷ 24 ∷ 25 ∷ 26 ∷ 27 ∷ [])
-        ≡ 0 ∷ 32 ∷ 96 ∷ 224 ∷ 480 ∷ 992 ∷ 2016 ∷ 4064 ∷ 8160 ∷ 16352 ∷ 32736 ∷ 65504 ∷ 131040 ∷ 262112
-        ∷ 524256 ∷ 1048544 ∷ 2097120 ∷ 4194272 ∷ 8388576 ∷ 16777184 ∷ 33554400 ∷ 67108832 ∷ 134217696
-        ∷ 268435424 ∷ 536870880 ∷ 1073741792 ∷ 2147483616 ∷ 4294967264 ∷ [] }
+    ensures slots { map size (0 ∷ 1 ∷ 2 ∷ 3 ∷ 4 ∷ 5 ∷ 6 ∷ 7 ∷ 8 ∷ 9 ∷ 10 ∷ 11 ∷ 12 ∷ 13 ∷ 14 ∷ 15
+        ∷ 16 ∷ 17 ∷ 18 ∷ 19 ∷ 20 ∷ 21 ∷ 22 ∷ 23 ∷ 24 ∷ 25 ∷ 26 ∷ [])
+        ≡ 32 ∷ 64 ∷ 128 ∷ 256 ∷ 512 ∷ 1024 ∷ 2048 ∷ 4096 ∷ 8192 ∷ 16384 ∷ 32768 ∷ 65536 ∷ 131072
+        ∷ 262144 ∷ 524288 ∷ 1048576 ∷ 2097152 ∷ 4194304 ∷ 8388608 ∷ 16777216 ∷ 33554432
+        ∷ 67108864 ∷ 134217728 ∷ 268435456 ∷ 536870912 ∷ 1073741824 ∷ 2147483648 ∷ [] }
+    ensures starts { map start (0 ∷ 1 ∷ 2 ∷ 3 ∷ 4 ∷ 5 ∷ 6 ∷ 7 ∷ 8 ∷ 9 ∷ 10 ∷ 11 ∷ 12 ∷ 13 ∷ 14 ∷ 15
+        ∷ 16 ∷ 17 ∷ 18 ∷ 19 ∷ 20 ∷ 21 ∷ 22 ∷ 23 ∷ 24 ∷ 25 ∷ 26 ∷ 27 ∷ [])
+        ≡ 0 ∷ 32 ∷ 96 ∷ 224 ∷ 480 ∷ 992 ∷ 2016 ∷ 4064 ∷ 8160 ∷ 16352 ∷ 32736 ∷ 65504 ∷ 131040
+        ∷ 262112 ∷ 524256 ∷ 1048544 ∷ 2097120 ∷ 4194272 ∷ 8388576 ∷ 16777184 ∷ 33554400
+        ∷ 67108832 ∷ 134217696 ∷ 268435424 ∷ 536870880 ∷ 1073741792 ∷ 2147483616
+        ∷ 4294967264 ∷ [] }
     ensures max_len { max_len ≡ 4294967264 }
 {}
 
@@ -39,7 +45,8 @@ pub fn place_exists()
 
 /// Each slot of each bucket is the place of an index below `max_len`, and of that one alone.
 pub fn slot_has_one_index()
-    ensures index { (b s : ℕ) → b < 27 → s < size b → IsPlace (start b + s) b s × (start b + s < max_len) }
+    ensures index { (b s : ℕ) → b < 27 → s < size b
+        → IsPlace (start b + s) b s × (start b + s < max_len) }
     ensures alone { (b s i j : ℕ) → IsPlace i b s → IsPlace j b s → i ≡ j }
 {}
 
@@ -51,7 +58,8 @@ pub fn fewest_is_least()
 
 /// Some lengths, and how many buckets these need.
 pub fn fewest_of_some_lengths()
-    ensures { (fewest 0 ≡ 0) × (fewest 1 ≡ 1) × (fewest 32 ≡ 1) × (fewest 33 ≡ 2) × (fewest 96 ≡ 2) × (fewest 97 ≡ 3) × (fewest 4294967264 ≡ 27) }
+    ensures { map fewest (0 ∷ 1 ∷ 32 ∷ 33 ∷ 96 ∷ 97 ∷ 4294967264 ∷ [])
+        ≡ 0 ∷ 1 ∷ 1 ∷ 2 ∷ 2 ∷ 3 ∷ 27 ∷ [] }
 {}
 
 /// A vector of n items has at most 2n + 30 slots, and none where n is 0.
@@ -67,5 +75,28 @@ pub fn room_after_push()
 
 /// An item lies in the slot of its index.
 pub fn item_is_in_its_slot<T>()
-    ensures { (items : List T) (index b s : ℕ) → length items ≤ max_len → index < length items → IsPlace index b s → MatchOption (bucket_at items b) ⊥ (λ bucket. slice_get bucket.items s ≡ slice_get items index) }
+    ensures { (items : List T) (index b s : ℕ) → length items ≤ max_len → index < length items
+        → IsPlace index b s
+        → IsSomeAnd (bucket_at items b) (λ bucket. slice_get bucket.items s ≡ slice_get items index) }
 {}
+
+/// Two refusals are equal where they are the same.
+pub fn equal_errors(a: &ArenaError, b: &ArenaError) -> bool
+    ensures { IsTrue result ↔ (a.now ≡ b.now) }
+{
+    a == b
+}
+
+/// The clone of a refusal is that refusal, and can't fail.
+pub fn clone_of_error(error: &ArenaError) -> Result<ArenaError, AllocError>
+    ensures { result ≡ Ok error.now }
+{
+    error.clone()
+}
+
+/// Two replies are equal where they are the same, if two keys are.
+pub fn equal_replies<Key: PartialEq>(a: &ArenaReply<Key>, b: &ArenaReply<Key>) -> bool
+    ensures { ((x y : Key) → (IsTrue (Key.eq x y) ↔ (x ≡ y))) → (IsTrue result ↔ (a.now ≡ b.now)) }
+{
+    a == b
+}

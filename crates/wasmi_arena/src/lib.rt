@@ -1,4 +1,5 @@
-//! The arenas of the Wasmi interpreter: typed keys, a vector whose items stay in their slots, and an arena over it.
+//! The arenas of the Wasmi interpreter: typed keys, a vector whose items stay in their slots, and an
+//! arena over it.
 #![tactic(auto)]
 
 mod block;

@@ -1,6 +1,6 @@
 //! Commands to an arena, and their replies.
-ghost use Rattle.std.specs.Prelude.{◌≡◌, IfOk, IfErr, OnErr, true};
-ghost use Rattle.wasmi_arena.specs.Arena.{state_of, Step, Run};
+ghost use Rattle.std.specs.Prelude.{◌≡◌, [], IfOk, IsOk, IsOkUnless, OnErr};
+ghost use Rattle.wasmi_arena.specs.Arena.{stable_limit, stable_state, IsStableState, ArenaStep, ArenaRun};
 
 use crate::{ArenaError, ArenaKey, StableArena};
 use std::alloc::Allocator;
@@ -26,11 +26,12 @@ pub enum ArenaReply<Key> {
 }
 
 // Makes one command's call.
-fn reply_to<Key: ArenaKey, T: Drop, A: Allocator + Clone>(
+fn perform<Key: ArenaKey, T: Drop, A: Allocator + Clone>(
     arena: &mut StableArena<Key, T, A>,
     command: ArenaCommand<Key, T>,
 ) -> ArenaReply<Key>
-    ensures { Step Key.keys true (state_of arena.old) command result (state_of arena.new) }
+    ensures { ArenaStep Key.keys (stable_limit Key.keys)
+        (stable_state arena.old) command result (stable_state arena.new) }
 {
     match command {
         ArenaCommand::Alloc(item) => match arena.alloc(item) {
@@ -41,23 +42,25 @@ fn reply_to<Key: ArenaKey, T: Drop, A: Allocator + Clone>(
     }
 }
 
-/// Makes the calls that the commands ask for, one after the other, and answers one reply a command.
+/// Makes the calls that the commands ask for, one after the other, and returns one reply for each.
 ///
-/// A refused command is replied to as `Refused`, and the run goes on. Room for all replies is asked of
-/// `alloc` before the first command; where that is refused, the answer is `OutOfSystemMemory`, no
-/// command ran, and the commands are dropped.
+/// A refused command is replied to as `Refused`, and the run goes on. Memory for all replies is asked
+/// of `alloc` before the first command. Where it gives none the run fails with `OutOfSystemMemory`:
+/// no command ran, and the commands are dropped.
 pub fn run_arena<Key: ArenaKey, T: Drop, A: Allocator + Clone, B: Allocator>(
     alloc: B,
     arena: &mut StableArena<Key, T, A>,
     commands: Vec<ArenaCommand<Key, T>, B>,
 ) -> Result<Vec<ArenaReply<Key>, B>, ArenaError>
-    ensures run { IfOk result (λ replies. Run Key.keys true (state_of arena.old) commands.items replies.items (state_of arena.new)) }
-    ensures error { IfErr result (λ error. error ≡ ArenaError.OutOfSystemMemory) }
+    ensures run { IfOk result (λ replies. ArenaRun Key.keys (stable_limit Key.keys) IsStableState
+        (stable_state arena.old) commands.items replies.items (stable_state arena.new)) }
+    ensures errors { IsOkUnless result ArenaError.OutOfSystemMemory }
     ensures err { OnErr result (arena.new ≡ arena.old) }
+    ensures empty { commands.items ≡ [] → IsOk result }
 {
     let mut replies = Vec::with_capacity(alloc, commands.len())?;
     for command in commands {
-        replies.push_reserved(reply_to(arena, command));
+        replies.push_reserved(perform(arena, command));
     }
     Ok(replies)
 }

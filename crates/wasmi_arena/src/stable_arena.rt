@@ -1,7 +1,8 @@
 //! An arena whose items stay in their slots.
-ghost use Rattle.std.specs.Prelude.{◌≡◌, ◌<◌, ◌≤◌, ◌==◌, ◌↔◌, ◌⊎◌, [], ◌∷◌, ◌++◌, length, IfOk, IfErr, OnOk, OnErr, IsErrOf, IsOk, true, slice_get, Some};
+ghost use Rattle.std.specs.Prelude.{◌≡◌, ◌<◌, ◌≤◌, ◌==◌, ◌↔◌, ◌⊎◌, [], ◌∷◌, ◌++◌, length, IfOk, IfErr, OnOk, OnErr, IsErrOf, IsOk, IsOkUnless, slice_get, Some};
+ghost use Rattle.std.specs.Mem.{type_size};
 ghost use Rattle.wasmi_arena.specs.Geometry.{max_len, room};
-ghost use Rattle.wasmi_arena.specs.Arena.{most_items};
+ghost use Rattle.wasmi_arena.specs.Arena.{stable_limit};
 ghost use Rattle.wasmi_arena.specs.Entries.{entries};
 
 mod iter;
@@ -13,8 +14,8 @@ use std::marker::{Model, PhantomData};
 
 /// A list of items, each under the key of its position, which stays where it is for good.
 ///
-/// It is kept in a [`StableVec`], so an item never moves, and at most 4,294,967,264 go in, or as many
-/// as there are keys.
+/// It is kept in a [`StableVec`], so an item never moves. At most 4,294,967,264 items go in, and at
+/// most as many as there are keys.
 #[derive(Drop)]
 pub struct StableArena<Key: ArenaKey, T, A: Allocator = Global> {
     items: StableVec<T, A>,
@@ -22,16 +23,16 @@ pub struct StableArena<Key: ArenaKey, T, A: Allocator = Global> {
 }
 
 impl<Key: ArenaKey, T, A: Allocator> Model for StableArena<Key, T, A> {
-    ghost use Rattle.std.specs.Prelude.{List, ◌≤◌, length, true};
+    ghost use Rattle.std.specs.Prelude.{List, ◌≤◌, length};
 
     ghost Value = { List T };
 
-    ghost use Rattle.wasmi_arena.specs.Arena.{most_items};
+    ghost use Rattle.wasmi_arena.specs.Arena.{stable_limit};
 
     ghost view = { λ arena. arena.items };
 
     // Each position has a key.
-    ghost invariant = { λ arena. length arena.items ≤ most_items Key.keys true };
+    ghost invariant = { λ arena. length arena.items ≤ stable_limit Key.keys };
 }
 
 impl<Key: ArenaKey, T, A: Allocator> StableArena<Key, T, A> {
@@ -48,7 +49,7 @@ impl<Key: ArenaKey, T, A: Allocator> StableArena<Key, T, A> {
     /// The number of items. Constant time.
     pub fn len(&self) -> usize
         ensures value { result ≡ length self.now }
-        ensures keyed { length self.now ≤ most_items Key.keys true }
+        ensures keyed { length self.now ≤ stable_limit Key.keys }
     {
         self.items.len()
     }
@@ -60,13 +61,14 @@ impl<Key: ArenaKey, T, A: Allocator> StableArena<Key, T, A> {
         self.items.is_empty()
     }
 
-    /// The key that the next [`alloc`](StableArena::alloc) gives its item. Refused with
-    /// `NotEnoughKeys` where that is. Constant time, and takes no memory.
+    /// The key that the next [`alloc`](StableArena::alloc) gives its item, or `NotEnoughKeys` if that
+    /// fails with it. Constant time, and takes no memory.
     pub fn next_key(&self) -> Result<Key, ArenaError>
         ensures key { IfOk result (λ key. key ≡ Key.keys.key (length self.now)) }
-        ensures has_key { OnOk result (length self.now < most_items Key.keys true) }
-        ensures no_key { IsErrOf result ArenaError.NotEnoughKeys ↔ (most_items Key.keys true ≤ length self.now) }
-        ensures error { IfErr result (λ error. error ≡ ArenaError.NotEnoughKeys) }
+        ensures has_key { OnOk result (length self.now < stable_limit Key.keys) }
+        ensures no_key { IsErrOf result ArenaError.NotEnoughKeys
+            ↔ (stable_limit Key.keys ≤ length self.now) }
+        ensures errors { IsOkUnless result ArenaError.NotEnoughKeys }
     {
         let index = self.len();
         if index >= MAX_LEN {
@@ -75,23 +77,28 @@ impl<Key: ArenaKey, T, A: Allocator> StableArena<Key, T, A> {
         Key::from_usize(index).ok_or(ArenaError::NotEnoughKeys)
     }
 
-    /// Puts an item at the end, and answers its key.
+    /// Puts an item at the end, and returns its key.
     ///
-    /// Refused with `NotEnoughKeys` where there is no key or place for one more, then with
-    /// `OutOfSystemMemory` where a bucket to be opened is refused, and only where
-    /// [`room`](StableArena::room) is 0. After a refusal the arena is as before, and the item is
-    /// dropped. Constant time, but for the opening of a bucket.
+    /// Fails with `NotEnoughKeys` if there is no key or place for one more, and then with
+    /// `OutOfSystemMemory` if a bucket must be opened, which is only where
+    /// [`room`](StableArena::room) is 0, and there is no memory for it. After an error the arena is as
+    /// before, and the item is dropped. Constant time, but for the opening of a bucket.
     pub fn alloc(&mut self, item: T) -> Result<Key, ArenaError>
     where
         T: Drop,
         A: Clone,
         ensures key { IfOk result (λ key. key ≡ Key.keys.key (length self.old)) }
         ensures ok { OnOk result (self.new ≡ self.old ++ item ∷ []) }
-        ensures has_key { OnOk result (length self.old < most_items Key.keys true) }
-        ensures no_key { IsErrOf result ArenaError.NotEnoughKeys ↔ (most_items Key.keys true ≤ length self.old) }
+        ensures has_key { OnOk result (length self.old < stable_limit Key.keys) }
+        ensures no_key { IsErrOf result ArenaError.NotEnoughKeys
+            ↔ (stable_limit Key.keys ≤ length self.old) }
         ensures memory { IsErrOf result ArenaError.OutOfSystemMemory → room (length self.old) ≡ 0 }
-        ensures errors { IfErr result (λ error. (error ≡ ArenaError.NotEnoughKeys) ⊎ (error ≡ ArenaError.OutOfSystemMemory)) }
-        ensures with_room { length self.old < most_items Key.keys true → 0 < room (length self.old) → IsOk result }
+        ensures errors { IfErr result (λ error. (error ≡ ArenaError.NotEnoughKeys)
+            ⊎ (error ≡ ArenaError.OutOfSystemMemory)) }
+        ensures with_room { length self.old < stable_limit Key.keys → 0 < room (length self.old)
+            → IsOk result }
+        ensures without_size { length self.old < stable_limit Key.keys → type_size T.row ≡ 0
+            → ((a : A) → A.is_infallible a) → IsOk result }
         ensures err { OnErr result (self.new ≡ self.old) }
     {
         let key = self.next_key()?;
@@ -99,11 +106,13 @@ impl<Key: ArenaKey, T, A: Allocator> StableArena<Key, T, A> {
         Ok(key)
     }
 
-    /// The item under a key, or `KeyOutOfBounds` where there is none. Constant time.
+    /// The item under a key, or `KeyOutOfBounds` if there is none. Constant time.
     pub fn get(&self, key: Key) -> Result<&T, ArenaError>
-        ensures item { IfOk result (λ item. slice_get self.now (Key.keys.number key) ≡ Some item.now) }
-        ensures out_of_bounds { IsErrOf result ArenaError.KeyOutOfBounds ↔ (length self.now ≤ Key.keys.number key) }
-        ensures error { IfErr result (λ error. error ≡ ArenaError.KeyOutOfBounds) }
+        ensures item { IfOk result (λ item.
+            slice_get self.now (Key.keys.number key) ≡ Some item.now) }
+        ensures out_of_bounds { IsErrOf result ArenaError.KeyOutOfBounds
+            ↔ (length self.now ≤ Key.keys.number key) }
+        ensures errors { IsOkUnless result ArenaError.KeyOutOfBounds }
     {
         self.items
             .get(key.into_usize())

@@ -1,9 +1,10 @@
 //! A vector whose items stay in the slots that they were pushed into.
-ghost use Rattle.std.specs.Prelude.{◌≡◌, ◌+◌, ◌<◌, ◌≤◌, ◌==◌, ◌↔◌, [], ◌∷◌, ◌++◌, length, IfOk, IfErr, OnOk, OnErr, IsOk, IsErrOf, ◌⊎◌, option_copied, slice_get, slice_index_or, slice_set, Some, None};
+ghost use Rattle.std.specs.Prelude.{◌≡◌, ◌+◌, ◌<◌, ◌≤◌, ◌==◌, ◌↔◌, [], ◌∷◌, ◌++◌, length, IfOk, IfErr, OnOk, OnErr, IsOk, IsOkUnless, IsErrOf, ◌⊎◌, option_copied, slice_get, slice_index_or, slice_set, Some, None};
+ghost use Rattle.std.specs.Mem.{type_size};
+ghost use Rattle.std.specs.Option.{ForSome};
 ghost use Rattle.wasmi_arena.specs.Geometry.{size, start, max_len, IsPlace, IsFewest, fewest, slots, room, bucket_of, slot_of};
 ghost use Rattle.wasmi_arena.specs.StableVec.{bucket_at};
-ghost use Rattle.wasmi_arena.specs.Bucket.{Bucket as Shelf};
-ghost use Rattle.wasmi_arena.specs.Table.{held, row_with};
+ghost use Rattle.wasmi_arena.specs.Table.{items_in, bucket_with};
 
 mod iter;
 
@@ -24,7 +25,7 @@ pub const MAX_LEN: usize = 4_294_967_264;
 /// The items lie in at most 27 buckets, of 32, 64, 128 and so on slots, which are opened in order,
 /// each when its first item is pushed. So a vector of n items has exactly the fewest buckets with
 /// room for n, and holds at most 4,294,967,264 items. The item at an index lies in the slot that
-/// [`place`](StableVec::place) tells, whatever the length.
+/// [`place`](StableVec::place) gives, whatever the length.
 #[derive(Drop)]
 pub struct StableVec<T, A: Allocator = Global> {
     buckets: [Option<Bucket<T, A>>; BUCKETS],
@@ -69,23 +70,28 @@ fn push_into<T: Drop, A: Allocator + Clone>(
     alloc: &A,
     value: T,
 ) -> Result<(), ArenaError>
-    requires bucket { (place.0 < length buckets.old) × (place.0 < 27) }
-    requires slot { place.1 ≡ length (held (slice_index_or buckets.old place.0 None)) }
+    requires in_table { place.0 < length buckets.old }
+    requires exists { place.0 < 27 }
+    requires slot { place.1 ≡ length (items_in (slice_index_or buckets.old place.0 None)) }
     requires free { place.1 < size place.0 }
-    requires same { (b : Shelf T) → slice_index_or buckets.old place.0 None ≡ Some b → b.capacity ≡ size place.0 }
-    ensures ok { OnOk result (buckets.new ≡ slice_set buckets.old place.0 (row_with (size place.0) (slice_index_or buckets.old place.0 None) value)) }
-    ensures error { IfErr result (λ error. error ≡ ArenaError.OutOfSystemMemory) }
-    ensures err { OnErr result ((buckets.new ≡ buckets.old) × (slice_index_or buckets.old place.0 None ≡ None)) }
+    requires capacity { ForSome (slice_index_or buckets.old place.0 None)
+        (λ b. b.capacity ≡ size place.0) }
+    ensures ok { OnOk result (buckets.new ≡ slice_set buckets.old place.0
+        (bucket_with (size place.0) (slice_index_or buckets.old place.0 None) value)) }
+    ensures errors { IsOkUnless result ArenaError.OutOfSystemMemory }
+    ensures err { OnErr result (buckets.new ≡ buckets.old) }
+    ensures shut { OnErr result (slice_index_or buckets.old place.0 None ≡ None) }
+    ensures without_size { type_size T.row ≡ 0 → A.is_infallible alloc.now → IsOk result }
 {
     let (bucket, slot) = place;
-    let row = &mut buckets[bucket];
-    match row {
+    let target = &mut buckets[bucket];
+    match target {
         Some(open) => open.fill(slot, value),
         None => {
             let capacity = StableVec::<T>::size_of_bucket_at(bucket);
             let mut opened = Bucket::open(alloc.clone()?, capacity)?;
             opened.fill(slot, value);
-            *row = Some(opened);
+            *target = Some(opened);
         }
     }
     Ok(())
@@ -179,8 +185,8 @@ impl<T, A: Allocator> StableVec<T, A> {
         }
     }
 
-    /// A bucket as the vector keeps it: its items are the filled part, and its capacity is the number
-    /// of its slots. `None` if it isn't open. Constant time.
+    /// A bucket as the vector keeps it: its items are the filled part, and its capacity the number of
+    /// its slots. `None` if it isn't open. Constant time.
     pub fn bucket(&self, bucket: usize) -> Option<&Bucket<T, A>>
         ensures { option_copied result ≡ bucket_at self.now bucket }
     {
@@ -201,12 +207,12 @@ impl<T, A: Allocator> StableVec<T, A> {
         }
     }
 
-    /// Puts an item at the end, and answers its index.
+    /// Puts an item at the end, and returns its index.
     ///
-    /// A bucket is opened only where [`room`](StableVec::room) is 0; no item moves. Refused with
-    /// `NotEnoughKeys` where the vector is full, then with `OutOfSystemMemory` where the bucket to be
-    /// opened is refused. After a refusal the vector is as before, and the item is dropped. Constant
-    /// time, but for the opening.
+    /// A bucket is opened only where [`room`](StableVec::room) is 0; no item moves. Fails with
+    /// `NotEnoughKeys` if the vector is full, and then with `OutOfSystemMemory` if a bucket must be
+    /// opened and there is no memory for it. After an error the vector is as before, and the item is
+    /// dropped. Constant time, but for the opening.
     pub fn push(&mut self, value: T) -> Result<usize, ArenaError>
     where
         T: Drop,
@@ -215,8 +221,11 @@ impl<T, A: Allocator> StableVec<T, A> {
         ensures ok { OnOk result (self.new ≡ self.old ++ value ∷ []) }
         ensures full { IsErrOf result ArenaError.NotEnoughKeys ↔ (max_len ≤ length self.old) }
         ensures memory { IsErrOf result ArenaError.OutOfSystemMemory → room (length self.old) ≡ 0 }
-        ensures errors { IfErr result (λ error. (error ≡ ArenaError.NotEnoughKeys) ⊎ (error ≡ ArenaError.OutOfSystemMemory)) }
+        ensures errors { IfErr result (λ error. (error ≡ ArenaError.NotEnoughKeys)
+            ⊎ (error ≡ ArenaError.OutOfSystemMemory)) }
         ensures with_room { 0 < room (length self.old) → IsOk result }
+        ensures without_size { length self.old < max_len → type_size T.row ≡ 0
+            → ((a : A) → A.is_infallible a) → IsOk result }
         ensures err { OnErr result (self.new ≡ self.old) }
     {
         let index = self.len;

@@ -119,15 +119,15 @@ fn items_without_size(rt: HostRuntime) -> Result<(), Fail> {
     Ok(())
 }
 
-// Tells which items were dropped: how many, and the sum of their numbers.
-struct Told<'a> {
+// Counts its drop: how many were dropped so far, and the sum of their numbers.
+struct DropCount<'a> {
     drops: &'a Cell<(u32, u32)>,
     number: u32,
 }
 
-impl Drop for Told<'_> {
+impl Drop for DropCount<'_> {
     fn drop(self) {
-        let Told { drops, number } = self;
+        let DropCount { drops, number } = self;
         let (count, sum) = drops.get();
         drops.set((count.wrapping_add(1), sum.wrapping_add(number)));
     }
@@ -138,7 +138,7 @@ fn each_item_is_dropped_once(rt: HostRuntime) -> Result<(), Fail> {
     let drops = Cell::new((0, 0));
     let mut vec = StableVec::new(rt.alloc());
     for number in 0..100 {
-        vec.push(Told {
+        vec.push(DropCount {
             drops: &drops,
             number,
         })?;
@@ -189,23 +189,61 @@ fn keys_have_their_numbers(rt: HostRuntime) -> Result<(), Fail> {
 
 #[test]
 fn texts_of_the_refusals(rt: HostRuntime) -> Result<(), Fail> {
-    for (error, text) in [
-        (ArenaError::OutOfSystemMemory, "ran out of system memory"),
-        (ArenaError::KeyOutOfBounds, "encounteded out of bounds key"),
-        (ArenaError::NotEnoughKeys, "ran out of valid keys"),
+    for (error, text, debug) in [
+        (
+            ArenaError::OutOfSystemMemory,
+            "ran out of system memory",
+            "OutOfSystemMemory",
+        ),
+        (
+            ArenaError::KeyOutOfBounds,
+            "encounteded out of bounds key",
+            "KeyOutOfBounds",
+        ),
+        (
+            ArenaError::NotEnoughKeys,
+            "ran out of valid keys",
+            "NotEnoughKeys",
+        ),
         (
             ArenaError::AliasingPairAccess,
             "tried to access aliasing item pair",
+            "AliasingPairAccess",
         ),
     ] {
         assert_eq!(rt; error.text(), text);
         let shown = format!(in rt.alloc(); "{error}")?;
         assert_eq!(rt; shown.as_str(), text);
+        let shown = format!(in rt.alloc(); "{error:?}")?;
+        assert_eq!(rt; shown.as_str(), debug);
     }
     assert_eq!(rt;
         ArenaError::from(std::alloc::AllocError),
         ArenaError::OutOfSystemMemory
     );
+    Ok(())
+}
+
+#[test]
+fn debug_texts_of_commands_and_replies(rt: HostRuntime) -> Result<(), Fail> {
+    for (command, text) in [
+        (ArenaCommand::<u32, u8>::Alloc(7), "Alloc(7)"),
+        (ArenaCommand::Has(1), "Has(1)"),
+    ] {
+        let shown = format!(in rt.alloc(); "{command:?}")?;
+        assert_eq!(rt; shown.as_str(), text);
+    }
+    for (reply, text) in [
+        (ArenaReply::Key(0u32), "Key(0)"),
+        (ArenaReply::Has(true), "Has(true)"),
+        (
+            ArenaReply::Refused(ArenaError::NotEnoughKeys),
+            "Refused(NotEnoughKeys)",
+        ),
+    ] {
+        let shown = format!(in rt.alloc(); "{reply:?}")?;
+        assert_eq!(rt; shown.as_str(), text);
+    }
     Ok(())
 }
 

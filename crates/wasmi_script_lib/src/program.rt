@@ -1,4 +1,4 @@
-ghost use Rattle.std.specs.Prelude.{◌≡◌, ◌≢◌, ◌⊎◌, Err, IfErr, IfOk, IfSome, OnOk, IsErrAnd, IsOkUnless};
+ghost use Rattle.std.specs.Prelude.{◌≡◌, ◌≢◌, ◌⊎◌, IfErr, IfOk, IfSome, OnOk, IsErrAnd, IsErrOf, IsOkUnless};
 ghost use Rattle.std.specs.Io.KnownBytes.{Appends, IsAtEnd, Keeps};
 ghost use Rattle.std.specs.Str.{IsUtf8};
 ghost use Rattle.wasmi_script_lib.specs.Outputs.{output_of};
@@ -33,7 +33,7 @@ pub fn run<R: Read, W: Write>(
         → Keeps (W.contents writer.old) (W.contents writer.new)) }
 
     // `NotUtf8` says that all was read and is no text. An input that is no text is refused before the write.
-    ensures not_utf8 { result ≡ Err ScriptError.NotUtf8 → IsAtEnd (R.remaining reader.new)
+    ensures not_utf8 { IsErrOf result ScriptError.NotUtf8 → IsAtEnd (R.remaining reader.new)
         × IfSome (R.remaining reader.old) (λ input. ¬ (IsUtf8 input)) }
     ensures no_text { IfSome (R.remaining reader.old) (λ input. ¬ (IsUtf8 input)
         → IsErrAnd result (λ e. e ≢ ScriptError.WriteFailed)) }
@@ -46,7 +46,8 @@ pub fn run<R: Read, W: Write>(
 
 /// All bytes up to the reader's end.
 fn read_all<R: Read>(alloc: Global, reader: &mut R) -> Result<Vec<u8>, ScriptError>
-    ensures bytes { IfOk result (λ input. IfSome (R.remaining reader.old) (λ all. input.items ≡ all)) }
+    ensures bytes { IfOk result (λ input.
+        IfSome (R.remaining reader.old) (λ all. input.items ≡ all)) }
     ensures end { OnOk result (IsAtEnd (R.remaining reader.new)) }
     ensures errors { IfErr result (λ e. (e ≡ ScriptError.NoMemory) ⊎ (e ≡ ScriptError.ReadFailed)) }
 {

@@ -16,17 +16,17 @@ pub struct StableArenaIter<'a, Key: ArenaKey, T, A: Allocator = Global> {
 }
 
 impl<'a, Key: ArenaKey, T, A: Allocator> Model for StableArenaIter<'a, Key, T, A> {
-    ghost use Rattle.std.specs.Prelude.{List, ◌+◌, ◌≤◌, length, true};
+    ghost use Rattle.std.specs.Prelude.{List, ◌+◌, ◌≤◌, length};
 
     ghost Value = { List (Key × T) };
 
-    ghost use Rattle.wasmi_arena.specs.Arena.{most_items};
+    ghost use Rattle.wasmi_arena.specs.Arena.{stable_limit};
     ghost use Rattle.wasmi_arena.specs.Entries.{entries_from};
 
     ghost view = { λ it. entries_from Key.keys it.next it.items };
 
     // Each position that is left has a key.
-    ghost invariant = { λ it. it.next + length it.items ≤ most_items Key.keys true };
+    ghost invariant = { λ it. it.next + length it.items ≤ stable_limit Key.keys };
 }
 
 impl<'a, Key: ArenaKey, T, A: Allocator> StableArenaIter<'a, Key, T, A> {

@@ -4,4 +4,4 @@ use Rattle.wasmi_arena.proofs.laws.fewest_of_some_lengths.Goals as goal
 
 pub returns : goal.returns
 unfolding fewest
-returns c = (refl, refl, refl, refl, refl, refl, refl)
+returns c = refl

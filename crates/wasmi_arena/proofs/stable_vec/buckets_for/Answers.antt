@@ -1,5 +1,5 @@
-use Rattle.std.proofs.Common.{◌≡◌, ◌≤◌, ◌-◌, sym, arith}
-use Rattle.wasmi_arena.proofs.Buckets.{top_from_4, fewest_of_top, fewest-le}
+use Rattle.std.proofs.Common.{arith}
+use Rattle.wasmi_arena.proofs.Geometry.{top_from_4, fewest_of_top, fewest-le}
 use Rattle.wasmi_arena.proofs.stable_vec.buckets_for.Goals as goal
 
 pub overflow_sub-result : goal.overflow_sub-result

@@ -1,5 +1,5 @@
 use Rattle.std.proofs.Common.{arith}
-use Rattle.wasmi_arena.proofs.Buckets.{start-size, start_mono}
+use Rattle.wasmi_arena.proofs.Geometry.{start-size, start_mono}
 use Rattle.wasmi_arena.proofs.stable_vec.start_of.Goals as goal
 
 pub returns : goal.returns

@@ -1,5 +1,5 @@
 use Rattle.std.proofs.lemmas.Nat.{one_shl}
-use Rattle.wasmi_arena.proofs.Buckets.{top_from_5, place_of_top, place_names}
+use Rattle.wasmi_arena.proofs.Geometry.{top_from_5, place_of_top, place_names}
 use Rattle.wasmi_arena.proofs.stable_vec.StableVec+T.place.Goals as goal
 
 pub overflow_sub-result : goal.overflow_sub-result

@@ -1,5 +1,5 @@
 use Rattle.std.proofs.Common.{arith}
-use Rattle.wasmi_arena.proofs.Vectors.{bucket_there, slot_there, item_read}
+use Rattle.wasmi_arena.proofs.LaidOut.{bucket_there, slot_there, item_read}
 use Rattle.wasmi_arena.proofs.stable_vec.StableVec.get.Goals as goal
 
 pub unreachable-requires : goal.unreachable-requires

@@ -1,4 +1,4 @@
-use Rattle.wasmi_arena.proofs.Vectors.{all_ahead}
+use Rattle.wasmi_arena.proofs.LaidOut.{all_ahead}
 use Rattle.wasmi_arena.proofs.stable_vec.StableVec.iter.Goals as goal
 
 pub invariant_of-result : goal.invariant_of-result

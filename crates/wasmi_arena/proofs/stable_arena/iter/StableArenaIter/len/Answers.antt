@@ -1,5 +1,5 @@
 use Rattle.std.proofs.Common.{◌∙◌, sym, ap, length}
-use Rattle.wasmi_arena.proofs.EntryLemmas.{length-entries_from}
+use Rattle.wasmi_arena.proofs.Entries.{length-entries_from}
 use Rattle.wasmi_arena.proofs.stable_arena.iter.StableArenaIter.len.Goals as goal
 
 pub returns : goal.returns

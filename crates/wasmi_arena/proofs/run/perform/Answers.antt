@@ -1,11 +1,11 @@
 use Rattle.std.proofs.Common.{refl, arith}
-use Rattle.wasmi_arena.proofs.Steps.{allocates, refuses_item}
-use Rattle.wasmi_arena.proofs.run.reply_to.Goals as goal
+use Rattle.wasmi_arena.proofs.Arena.{allocates_item, refuses_item}
+use Rattle.wasmi_arena.proofs.run.perform.Goals as goal
 
 pub returns-in-Ok : goal.returns-in-Ok
 returns-in-Ok g c =
     let done = c.in-Ok.ensures in
-    rw c.in-Alloc.is (allocates g.Key.ArenaKey.keys c.args.arena.now c.alloc.new.self c.in-Alloc.item c.in-Ok.key done.has_key done.key done.ok)
+    rw c.in-Alloc.is (allocates_item g.Key.ArenaKey.keys c.args.arena.now c.alloc.new.self c.in-Alloc.item c.in-Ok.key done.has_key done.key done.ok)
 
 pub returns-in-Err : goal.returns-in-Err
 returns-in-Err g c =

@@ -1,0 +1,169 @@
+-- What the fields of a stable vector tell, once they agree.
+use Rattle.std.proofs.Common.{◌≡◌, ℕ, ◌+◌, ◌-◌, ◌*◌, ◌^◌, ◌<◌, ◌≤◌, List, [], ◌∷◌, ◌++◌, length, take, drop, get_or, set, Option, Some, None, cond, refl, sym, ◌∙◌, ap, inl, inr, arith, lit<, length-append, length-drop, slice_get, IsSomeAnd}
+use Rattle.std.proofs.lemmas.Bool.{cases_lt, lt-ltb, le-ltb}
+use Rattle.std.proofs.Math.ListN.{length-set, drop_of_length-le}
+use Rattle.std.proofs.lemmas.List.{get_or_default, take_all, length-take, get_or-take, get_or-drop}
+use Rattle.std.proofs.lemmas.Option.{slice_get-get_or}
+use Rattle.wasmi_arena.specs.Geometry.{size, start, max_len, IsPlace, IsFewest, fewest, room}
+use Rattle.wasmi_arena.specs.Bucket.{Bucket}
+use Rattle.wasmi_arena.specs.StableVec.{bucket_at}
+use Rattle.wasmi_arena.specs.Table.{items_of, items_in, bucket_with, bucket_from, IsTable, AreFilled, IsLaidOut, IsAhead}
+use Rattle.wasmi_arena.proofs.Geometry.{start-size, size-suc, start_mono, start_below, fewest_is_least, below_of_start}
+use Rattle.wasmi_arena.proofs.Table.{get_or-IsTable, items_of-IsTable, IsTable-set, IsTable-take, AreFilled-take, IsTable-none}
+
+module _ {T : Type 0} where
+  -- the bucket of a list that has an item
+  pub bucket_from-some : (width : ℕ) (items : List T) → 0 < length items → bucket_from width items ≡ Some record { items = take width items; capacity = width }
+  bucket_from-some width [] some = absurd (omega arith)
+  bucket_from-some width (x ∷ xs) some = refl
+
+  items_in-bucket_from : (width : ℕ) (items : List T) → items_in (bucket_from width items) ≡ take width items
+  items_in-bucket_from width [] = sym (take_all {A = T} width [] (omega arith))
+  items_in-bucket_from width (x ∷ xs) = refl
+
+  abbrev capacity_of : Option (Bucket T) → ℕ
+  capacity_of None = 0
+  capacity_of (Some bucket) = bucket.capacity
+
+  bucket_from-capacity : (width : ℕ) (items : List T) (bucket : Bucket T) → bucket_from width items ≡ Some bucket → bucket.capacity ≡ width
+  bucket_from-capacity width [] bucket is = cc
+  bucket_from-capacity width (x ∷ xs) bucket is = sym (ap capacity_of is)
+
+  module _ (buckets : List (Option (Bucket T))) (len : ℕ) (v : IsLaidOut buckets len) where
+    -- the open buckets are the fewest
+    IsFewest-len : IsFewest len (fewest len)
+    IsFewest-len = fewest_is_least len v.few_items
+
+    pub fewest-len : fewest len ≡ fewest (length (items_of buckets))
+    fewest-len = ap fewest v.items_counted
+
+    pub fewest-le_27 : fewest len ≤ 27
+    fewest-le_27 = IsFewest-len.least 27 v.few_items
+
+    -- bucket b of the table holds what begins at its start
+    pub get_or-buckets : (b : ℕ) → b < 27 → get_or buckets b None ≡ bucket_from (size b) (drop (start b) (items_of buckets))
+    get_or-buckets b below =
+        let begins : 32 * 2 ^ b - 32 ≡ start b = omega (arith, start-size b) in
+        get_or-IsTable 32 b (items_of buckets) buckets v.table (rw v.buckets_counted below) ∙ ap (λ n. bucket_from (size b) (drop n (items_of buckets))) begins
+
+    -- a bucket that begins before the items end is open
+    pub get_or-open : (b : ℕ) → b < 27 → start b < len → get_or buckets b None ≡ Some record { items = take (size b) (drop (start b) (items_of buckets)); capacity = size b }
+    get_or-open b below early = get_or-buckets b below ∙ bucket_from-some (size b) (drop (start b) (items_of buckets)) (omega (arith, length-drop (start b) (items_of buckets), v.items_counted))
+
+    -- bucket b of the table is the one that callers see
+    pub get_or-bucket_at : (b : ℕ) → b < 27 → get_or buckets b None ≡ bucket_at (items_of buckets) b
+    get_or-bucket_at b below = elim (cases_lt b (fewest (length (items_of buckets)))) [
+      | inl needed ↦ get_or-open b below (let e = fewest-len in let least = IsFewest-len.least b in elim (cases_lt (start b) len) [ inl early ↦ early | inr late ↦ absurd (let few = least late in omega arith) ])
+          ∙ sym (ap (λ t. cond t (Some record { items = take (size b) (drop (start b) (items_of buckets)); capacity = size b }) None) (lt-ltb b (fewest (length (items_of buckets))) needed))
+      | inr free ↦ get_or-buckets b below ∙ (ap (bucket_from (size b)) (drop_of_length-le (items_of buckets) {i = start b} (let e = fewest-len in let enough = IsFewest-len.enough in omega (arith, v.items_counted, start_mono (fewest len) b (omega arith))))
+          ∙ sym (ap (λ t. cond t (Some record { items = take (size b) (drop (start b) (items_of buckets)); capacity = size b }) None) (le-ltb b (fewest (length (items_of buckets))) free)))
+    ]
+
+    -- there is no bucket past the last
+    pub bucket_at-past : (b : ℕ) → 27 ≤ b → bucket_at (items_of buckets) b ≡ None
+    bucket_at-past b above = ap (λ t. cond t (Some record { items = take (size b) (drop (start b) (items_of buckets)); capacity = size b }) None) (le-ltb b (fewest (length (items_of buckets))) (let e = fewest-len in let o = fewest-le_27 in omega arith))
+
+    -- the open buckets have a slot for each item
+    pub length-le_slots : length (items_of buckets) ≤ start (fewest len)
+    length-le_slots = rw (← v.items_counted) IsFewest-len.enough
+
+    -- where the last bucket is full, no slot is free
+    pub room-full : max_len ≤ len → room (length (items_of buckets)) ≡ 0
+    room-full full = omega (arith, v.items_counted, ap start fewest-len, start_mono (fewest len) 27 fewest-le_27)
+
+    -- the open buckets
+    IsTable-open : IsTable 32 (items_of buckets) (take (fewest len) buckets)
+    IsTable-open = IsTable-take 32 (fewest len) (items_of buckets) buckets v.table (let enough = IsFewest-len.enough in omega (arith, start-size (fewest len), v.items_counted))
+
+    -- the open buckets hold every item
+    pub items_of-open : items_of (take (fewest len) buckets) ≡ items_of buckets
+    items_of-open = items_of-IsTable 32 (items_of buckets) (take (fewest len) buckets) IsTable-open
+
+    -- and each of them has one
+    pub AreFilled-open : AreFilled (take (fewest len) buckets)
+    AreFilled-open = AreFilled-take 32 (fewest len) (items_of buckets) buckets (lit< tt) v.table (rw v.buckets_counted fewest-le_27)
+        (λ c below. elim (cases_lt (start c) len) [
+          | inl early ↦ omega (arith, start-size c, v.items_counted)
+          | inr late ↦ absurd (let few = IsFewest-len.least c late in omega arith)
+        ])
+
+    -- all items are ahead of an iterator that begins
+    pub all_ahead : (nothing : List T) → nothing ≡ [] → IsAhead nothing (take (fewest len) buckets) len × (nothing ++ items_of (take (fewest len) buckets) ≡ items_of buckets)
+    all_ahead nothing none = (record { filled = AreFilled-open; counted = rw items_of-open v.items_counted; few = rw none (let few = v.few_items in omega arith) }, rw none items_of-open)
+
+    -- what is read at the bucket of an index
+    module _ (i b s : ℕ) (place : IsPlace i b s) (below : i < len) (found : Option (Bucket T)) (read : found ≡ get_or buckets b found) where
+      bucket_read : found ≡ Some record { items = take (size b) (drop (start b) (items_of buckets)); capacity = size b }
+      bucket_read = read ∙ (get_or_default buckets b found None (rw v.buckets_counted place.bucket_exists) ∙ get_or-open b place.bucket_exists (omega (arith, place.index_is)))
+
+      pub bucket_there : found ≡ None → ⊥
+      bucket_there shut = let full = bucket_read in cc
+
+      module _ (bucket : Bucket T) (is : found ≡ Some bucket) (slice : List T) (whole : slice ≡ bucket.items) where
+        slice_is : slice ≡ take (size b) (drop (start b) (items_of buckets))
+        slice_is = whole ∙ ap items_in (sym is ∙ bucket_read)
+
+        pub slot_there : s < length slice
+        slot_there = rw slice_is (omega (arith, length-take (size b) (drop (start b) (items_of buckets)), length-drop (start b) (items_of buckets), v.items_counted, place.slot_exists, place.index_is))
+
+        pub item_read : (x : T) → x ≡ get_or slice s x → Some x ≡ slice_get (items_of buckets) i
+        item_read x at =
+            let here = get_or-take (size b) (drop (start b) (items_of buckets)) s x place.slot_exists ∙ get_or-drop (start b) (items_of buckets) s x in
+            let same : x ≡ get_or (items_of buckets) i x = at ∙ (ap (λ (xs : List T). get_or xs s x) slice_is ∙ (here ∙ ap (λ n. get_or (items_of buckets) n x) place.index_is)) in
+            ap Some same ∙ sym (slice_get-get_or (items_of buckets) i x (rw (← v.items_counted) below))
+
+    -- one more item goes to its place
+    module _ (b s : ℕ) (place : IsPlace len b s) where
+      IsTable-push : (item : T) → IsTable 32 (items_of buckets ++ item ∷ []) (set buckets b (bucket_with (size b) (get_or buckets b None) item))
+      IsTable-push item = IsTable-set 32 b (items_of buckets) buckets item (lit< tt) v.table (rw v.buckets_counted place.bucket_exists)
+          (omega (arith, start-size b, v.items_counted, place.index_is)) (omega (arith, start-size b, size-suc b, v.items_counted, place.index_is, place.slot_exists))
+
+      pub items_of-push : (item : T) → items_of (set buckets b (bucket_with (size b) (get_or buckets b None) item)) ≡ items_of buckets ++ item ∷ []
+      items_of-push item = items_of-IsTable 32 (items_of buckets ++ item ∷ []) (set buckets b (bucket_with (size b) (get_or buckets b None) item)) (IsTable-push item)
+
+      pub IsLaidOut-push : (item : T) → IsLaidOut (set buckets b (bucket_with (size b) (get_or buckets b None) item)) (len + 1)
+      IsLaidOut-push item = record {
+        buckets_counted = length-set buckets b (bucket_with (size b) (get_or buckets b None) item) ∙ v.buckets_counted;
+        table = rw (items_of-push item) (IsTable-push item);
+        items_counted = rw (items_of-push item) (omega (arith, length-append (items_of buckets) (item ∷ []), v.items_counted));
+        few_items = omega (arith, start_below b 27 place.bucket_exists, place.index_is, place.slot_exists);
+      }
+
+      -- its slot is the first free one of its bucket
+      pub first_free : s ≡ length (items_in (get_or buckets b None))
+      first_free = rw (get_or-buckets b place.bucket_exists, items_in-bucket_from)
+          (omega (arith, length-take (size b) (drop (start b) (items_of buckets)), length-drop (start b) (items_of buckets), v.items_counted, place.index_is, place.slot_exists))
+
+      -- and its size, if it is open
+      pub open_size : (bucket : Bucket T) → get_or buckets b None ≡ Some bucket → bucket.capacity ≡ size b
+      open_size bucket is = bucket_from-capacity (size b) (drop (start b) (items_of buckets)) bucket (sym (get_or-buckets b place.bucket_exists) ∙ is)
+
+      -- where it isn't open, no slot is free
+      pub room-shut : get_or buckets b None ≡ None → room (length (items_of buckets)) ≡ 0
+      room-shut shut = elim (cases_lt (start b) len) [
+        | inl early ↦ absurd (let full = get_or-open b place.bucket_exists early in let none = sym shut ∙ full in cc)
+        | inr late ↦ let few = IsFewest-len.least b late in
+            omega (arith, IsFewest-len.enough, start_mono (fewest len) b few, ap start fewest-len, v.items_counted, place.index_is)
+      ]
+
+  -- where no bucket is open, there is no item
+  pub IsLaidOut-none : (buckets : List (Option (Bucket T))) → length buckets ≡ 27 → ((b : ℕ) → b < length buckets → get_or buckets b None ≡ None) → IsLaidOut buckets 0 × (items_of buckets ≡ [])
+  IsLaidOut-none buckets counted empty =
+      let table = IsTable-none 32 buckets empty in
+      let none = items_of-IsTable 32 [] buckets table in
+      (record { buckets_counted = counted; table = rw none table; items_counted = sym (ap length none); few_items = omega arith }, none)
+
+  -- a part of a list reads what the list reads
+  slice_get-take_drop : (xs : List T) (m n s i : ℕ) → s < n → m + s ≡ i → i < length xs → slice_get (take n (drop m xs)) s ≡ slice_get xs i
+  slice_get-take_drop [] m n s i slot at below = absurd (omega arith)
+  slice_get-take_drop (x ∷ xs) m n s i slot at below =
+      let there : s < length (take n (drop m (x ∷ xs))) = omega (arith, length-take n (drop m (x ∷ xs)), length-drop m (x ∷ xs)) in
+      let same = get_or-take n (drop m (x ∷ xs)) s x slot ∙ (get_or-drop m (x ∷ xs) s x ∙ ap (λ k. get_or (x ∷ xs) k x) at) in
+      slice_get-get_or (take n (drop m (x ∷ xs))) s x there ∙ (ap Some same ∙ sym (slice_get-get_or (x ∷ xs) i x below))
+
+  -- an item lies in the slot of its index
+  pub slice_get-bucket_at : (items : List T) (i b s : ℕ) → length items ≤ max_len → i < length items → IsPlace i b s → IsSomeAnd (bucket_at items b) (λ bucket. slice_get bucket.items s ≡ slice_get items i)
+  slice_get-bucket_at items i b s small below place =
+      let enough = (fewest_is_least (length items) small).enough in
+      let needed : b < fewest (length items) = below_of_start b (fewest (length items)) (length items) (omega (arith, place.index_is)) enough in
+      rw (lt-ltb b (fewest (length items)) needed) (slice_get-take_drop items (start b) (size b) s i place.slot_exists place.index_is below)

@@ -1,0 +1,96 @@
+-- Facts on the table in which a stable vector lays out its items.
+use Rattle.std.proofs.Common.{◌≡◌, ℕ, zero, suc, ◌+◌, ◌-◌, ◌*◌, ◌^◌, ◌<◌, ◌≤◌, List, [], ◌∷◌, ◌++◌, length, take, drop, get_or, set, Option, Some, None, refl, sym, ◌∙◌, ap, subst, arith, length-append, length-drop}
+use Rattle.std.proofs.Math.Nat.{pow-succ', mul-le-mul_left}
+use Rattle.std.proofs.Math.ListN.{drop_of_length-le}
+use Rattle.std.proofs.Math.Seq.{drop-nil}
+use Rattle.std.proofs.lemmas.Nat.{pow_pos}
+use Rattle.std.proofs.lemmas.List.{nil_from_length, take_all, take-append-drop, take-append-le, drop-append-le, drop-drop, length-take}
+use Rattle.wasmi_arena.specs.Bucket.{Bucket}
+use Rattle.wasmi_arena.specs.Table.{items_of, bucket_with, bucket_from, IsTable, AreFilled}
+
+-- twice the width before is the width after
+mul-pow_suc : (width b : ℕ) → width * 2 ^ suc b ≡ 2 * width * 2 ^ b
+mul-pow_suc width b = rw (pow-succ' 2 b) (omega arith)
+
+module _ {T : Type 0} where
+  -- the first bucket, before the rest
+  items_of-bucket_from : (width : ℕ) (items : List T) (buckets : List (Option (Bucket T))) → items_of (bucket_from width items ∷ buckets) ≡ take width items ++ items_of buckets
+  items_of-bucket_from width [] buckets = rw (take_all {A = T} width [] (omega arith)) refl
+  items_of-bucket_from width (x ∷ xs) buckets = refl
+
+  -- the buckets of a table hold its items
+  pub items_of-IsTable : (width : ℕ) (items : List T) (buckets : List (Option (Bucket T))) → IsTable width items buckets → items_of buckets ≡ items
+  items_of-IsTable width items [] table = sym table
+  items_of-IsTable width items (bucket ∷ buckets) table =
+      let rest = items_of-IsTable (2 * width) (drop width items) buckets table.1 in
+      rw table.0 (items_of-bucket_from width items buckets ∙ (ap (λ (xs : List T). take width items ++ xs) rest ∙ take-append-drop width items))
+
+  -- bucket b holds what begins after the buckets before it
+  pub get_or-IsTable : (width b : ℕ) (items : List T) (buckets : List (Option (Bucket T))) → IsTable width items buckets → b < length buckets → get_or buckets b None ≡ bucket_from (width * 2 ^ b) (drop (width * 2 ^ b - width) items)
+  get_or-IsTable width b items [] table below = absurd (omega arith)
+  get_or-IsTable width zero items (bucket ∷ buckets) table below =
+      let one : width * 2 ^ 0 ≡ width = omega arith in
+      let none : width * 2 ^ 0 - width ≡ 0 = omega arith in
+      rw (none, one) table.0
+  get_or-IsTable width (suc b) items (bucket ∷ buckets) table below =
+      let next = get_or-IsTable (2 * width) b (drop width items) buckets table.1 (omega arith) in
+      let whole : 2 * width * 2 ^ b ≡ width * 2 ^ suc b = sym (mul-pow_suc width b) in
+      let seam : width + (2 * width * 2 ^ b - 2 * width) ≡ width * 2 ^ suc b - width = omega (arith, whole, mul-le-mul_left (2 * width) (pow_pos b)) in
+      next ∙ (ap (λ (xs : List T). bucket_from (2 * width * 2 ^ b) xs) (drop-drop (2 * width * 2 ^ b - 2 * width) width items ∙ ap (λ n. drop n items) seam) ∙ ap (λ n. bucket_from n (drop (width * 2 ^ suc b - width) items)) whole)
+
+  -- where there are no items, each bucket is empty
+  pub IsTable-none : (width : ℕ) (buckets : List (Option (Bucket T))) → ((b : ℕ) → b < length buckets → get_or buckets b None ≡ None) → IsTable width [] buckets
+  IsTable-none width [] empty = refl
+  IsTable-none width (bucket ∷ buckets) empty =
+      (empty 0 (omega arith), rw (drop-nil {A = T} width) (IsTable-none (2 * width) buckets (λ b below. empty (suc b) (omega arith))))
+
+  -- the bucket that is not full yet takes one more item
+  bucket_from-append_low : (width : ℕ) (items : List T) (item : T) → length items < width → bucket_from width (items ++ item ∷ []) ≡ bucket_with width (bucket_from width items) item
+  bucket_from-append_low width [] item low = ap (λ (xs : List T). Some record { items = xs; capacity = width }) (take_all width (item ∷ []) (omega arith))
+  bucket_from-append_low width (x ∷ xs) item low =
+      let all = take_all width (x ∷ xs ++ item ∷ []) (omega (arith, length-append xs (item ∷ []))) in
+      let before = take_all width (x ∷ xs) (omega arith) in
+      ap (λ (ys : List T). Some record { items = ys; capacity = width }) (all ∙ ap (λ (ys : List T). ys ++ item ∷ []) (sym before))
+
+  -- a bucket that is full stays as it is
+  bucket_from-append_full : (width : ℕ) (items : List T) (item : T) → 0 < width → width ≤ length items → bucket_from width (items ++ item ∷ []) ≡ bucket_from width items
+  bucket_from-append_full width [] item pos high = absurd (omega arith)
+  bucket_from-append_full width (x ∷ xs) item pos high = ap (λ (ys : List T). Some record { items = ys; capacity = width }) (take-append-le width (x ∷ xs) (item ∷ []) high)
+
+  -- one more item goes to the end of the first bucket that is not full
+  pub IsTable-set : (width b : ℕ) (items : List T) (buckets : List (Option (Bucket T))) (item : T) → 0 < width → IsTable width items buckets → b < length buckets → width * 2 ^ b ≤ length items + width → length items + width < width * 2 ^ suc b → IsTable width (items ++ item ∷ []) (set buckets b (bucket_with (width * 2 ^ b) (get_or buckets b None) item))
+  IsTable-set width b items [] item pos table below low high = absurd (omega arith)
+  IsTable-set width zero items (bucket ∷ buckets) item pos table below low high =
+      let one : width * 2 ^ 0 ≡ width = omega arith in
+      let few : length items < width = omega (arith, mul-pow_suc width 0) in
+      let rest = table.1 in
+      let none = drop_of_length-le items {i = width} (omega arith) in
+      let still = drop_of_length-le (items ++ item ∷ []) {i = width} (omega (arith, length-append items (item ∷ []))) in
+      (rw (one, table.0) (sym (bucket_from-append_low width items item few)), rw (still ∙ sym none) rest)
+  IsTable-set width (suc b) items (bucket ∷ buckets) item pos table below low high =
+      let whole : 2 * width * 2 ^ b ≡ width * 2 ^ suc b = sym (mul-pow_suc width b) in
+      let more : width ≤ length items = omega (arith, whole, mul-le-mul_left (2 * width) (pow_pos b)) in
+      let left = length-drop width items in
+      let rest = IsTable-set (2 * width) b (drop width items) buckets item (omega arith) table.1 (omega arith) (omega arith) (omega (arith, mul-pow_suc width (suc b))) in
+      (table.0 ∙ sym (bucket_from-append_full width items item pos more), rw (drop-append-le width items (item ∷ []) more) (rw whole at rest))
+
+  -- the buckets that are needed hold the items alone
+  pub IsTable-take : (width b : ℕ) (items : List T) (buckets : List (Option (Bucket T))) → IsTable width items buckets → length items + width ≤ width * 2 ^ b → IsTable width items (take b buckets)
+  IsTable-take width zero items buckets table room = nil_from_length items (omega arith)
+  IsTable-take width (suc b) items [] table room = table
+  IsTable-take width (suc b) items (bucket ∷ buckets) table room =
+      (table.0, IsTable-take (2 * width) b (drop width items) buckets table.1 (omega (arith, mul-pow_suc width b, length-drop width items, mul-le-mul_left (2 * width) (pow_pos b))))
+
+  AreFilled-bucket_from : (width : ℕ) (items : List T) (buckets : List (Option (Bucket T))) → 0 < width → 0 < length items → AreFilled buckets → AreFilled (bucket_from width items ∷ buckets)
+  AreFilled-bucket_from width [] buckets pos some rest = absurd (omega arith)
+  AreFilled-bucket_from width (x ∷ xs) buckets pos some rest = (omega (arith, length-take width (x ∷ xs)), rest)
+
+  -- each bucket that begins before the items end has an item
+  pub AreFilled-take : (width b : ℕ) (items : List T) (buckets : List (Option (Bucket T))) → 0 < width → IsTable width items buckets → b ≤ length buckets → ((c : ℕ) → c < b → width * 2 ^ c < length items + width) → AreFilled (take b buckets)
+  AreFilled-take width zero items buckets pos table within early = tt
+  AreFilled-take width (suc b) items [] pos table within early = absurd (omega arith)
+  AreFilled-take width (suc b) items (bucket ∷ buckets) pos table within early =
+      let first : width * 2 ^ 0 < length items + width = early 0 (omega arith) in
+      let rest = AreFilled-take (2 * width) b (drop width items) buckets (omega arith) table.1 (omega arith)
+      (λ c below. let next = early (suc c) (omega arith) in omega (arith, mul-pow_suc width c, length-drop width items)) in
+      subst (λ (r : Option (Bucket T)). AreFilled (r ∷ take b buckets)) (sym table.0) (AreFilled-bucket_from width items (take b buckets) pos (omega arith) rest)
