@@ -5,4 +5,4 @@
 mod heap;
 #[cfg(test)]
 mod memory;
-pub mod watched;
+pub mod observed;
