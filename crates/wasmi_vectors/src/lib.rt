@@ -6,3 +6,4 @@ mod heap;
 #[cfg(test)]
 mod memory;
 pub mod observed;
+pub mod tiny;
