@@ -7,9 +7,9 @@ use Rattle.std.proofs.lemmas.Option.{slice_get-get_or}
 use Rattle.wasmi_arena.specs.Geometry.{size, start, max_len, IsPlace, IsFewest, fewest, room}
 use Rattle.wasmi_arena.specs.Bucket.{Bucket}
 use Rattle.wasmi_arena.specs.StableVec.{bucket_at}
-use Rattle.wasmi_arena.specs.Table.{items_of, items_in, bucket_with, bucket_from, IsTable, AreFilled, IsLaidOut, IsAhead}
+use Rattle.wasmi_arena.specs.Table.{items_of, items_in, bucket_with, with_item, bucket_from, IsTable, AreFilled, IsLaidOut, IsAhead}
 use Rattle.wasmi_arena.proofs.Geometry.{start-size, size-suc, start_mono, start_below, fewest_is, fewest_is_least, fewest_of_none, fewest_of_place, below_of_start}
-use Rattle.wasmi_arena.proofs.Table.{get_or-IsTable, items_of-IsTable, IsTable-set, IsTable-take, AreFilled-take, IsTable-none}
+use Rattle.wasmi_arena.proofs.Table.{get_or-IsTable, items_of-IsTable, IsTable-set, IsTable-write, IsTable-take, AreFilled-take, IsTable-none}
 
 module _ {T : Type 0} where
   -- the bucket of a list that has an item
@@ -29,10 +29,24 @@ module _ {T : Type 0} where
   bucket_from-capacity width [] bucket is = cc
   bucket_from-capacity width (x ∷ xs) bucket is = sym (ap capacity_of is)
 
+  -- a part of a list reads what the list reads
+  slice_get-take_drop : (xs : List T) (m n s i : ℕ) → s < n → m + s ≡ i → i < length xs → slice_get (take n (drop m xs)) s ≡ slice_get xs i
+  slice_get-take_drop [] m n s i slot at below = absurd (omega arith)
+  slice_get-take_drop (x ∷ xs) m n s i slot at below =
+      let there : s < length (take n (drop m (x ∷ xs))) = omega (arith, length-take n (drop m (x ∷ xs)), length-drop m (x ∷ xs)) in
+      let same = get_or-take n (drop m (x ∷ xs)) s x slot ∙ (get_or-drop m (x ∷ xs) s x ∙ ap (λ k. get_or (x ∷ xs) k x) at) in
+      slice_get-get_or (take n (drop m (x ∷ xs))) s x there ∙ (ap Some same ∙ sym (slice_get-get_or (x ∷ xs) i x below))
+
   module _ (buckets : List (Option (Bucket T))) (open_buckets len : ℕ) (v : IsLaidOut buckets open_buckets len) where
     -- the open buckets are the fewest
     IsFewest-len : IsFewest len (fewest len)
     IsFewest-len = fewest_is_least len v.few_items
+
+    pub index-lt_len : {i : ℕ} → i < length (items_of buckets) → i < len
+    index-lt_len {i} below = rw v.items_counted below
+
+    pub index-lt_max : {i : ℕ} → i < length (items_of buckets) → i < max_len
+    index-lt_max {i} below = let few = v.few_items in omega (arith, index-lt_len below)
 
     pub fewest-len : fewest len ≡ fewest (length (items_of buckets))
     fewest-len = ap fewest v.items_counted
@@ -118,6 +132,34 @@ module _ {T : Type 0} where
             let same : x ≡ get_or (items_of buckets) i x = at ∙ (ap (λ (xs : List T). get_or xs s x) slice_is ∙ (here ∙ ap (λ n. get_or (items_of buckets) n x) place.index_is)) in
             ap Some same ∙ sym (slice_get-get_or (items_of buckets) i x (rw (← v.items_counted) below))
 
+    -- an item is exchanged in its slot
+    module _ (i b s : ℕ) (place : IsPlace i b s) (below : i < len) where
+      IsTable-written : (item : T) → IsTable 32 (set (items_of buckets) i item) (set buckets b (with_item (get_or buckets b None) s item))
+      IsTable-written item = IsTable-write 32 b s i (items_of buckets) buckets item (lit< tt) v.table (rw v.buckets_counted place.bucket_exists) place.slot_exists
+          (omega (arith, start-size b, place.index_is)) (rw (← v.items_counted) below)
+
+      pub items_of-written : (item : T) → items_of (set buckets b (with_item (get_or buckets b None) s item)) ≡ set (items_of buckets) i item
+      items_of-written item = items_of-IsTable 32 (set (items_of buckets) i item) (set buckets b (with_item (get_or buckets b None) s item)) (IsTable-written item)
+
+      pub IsLaidOut-written : (item : T) → IsLaidOut (set buckets b (with_item (get_or buckets b None) s item)) open_buckets len
+      IsLaidOut-written item = record {
+        buckets_counted = length-set buckets b (with_item (get_or buckets b None) s item) ∙ v.buckets_counted;
+        table = rw (items_of-written item) (IsTable-written item);
+        items_counted = rw (items_of-written item) (v.items_counted ∙ sym (length-set (items_of buckets) i item));
+        few_items = v.few_items;
+        fewest_open = v.fewest_open;
+      }
+
+      -- its bucket holds it in that slot
+      items_in-place : items_in (get_or buckets b None) ≡ take (size b) (drop (start b) (items_of buckets))
+      items_in-place = rw (get_or-buckets b place.bucket_exists) (items_in-bucket_from (size b) (drop (start b) (items_of buckets)))
+
+      pub slot_filled : s < length (items_in (get_or buckets b None))
+      slot_filled = rw items_in-place (omega (arith, length-take (size b) (drop (start b) (items_of buckets)), length-drop (start b) (items_of buckets), v.items_counted, place.slot_exists, place.index_is))
+
+      pub slice_get-slot : slice_get (items_in (get_or buckets b None)) s ≡ slice_get (items_of buckets) i
+      slice_get-slot = rw items_in-place (slice_get-take_drop (items_of buckets) (start b) (size b) s i place.slot_exists place.index_is (rw (← v.items_counted) below))
+
     -- one more item goes to its slot
     module _ (b s : ℕ) (place : IsPlace len b s) where
       IsTable-push : (item : T) → IsTable 32 (items_of buckets ++ item ∷ []) (set buckets b (bucket_with (size b) (get_or buckets b None) item))
@@ -162,14 +204,6 @@ module _ {T : Type 0} where
       let table = IsTable-none 32 buckets empty in
       let none = items_of-IsTable 32 [] buckets table in
       (record { buckets_counted = counted; table = rw none table; items_counted = sym (ap length none); few_items = omega arith; fewest_open = sym (fewest_is (omega arith) fewest_of_none) }, none)
-
-  -- a part of a list reads what the list reads
-  slice_get-take_drop : (xs : List T) (m n s i : ℕ) → s < n → m + s ≡ i → i < length xs → slice_get (take n (drop m xs)) s ≡ slice_get xs i
-  slice_get-take_drop [] m n s i slot at below = absurd (omega arith)
-  slice_get-take_drop (x ∷ xs) m n s i slot at below =
-      let there : s < length (take n (drop m (x ∷ xs))) = omega (arith, length-take n (drop m (x ∷ xs)), length-drop m (x ∷ xs)) in
-      let same = get_or-take n (drop m (x ∷ xs)) s x slot ∙ (get_or-drop m (x ∷ xs) s x ∙ ap (λ k. get_or (x ∷ xs) k x) at) in
-      slice_get-get_or (take n (drop m (x ∷ xs))) s x there ∙ (ap Some same ∙ sym (slice_get-get_or (x ∷ xs) i x below))
 
   -- an item lies in the slot of its index
   pub slice_get-bucket_at : (items : List T) (i b s : ℕ) → length items ≤ max_len → i < length items → IsPlace i b s → IsSomeAnd (bucket_at items b) (λ bucket. slice_get bucket.items s ≡ slice_get items i)

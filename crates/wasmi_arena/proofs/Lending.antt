@@ -1,10 +1,10 @@
--- Opened slots lend their items as one `&mut [T]`, and are slots again once it has ended. Assumes `Logic`.
+-- Opened slots lend their items as one `&mut [T]`, or one item as a `&mut T`, and are slots again once it has ended. Assumes `Logic`.
 use mathlib.Core.Path.{◌≡◌, refl, sym, ap, subst, ◌∙◌}
 use Prim.Native.Nat.{ℕ, ◌+◌, ◌*◌, ◌<◌, ◌^◌}
 use native.Mathlib.Nat.{zero-mul}
 use native.Mathlib.Omega.{arith}
 use mathlib.Core.List.{List, [], ◌∷◌}
-use lib.ListN.{length, drop as rest_of}
+use lib.ListN.{length, get_or, set, length-set, drop as rest_of}
 use lib.Seq.{take_at as front_of}
 use seplogic.Ra.Ura.{Ura}
 use base.Fraction.{full_share}
@@ -13,13 +13,13 @@ use base.Fml.{Lft, GName, Share, Fml, fsep, flft, fobor, fobs, fauth}
 use mir.Syntax.{named}
 use mir.Val.{Val}
 use types.Logic.{Logic, sem}
-use types.Kit.{⋆, ‵, raw, ◌⊛◌, some, later, ◌$◌, ◌∵◌, !, qed, by, done, move, use1, split, join, group, rewrite, fsplit, fsplit3, fjoin, fjoin3, fpack, flt_i}
+use types.Kit.{⋆, ‵, raw, ◌⊛◌, some, later, ◌$◌, ◌∵◌, !, qed, by, done, move, use1, use2, split, join, group, rewrite, fsplit, fsplit3, fjoin, fjoin3, fpack, flt_i}
 use types.SemTy.{Body, cells}
 use denote.Array.{Array}
-use denote.Follow.{follows}
+use denote.Follow.{follows, Part, lends_Part}
 use denote.FollowSlice.{Elements, lends_Elements}
-use denote.Index.{row}
-use denote.Memory.{mem, cell_at, part_of}
+use denote.Index.{row, others, takes, puts, place_is, place as nth}
+use denote.Memory.{mem, cell_at, part_at, part_of, shares}
 use denote.RawPtr.{Ptr, block_ptr}
 use denote.Slice.{Room}
 use Rattle.core.proofs.mem.Param.{El, R, el_x}
@@ -79,3 +79,50 @@ module _ (E : El) {M : Type 1} {𝓤 : Ura M} (𝓛 : Logic 𝓤) (s : (SlotsRow
         fsplit ! $ rewrite ! 0 (λ (from : ℕ). ‵ (row (R E) full_share s.items b from)) from_start refl $ use1 𝓛 (‵ (cells (mem (R E)) s.items b o)) (to_cells E 𝓛 b o s.items o) $
         move ! (1 ∷ 2 ∷ 3 ∷ []) $ fjoin3 ! $ move ! (2 ∷ 3 ∷ 4 ∷ 1 ∷ 0 ∷ []) $ group ! 5 $
         by ! (lends_Elements 𝓛 (SlotsRow E) (R E) written (named 0) κ q rb ro b o γ s.items room_for_items (sem 𝓛 beside_items) items_back code code)
+
+-- slots s at the place (rb, ro), whose block begins at (b, o) and none of which was emptied, and slot i of them, which is filled
+module _ (E : El) {M : Type 1} {𝓤 : Ura M} (𝓛 : Logic 𝓤) (s : (SlotsRow E).Denot) (vs : List Val) (rb ro b o : ℕ) (at : s.block ≡ block_ptr b o) (none_taken : s.taken ≡ 0) (small : bytes E s < 2 ^ 63)
+    (i : ℕ) (inside : i < length s.items) (x : el_x E) where
+  open 𝓛 use {H, A}
+
+  -- what the slots are once w was written there
+  abbrev pub written_at : el_x E → (SlotsRow E).Denot
+  written_at w = with_items s (set s.items i w)
+
+  -- all but that item
+  abbrev pub beside_item : Fml
+  beside_item = fsep (fsep (others (shares (R E)) full_share s.items i b o) (fsep (empty (R E) s.taken b o) (empty (R E) s.free b ((s.taken + length s.items) * sz E + o))))
+      (fsep ((Marker E).own_val (tt, tt) vs) (cell_at full_share (SlotsRow E).mir vs rb ro))
+
+  start : s.taken * sz E + o ≡ o
+  start = ap (λ n. n * sz E + o) none_taken ∙ omega (arith, zero-mul (sz E))
+
+  pub item_back : (w : el_x E) → ent 𝓤 (sep 𝓤 (sem 𝓛 (part_at (R E) full_share w b (i * sz E + o))) (sem 𝓛 beside_item)) (sem 𝓛 ((mem (SlotsRow E)).own_at (written_at w) rb ro))
+  unfolding part_of
+  item_back w =
+      let size = sz E in let ws = set s.items i w in let same : length ws ≡ length s.items = length-set s.items i w in
+      let past : (s.taken + length s.items) * size + o ≡ (s.taken + length ws) * size + o = ap (λ n. (s.taken + n) * size + o) (sym same) in
+      let fits : (s.taken + length ws + s.free) * size < 2 ^ 63 = subst (λ n. (s.taken + n + s.free) * size < 2 ^ 63) (sym same) small in
+      qed 𝓛 (‵ (part_at (R E) full_share w b (i * size + o)) ∷ ‵ beside_item ∷ []) ∵ rewrite ! 0 (λ (k : ℕ). ‵ (part_at (R E) full_share w b k)) (sym (place_is size o i)) refl $
+      move ! (1 ∷ []) $ fsplit3 ! $ fsplit3 ! $ move ! (5 ∷ 0 ∷ []) $ use2 𝓛 (‵ (row (R E) full_share ws b o)) (puts (shares (R E)) full_share 𝓛 s.items i w b o inside) $
+      rewrite ! 0 (λ (from : ℕ). ‵ (row (R E) full_share ws b from)) (sym start) refl $ move ! (2 ∷ []) $ rewrite ! 0 (λ (from : ℕ). ‵ (empty (R E) s.free b from)) past refl $
+      move ! (1 ∷ 2 ∷ 0 ∷ []) $ fjoin3 ! $ flt_i ! ((s.taken + length ws + s.free) * size) (2 ^ 63) fits $ fjoin ! $
+      rewrite ! 0 (λ (p : Ptr). ‵ (slots_own (R E) p s.taken ws s.free)) (sym at) refl $ move ! (1 ∷ 0 ∷ []) $ fjoin ! $ move ! (1 ∷ 0 ∷ []) $ fjoin ! $
+      fpack ! (List Val) (λ us. fsep (cell_at full_share (SlotsRow E).mir us rb ro) ((SlotsRow E).own_val (written_at w) us)) vs $ done !
+
+  module _ (κ : Lft) (q : Share) (γ : GName) where
+    -- the item as a `&mut` for κ, whose name is δ, and what the slots are afterwards
+    abbrev pub LentItem : GName → SProp 𝓤
+    LentItem = Part 𝓛 (SlotsRow E) (R E) written_at (named 0) κ q rb ro b (i * sz E + o) γ (sem 𝓛 beside_item) item_back (get_or s.items i x)
+
+    pub lends_one : ent 𝓤 (⋆ 𝓛 (‵ (runs (R E) b o s.taken s.items s.free) ∷ ‵ ((Marker E).own_val (tt, tt) vs) ∷ ‵ (cell_at full_share (SlotsRow E).mir vs rb ro)
+        ∷ ‵ (fobor κ q (Body (mem (SlotsRow E)) rb ro γ)) ∷ ‵ (fobs γ ((SlotsRow E).coded.code s)) ∷ ‵ (fauth γ ((SlotsRow E).coded.code s)) ∷ [])) (⋆ 𝓛 (later (some (λ (δ : GName). raw (LentItem δ))) ∷ []))
+    lends_one =
+        let code = (SlotsRow E).coded.code s in let item = get_or s.items i x in
+        qed 𝓛 (‵ (runs (R E) b o s.taken s.items s.free) ∷ ‵ ((Marker E).own_val (tt, tt) vs) ∷ ‵ (cell_at full_share (SlotsRow E).mir vs rb ro)
+        ∷ ‵ (fobor κ q (Body (mem (SlotsRow E)) rb ro γ)) ∷ ‵ (fobs γ code) ∷ ‵ (fauth γ code) ∷ []) ∵
+        fsplit ! $ rewrite ! 0 (λ (from : ℕ). ‵ (row (R E) full_share s.items b from)) start refl $
+        use1 𝓛 (‵ (part_at (R E) full_share item b (nth (sz E) o i)) ⊛ ‵ (others (shares (R E)) full_share s.items i b o)) (takes (shares (R E)) full_share 𝓛 s.items i x b o inside) $ split ! $
+        rewrite ! 0 (λ (k : ℕ). ‵ (part_at (R E) full_share item b k)) (place_is (sz E) o i) refl $
+        move ! (1 ∷ 2 ∷ []) $ fjoin ! $ move ! (0 ∷ 2 ∷ 3 ∷ []) $ fjoin3 ! $ move ! (2 ∷ 3 ∷ 4 ∷ 1 ∷ 0 ∷ []) $ group ! 5 $
+        by ! (lends_Part 𝓛 (SlotsRow E) (R E) written_at (named 0) κ q rb ro b (i * sz E + o) γ (sem 𝓛 beside_item) item_back code code item)

@@ -8,3 +8,4 @@ pub mod Frame
 pub mod Sharing
 pub mod Lending
 pub mod NewBlock
+pub mod TableMemory

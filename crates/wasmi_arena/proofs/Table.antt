@@ -2,11 +2,11 @@
 use Rattle.std.proofs.Common.{◌≡◌, ℕ, zero, suc, ◌+◌, ◌-◌, ◌*◌, ◌^◌, ◌<◌, ◌≤◌, List, [], ◌∷◌, ◌++◌, length, take, drop, get_or, set, Option, Some, None, refl, sym, ◌∙◌, ap, subst, arith, length-append, length-drop}
 use Rattle.std.proofs.Math.Nat.{pow-succ', mul-le-mul_left}
 use Rattle.std.proofs.Math.ListN.{drop_of_length-le}
-use Rattle.std.proofs.Math.Seq.{drop-nil}
+use Rattle.std.proofs.Math.Seq.{drop-nil, take-set-lt}
 use Rattle.std.proofs.lemmas.Nat.{pow_pos}
-use Rattle.std.proofs.lemmas.List.{nil_from_length, take_all, take-append-drop, take-append-le, drop-append-le, drop-drop, length-take}
+use Rattle.std.proofs.lemmas.List.{nil_from_length, take_all, take-append-drop, take-append-le, drop-append-le, drop-drop, length-take, length-set, take-set-le, drop-set-lt, drop-set-add}
 use Rattle.wasmi_arena.specs.Bucket.{Bucket}
-use Rattle.wasmi_arena.specs.Table.{items_of, bucket_with, bucket_from, IsTable, AreFilled}
+use Rattle.wasmi_arena.specs.Table.{items_of, bucket_with, with_item, bucket_from, IsTable, AreFilled}
 
 -- twice the width before is the width after
 mul-pow_suc : (width b : ℕ) → width * 2 ^ suc b ≡ 2 * width * 2 ^ b
@@ -73,6 +73,38 @@ module _ {T : Type 0} where
       let left = length-drop width items in
       let rest = IsTable-set (2 * width) b (drop width items) buckets item (omega arith) table.1 (omega arith) (omega arith) (omega (arith, mul-pow_suc width (suc b))) in
       (table.0 ∙ sym (bucket_from-append_full width items item pos more), rw (drop-append-le width items (item ∷ []) more) (rw whole at rest))
+
+  -- an item of the bucket is exchanged
+  bucket_from-some : (width : ℕ) (items : List T) → 0 < length items → bucket_from width items ≡ Some record { items = take width items; capacity = width }
+  bucket_from-some width [] some = absurd (omega arith)
+  bucket_from-some width (x ∷ xs) some = refl
+
+  bucket_from-set_low : (width s : ℕ) (items : List T) (item : T) → s < width → 0 < length items → with_item (bucket_from width items) s item ≡ bucket_from width (set items s item)
+  bucket_from-set_low width s items item low some =
+      ap (λ b. with_item b s item) (bucket_from-some width items some)
+      ∙ (ap (λ (xs : List T). Some record { items = xs; capacity = width }) (sym (take-set-lt width items s item low))
+      ∙ sym (bucket_from-some width (set items s item) (omega (arith, length-set items s item))))
+
+  -- an item behind the bucket is
+  bucket_from-set_high : (width i : ℕ) (items : List T) (item : T) → width ≤ i → 0 < length items → bucket_from width (set items i item) ≡ bucket_from width items
+  bucket_from-set_high width i items item high some =
+      bucket_from-some width (set items i item) (omega (arith, length-set items i item))
+      ∙ (ap (λ (xs : List T). Some record { items = xs; capacity = width }) (take-set-le width items i item high) ∙ sym (bucket_from-some width items some))
+
+  -- an item is exchanged in its slot
+  pub IsTable-write : (width b s i : ℕ) (items : List T) (buckets : List (Option (Bucket T))) (item : T) → 0 < width → IsTable width items buckets → b < length buckets → s < width * 2 ^ b
+      → i + width ≡ width * 2 ^ b + s → i < length items → IsTable width (set items i item) (set buckets b (with_item (get_or buckets b None) s item))
+  IsTable-write width b s i items [] item pos table below slot at there = absurd (omega arith)
+  IsTable-write width zero s i items (bucket ∷ buckets) item pos table below slot at there =
+      let one : width * 2 ^ 0 ≡ width = omega arith in let same : i ≡ s = omega arith in let low : s < width = omega arith in
+      (rw (same, table.0) (bucket_from-set_low width s items item low (omega arith)), rw (same, drop-set-lt width items s item low) table.1)
+  IsTable-write width (suc b) s i items (bucket ∷ buckets) item pos table below slot at there =
+      let whole : 2 * width * 2 ^ b ≡ width * 2 ^ suc b = sym (mul-pow_suc width b) in
+      let high : width ≤ i = omega (arith, whole, mul-le-mul_left (2 * width) (pow_pos b)) in
+      let left = length-drop width items in let apart : i ≡ width + (i - width) = omega arith in
+      let rest = IsTable-write (2 * width) b s (i - width) (drop width items) buckets item (omega arith) table.1 (omega arith) (omega arith) (omega arith) (omega arith) in
+      (table.0 ∙ sym (bucket_from-set_high width i items item high (omega arith)),
+      subst (λ (xs : List T). IsTable (2 * width) xs (set buckets b (with_item (get_or buckets b None) s item))) (sym (ap (λ n. drop width (set items n item)) apart ∙ drop-set-add width items (i - width) item)) rest)
 
   -- the buckets that are needed hold the items alone
   pub IsTable-take : (width b : ℕ) (items : List T) (buckets : List (Option (Bucket T))) → IsTable width items buckets → length items + width ≤ width * 2 ^ b → IsTable width items (take b buckets)

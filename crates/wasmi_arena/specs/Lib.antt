@@ -9,6 +9,8 @@ pub mod Filled
 pub mod Bucket
 pub mod BucketLend
 pub mod StableVec
+pub mod VecLend
+pub mod TableLend
 pub mod Table
 pub mod Arena
 pub mod Entries

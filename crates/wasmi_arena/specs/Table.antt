@@ -1,6 +1,6 @@
 -- How a stable vector lays out its items: in a table of buckets, each open or not. No public clause
 -- cites this module.
-use Rattle.std.specs.Prelude.{◌≡◌, ℕ, ◌+◌, ◌*◌, ◌<◌, ◌≤◌, List, [], ◌∷◌, ◌++◌, length, take, drop, Option, Some, None}
+use Rattle.std.specs.Prelude.{◌≡◌, ℕ, ◌+◌, ◌*◌, ◌<◌, ◌≤◌, List, [], ◌∷◌, ◌++◌, length, take, drop, slice_set, Option, Some, None}
 use Rattle.wasmi_arena.specs.Geometry.{max_len, fewest}
 use Rattle.wasmi_arena.specs.Bucket.{Bucket}
 
@@ -20,6 +20,12 @@ module _ {T : Type 0} where
   abbrev pub bucket_with : ℕ → Option (Bucket T) → T → Option (Bucket T)
   bucket_with capacity bucket item =
       Some record { items = items_in bucket ++ item ∷ []; capacity = capacity }
+
+  -- a bucket with another item in a filled slot
+  abbrev pub with_item : Option (Bucket T) → ℕ → T → Option (Bucket T)
+  with_item None slot item = None
+  with_item (Some bucket) slot item =
+      Some record { items = slice_set bucket.items slot item; capacity = bucket.capacity }
 
   -- the bucket of `width` slots that holds the first of these items, and isn't open where there are
   -- none

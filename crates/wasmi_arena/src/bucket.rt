@@ -1,5 +1,5 @@
 //! The buckets of a stable vector.
-ghost use Rattle.std.specs.Prelude.{◌≡◌, ◌^◌, ◌<◌, [], ◌∷◌, ◌++◌, length, IfOk, IsOk};
+ghost use Rattle.std.specs.Prelude.{◌≡◌, ◌^◌, ◌<◌, [], ◌∷◌, ◌++◌, length, slice_get, Some, IfOk, IsOk};
 ghost use Rattle.std.specs.Borrow.{sem};
 ghost use Rattle.std.specs.Mem.{type_size};
 ghost use Rattle.wasmi_arena.specs.Bucket.{bucket};
@@ -37,7 +37,7 @@ impl<T, A: Allocator> Model for Bucket<T, A> {
 }
 
 impl<T, A: Allocator> Bucket<T, A> {
-    ghost use Rattle.wasmi_arena.specs.BucketLend.{lends_items};
+    ghost use Rattle.wasmi_arena.specs.BucketLend.{lends_items, lends_item};
 
     // An empty bucket of so many slots, in one block that it asks of `alloc`, which it keeps. Nothing is
     // asked for where the items take no memory.
@@ -96,6 +96,16 @@ impl<T, A: Allocator> Bucket<T, A> {
     {
         let (ptr, len) = (self.ptr, self.len);
         self.slots.slice_mut(ptr, len)
+    }
+
+    // The item in a filled slot, to write to.
+    pub(crate) fn item_mut(&mut self, slot: usize) -> &mut T
+        requires { slot < length self.old.items }
+        ensures* writes_back { sem 𝓛 (lends_item T.row A.row A.Allocator self.entry slot result) }
+        ensures value { slice_get self.old.items slot ≡ Some result.now }
+    {
+        let ptr = self.ptr;
+        self.slots.item_mut(ptr, slot)
     }
 
     // Drops the items, first to last, and gives the block back to the allocator that it is of.

@@ -4,12 +4,14 @@
 
 mod block;
 mod bucket;
+mod bucket_table;
 mod error;
 mod key;
 pub mod laws;
 mod run;
 mod stable_arena;
 mod stable_vec;
+
 #[cfg(test)]
 mod tests;
 
@@ -21,4 +23,6 @@ pub use error::ArenaError;
 pub use key::ArenaKey;
 pub use run::{ArenaCommand, ArenaReply, run_arena};
 pub use stable_arena::{StableArena, StableArenaIter};
+#[doc(hidden)]
+pub use bucket_table::BucketTable;
 pub use stable_vec::{MAX_LEN, StableVec, StableVecIter};

@@ -1,14 +1,16 @@
 //! A vector whose items stay in the slots that they were pushed into.
 ghost use Rattle.std.specs.Prelude.{◌≡◌, ◌+◌, ◌<◌, ◌≤◌, ◌==◌, ◌↔◌, [], ◌∷◌, ◌++◌, length, IfOk, IfErr, OnOk, OnErr, IsOk, IsOkUnless, IsErrOf, ◌⊎◌, option_copied, slice_get, slice_index_or, slice_set, Some, None};
+ghost use Rattle.std.specs.Borrow.{sem};
 ghost use Rattle.std.specs.Mem.{type_size};
-ghost use Rattle.std.specs.Option.{ForSome};
+ghost use Rattle.std.specs.Option.{ForSome, option_copied_mut};
 ghost use Rattle.wasmi_arena.specs.Geometry.{size, start, max_len, IsPlace, IsFewest, fewest, slots, room, bucket_of, slot_of};
+ghost use Rattle.wasmi_arena.specs.TableLend.{lends_slot};
 ghost use Rattle.wasmi_arena.specs.StableVec.{bucket_at};
 ghost use Rattle.wasmi_arena.specs.Table.{items_in, bucket_with};
 
 mod iter;
 
-use crate::{ArenaError, Bucket};
+use crate::{ArenaError, Bucket, BucketTable};
 pub use iter::StableVecIter;
 use std::alloc::{Allocator, Global};
 use std::array;
@@ -28,7 +30,7 @@ pub const MAX_LEN: usize = 4_294_967_264;
 /// [`place`](StableVec::place) gives, whatever the length.
 #[derive(Drop)]
 pub struct StableVec<T, A: Allocator = Global> {
-    buckets: [Option<Bucket<T, A>>; BUCKETS],
+    table: BucketTable<T, A, BUCKETS>,
     open_buckets: usize,
     len: usize,
     alloc: A,
@@ -41,9 +43,9 @@ impl<T, A: Allocator> Model for StableVec<T, A> {
 
     ghost use Rattle.wasmi_arena.specs.Table.{items_of, IsLaidOut};
 
-    ghost view = { λ vec. items_of vec.buckets };
+    ghost view = { λ vec. items_of vec.table.buckets };
 
-    ghost invariant = { λ vec. IsLaidOut vec.buckets vec.open_buckets vec.len };
+    ghost invariant = { λ vec. IsLaidOut vec.table.buckets vec.open_buckets vec.len };
 }
 
 // The first index of a bucket.
@@ -101,6 +103,18 @@ fn push_into<T: Drop, A: Allocator + Clone>(
     Ok(())
 }
 
+// The item in a filled slot of an open bucket, to write to.
+fn slot_mut<T, A: Allocator>(bucket: &mut Option<Bucket<T, A>>, slot: usize) -> &mut T
+    requires { slot < length (items_in bucket.old) }
+    ensures* writes_back { sem 𝓛 (lends_slot T.row A.row A.Allocator bucket.entry slot result) }
+    ensures value { slice_get (items_in bucket.old) slot ≡ Some result.now }
+{
+    match bucket {
+        Some(open) => open.item_mut(slot),
+        None => unreachable!(),
+    }
+}
+
 impl<T> StableVec<T> {
     /// The bucket and the slot in it of the item at an index below [`MAX_LEN`]. Constant time.
     pub fn place(index: usize) -> (usize, usize)
@@ -125,12 +139,16 @@ impl<T> StableVec<T> {
 }
 
 impl<T, A: Allocator> StableVec<T, A> {
+    ghost use Rattle.wasmi_arena.specs.VecLend.{lends_index, lends_get};
+
     /// An empty vector, which asks `alloc` for memory when a bucket is opened.
     pub fn new(alloc: A) -> Self
         ensures { result ≡ [] }
     {
         StableVec {
-            buckets: array::from_fn(|_| None),
+            table: BucketTable {
+                buckets: array::from_fn(|_| None),
+            },
             open_buckets: 0,
             len: 0,
             alloc,
@@ -183,10 +201,35 @@ impl<T, A: Allocator> StableVec<T, A> {
         }
         let (bucket, slot) = StableVec::<T>::place(index);
         // By the slice, since an array of buckets may be of any size.
-        let buckets = &self.buckets[..];
+        let buckets = &self.table.buckets[..];
         match &buckets[bucket] {
             Some(open) => Some(&open.slice()[slot]),
             None => unreachable!(),
+        }
+    }
+
+    // The item at an index, to write to.
+    fn item_mut(&mut self, index: usize) -> &mut T
+        requires { index < length self.old }
+        ensures* writes_back { sem 𝓛 (lends_index T.row A.row A.Allocator self.entry index result) }
+        ensures value { slice_get self.old index ≡ Some result.now }
+    {
+        // An index of an item has a place: the table says so.
+        let _ = &self.table;
+        let (bucket, slot) = StableVec::<T>::place(index);
+        let found = self.table.bucket_mut(bucket);
+        slot_mut(found, slot)
+    }
+
+    /// The item at an index to write to, or `None` when `index >= len`. Constant time.
+    pub fn get_mut(&mut self, index: usize) -> Option<&mut T>
+        ensures* writes_back { sem 𝓛 (lends_get T.row A.row A.Allocator self.entry index result) }
+        ensures value { option_copied_mut result ≡ slice_get self.old index }
+    {
+        if index < self.len {
+            Some(self.item_mut(index))
+        } else {
+            None
         }
     }
 
@@ -195,7 +238,7 @@ impl<T, A: Allocator> StableVec<T, A> {
     pub fn bucket(&self, bucket: usize) -> Option<&Bucket<T, A>>
         ensures { option_copied result ≡ bucket_at self.now bucket }
     {
-        self.buckets.get(bucket)?.as_ref()
+        self.table.buckets.get(bucket)?.as_ref()
     }
 
     /// The items, in order.
@@ -204,7 +247,7 @@ impl<T, A: Allocator> StableVec<T, A> {
         ensures bound { length self.now ≤ max_len }
     {
         let nothing: &[T] = &[];
-        let buckets = &self.buckets[..];
+        let buckets = &self.table.buckets[..];
         StableVecIter {
             front: nothing.iter(),
             buckets: buckets[..self.open_buckets].iter(),
@@ -238,7 +281,7 @@ impl<T, A: Allocator> StableVec<T, A> {
             return Err(ArenaError::NotEnoughKeys);
         }
         let place = next_place(index, self.open_buckets);
-        push_into(&mut self.buckets[..], place, &self.alloc, value)?;
+        push_into(&mut self.table.buckets[..], place, &self.alloc, value)?;
         self.open_buckets = place.0 + 1;
         self.len = index + 1;
         Ok(index)

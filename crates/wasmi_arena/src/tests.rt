@@ -110,6 +110,22 @@ fn two_hundred_pushes(rt: HostRuntime) -> Result<(), Fail> {
 }
 
 #[test]
+fn writes_through_references(rt: HostRuntime) -> Result<(), Fail> {
+    let mut vec = counted(rt.alloc(), 200)?;
+    for i in 0..200 {
+        if let Some(item) = vec.get_mut(i) {
+            *item = item.wrapping_mul(2);
+        }
+    }
+    for i in 0..200u32 {
+        assert_eq!(rt; vec.get(i as usize), Some(&(2 * i)));
+    }
+    assert!(rt; vec.get_mut(200).is_none());
+    assert_eq!(rt; (vec.len(), vec.open_buckets(), vec.slots()), (200, 3, 224));
+    Ok(())
+}
+
+#[test]
 fn items_without_size(rt: HostRuntime) -> Result<(), Fail> {
     let mut vec = StableVec::new(rt.alloc());
     for _ in 0..40 {

@@ -1,8 +1,8 @@
 //! The items in the slots of a block: one goes in, one comes out, all are lent as a slice.
-ghost use Rattle.std.specs.Prelude.{◌≡◌, ◌+◌, ◌<◌, ◌∷◌, length};
+ghost use Rattle.std.specs.Prelude.{◌≡◌, ◌+◌, ◌<◌, ◌∷◌, length, slice_get, Some};
 ghost use Rattle.std.specs.Borrow.{sem};
 ghost use Rattle.wasmi_arena.specs.Slots.{with_last, without_first};
-ghost use Rattle.wasmi_arena.specs.SlotsLend.{lends_items};
+ghost use Rattle.wasmi_arena.specs.SlotsLend.{lends_items, lends_item};
 
 use super::{BlockPtr, Slots};
 use std::slice;
@@ -48,5 +48,16 @@ impl<T> Slots<T> {
         ensures value { result.now ≡ self.old.items }
     {
         unsafe { slice::from_raw_parts_mut(ptr.start, len) }
+    }
+
+    /// The item in a slot, to write to.
+    pub(crate) fn item_mut(&mut self, ptr: BlockPtr<T>, slot: usize) -> &mut T
+        requires block { ptr.start ≡ self.old.block }
+        requires whole { self.old.taken ≡ 0 }
+        requires filled { slot < length self.old.items }
+        ensures* writes_back { sem 𝓛 (lends_item T.row self.entry slot result) }
+        ensures value { slice_get self.old.items slot ≡ Some result.now }
+    {
+        unsafe { &mut *ptr.start.add(slot) }
     }
 }

@@ -1,0 +1,14 @@
+-- What a stable vector is once a `&mut` to an item of it has ended.
+use Rattle.std.specs.Prelude.{ℕ, List, slice_set, Option}
+use Rattle.std.specs.Borrow.{Fml, RattleType, MutBor, Lends, LendsIf}
+use Rattle.std.specs.declared.alloc.Allocator.{Ghosts}
+use Rattle.wasmi_arena.specs.contracts.stable_vec.StableVec.{the_row}
+
+module _ (R A : RattleType) (alloc : Ghosts A.Denot) where
+  -- the item at that index is what was written last through the reference, and no other changes
+  abbrev pub lends_index : MutBor (List R.Denot) → ℕ → MutBor R.Denot → Fml
+  lends_index vec index item = Lends (the_row R A alloc) R vec item (λ last. slice_set vec.now index last)
+
+  -- the same where there is such an item, and else nothing changes
+  abbrev pub lends_get : MutBor (List R.Denot) → ℕ → Option (MutBor R.Denot) → Fml
+  lends_get vec index item = LendsIf (the_row R A alloc) R vec item (λ last. slice_set vec.now index last) vec.now
