@@ -170,28 +170,32 @@ slots-le n some small =
     ] in
     omega (arith, start-size b)
 
--- the top bit of a length and 31 tells how many buckets it needs
-module _ (n m : ℕ) (low : 2 ^ m ≤ n + 31) (high : n + 31 < 2 * 2 ^ m) (small : n ≤ max_len) where
-  pub top_from_4 : 4 ≤ m
-  top_from_4 = elim (cases_lt m 4) [
-    | inl few ↦ absurd (let least : m ≤ 3 = omega arith in let power : 2 ^ m ≤ 2 ^ 3 = pow_mono {i = m} {j = 3} least in omega arith)
-    | inr many ↦ many
+-- where the fewest buckets for n items are open, the place of the next item
+module _ (n b : ℕ) (small : n ≤ max_len) (open_is : b ≡ fewest n) where
+  open_few : IsFewest n b
+  open_few = rw open_is (fewest_is_least n small)
+
+  -- a slot is free: it is in the last of them
+  pub start-last : n < start b → start (b - 1) ≤ n
+  start-last free = elim (cases_lt n (start (b - 1))) [
+    | inl early ↦ absurd (let fewer = open_few.least (b - 1) (omega arith) in let some = below_of_start 0 b (n + 1) (omega arith) (omega arith) in omega arith)
+    | inr late ↦ late
   ]
 
-  fewest_by_top : IsFewest n (m - 4)
-  fewest_by_top =
-      let four = top_from_4 in
-      let power : 2 ^ m ≡ 2 ^ 4 * 2 ^ (m - 4) = ap (λ k. 2 ^ k) (let whole : m ≡ 4 + (m - 4) = omega arith in whole) ∙ pow-add 2 4 (m - 4) in
-      record {
-        enough = omega (arith, start-size (m - 4));
-        least = λ c room. elim (cases_lt c (m - 4)) [
-          | inl less ↦ absurd (omega (arith, start-size (m - 4), start_below c (m - 4) less, start-size c))
-          | inr more ↦ more
-        ];
-      }
+  pub place-last : n < start b → IsPlace n (b - 1) (n - start (b - 1))
+  place-last free =
+      let some = below_of_start 0 b (n + 1) (omega arith) (omega arith) in
+      let last : b ≡ suc (b - 1) = omega arith in
+      let end : start b ≡ start (suc (b - 1)) = ap start last in
+      let within : b ≤ 27 = open_few.least 27 small in
+      let begun = start-last free in
+      record { bucket_exists = omega arith; slot_exists = omega arith; index_is = omega arith }
 
-  pub fewest_of_top : m - 4 ≡ fewest n
-  fewest_of_top = fewest_unique fewest_by_top (fewest_is_least n small)
+  -- none is: it is the first slot of the next bucket
+  pub place-next : n < max_len → start b ≤ n → IsPlace n b 0
+  place-next below full =
+      let enough = open_few.enough in
+      record { bucket_exists = below_of_start b 27 (n + 1) (omega arith) (omega arith); slot_exists = size_pos b; index_is = omega arith }
 
 -- no more than all
 pub fewest-le : (n : ℕ) → n ≤ max_len → fewest n ≤ 27

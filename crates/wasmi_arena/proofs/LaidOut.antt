@@ -8,7 +8,7 @@ use Rattle.wasmi_arena.specs.Geometry.{size, start, max_len, IsPlace, IsFewest, 
 use Rattle.wasmi_arena.specs.Bucket.{Bucket}
 use Rattle.wasmi_arena.specs.StableVec.{bucket_at}
 use Rattle.wasmi_arena.specs.Table.{items_of, items_in, bucket_with, bucket_from, IsTable, AreFilled, IsLaidOut, IsAhead}
-use Rattle.wasmi_arena.proofs.Geometry.{start-size, size-suc, start_mono, start_below, fewest_is_least, below_of_start}
+use Rattle.wasmi_arena.proofs.Geometry.{start-size, size-suc, start_mono, start_below, fewest_is, fewest_is_least, fewest_of_none, fewest_of_place, below_of_start}
 use Rattle.wasmi_arena.proofs.Table.{get_or-IsTable, items_of-IsTable, IsTable-set, IsTable-take, AreFilled-take, IsTable-none}
 
 module _ {T : Type 0} where
@@ -29,7 +29,7 @@ module _ {T : Type 0} where
   bucket_from-capacity width [] bucket is = cc
   bucket_from-capacity width (x ∷ xs) bucket is = sym (ap capacity_of is)
 
-  module _ (buckets : List (Option (Bucket T))) (len : ℕ) (v : IsLaidOut buckets len) where
+  module _ (buckets : List (Option (Bucket T))) (open_buckets len : ℕ) (v : IsLaidOut buckets open_buckets len) where
     -- the open buckets are the fewest
     IsFewest-len : IsFewest len (fewest len)
     IsFewest-len = fewest_is_least len v.few_items
@@ -37,8 +37,14 @@ module _ {T : Type 0} where
     pub fewest-len : fewest len ≡ fewest (length (items_of buckets))
     fewest-len = ap fewest v.items_counted
 
+    pub open-fewest : open_buckets ≡ fewest (length (items_of buckets))
+    open-fewest = v.fewest_open ∙ fewest-len
+
     pub fewest-le_27 : fewest len ≤ 27
     fewest-le_27 = IsFewest-len.least 27 v.few_items
+
+    pub open-le_27 : open_buckets ≤ 27
+    open-le_27 = rw v.fewest_open fewest-le_27
 
     -- bucket b of the table holds what begins at its start
     pub get_or-buckets : (b : ℕ) → b < 27 → get_or buckets b None ≡ bucket_from (size b) (drop (start b) (items_of buckets))
@@ -88,8 +94,8 @@ module _ {T : Type 0} where
         ])
 
     -- all items are ahead of an iterator that begins
-    pub all_ahead : (nothing : List T) → nothing ≡ [] → IsAhead nothing (take (fewest len) buckets) len × (nothing ++ items_of (take (fewest len) buckets) ≡ items_of buckets)
-    all_ahead nothing none = (record { filled = AreFilled-open; counted = rw items_of-open v.items_counted; few = rw none (let few = v.few_items in omega arith) }, rw none items_of-open)
+    pub all_ahead : (nothing : List T) → nothing ≡ [] → IsAhead nothing (take open_buckets buckets) len × (nothing ++ items_of (take open_buckets buckets) ≡ items_of buckets)
+    all_ahead nothing none = rw v.fewest_open (record { filled = AreFilled-open; counted = rw items_of-open v.items_counted; few = rw none (let few = v.few_items in omega arith) }, rw none items_of-open)
 
     -- what is read at the bucket of an index
     module _ (i b s : ℕ) (place : IsPlace i b s) (below : i < len) (found : Option (Bucket T)) (read : found ≡ get_or buckets b found) where
@@ -121,12 +127,16 @@ module _ {T : Type 0} where
       pub items_of-push : (item : T) → items_of (set buckets b (bucket_with (size b) (get_or buckets b None) item)) ≡ items_of buckets ++ item ∷ []
       items_of-push item = items_of-IsTable 32 (items_of buckets ++ item ∷ []) (set buckets b (bucket_with (size b) (get_or buckets b None) item)) (IsTable-push item)
 
-      pub IsLaidOut-push : (item : T) → IsLaidOut (set buckets b (bucket_with (size b) (get_or buckets b None) item)) (len + 1)
+      len-push : len + 1 ≤ max_len
+      len-push = omega (arith, start_below b 27 place.bucket_exists, place.index_is, place.slot_exists)
+
+      pub IsLaidOut-push : (item : T) → IsLaidOut (set buckets b (bucket_with (size b) (get_or buckets b None) item)) (b + 1) (len + 1)
       IsLaidOut-push item = record {
         buckets_counted = length-set buckets b (bucket_with (size b) (get_or buckets b None) item) ∙ v.buckets_counted;
         table = rw (items_of-push item) (IsTable-push item);
         items_counted = rw (items_of-push item) (omega (arith, length-append (items_of buckets) (item ∷ []), v.items_counted));
-        few_items = omega (arith, start_below b 27 place.bucket_exists, place.index_is, place.slot_exists);
+        few_items = len-push;
+        fewest_open = sym (fewest_is len-push (fewest_of_place place));
       }
 
       -- its slot is the first free one of its bucket
@@ -147,11 +157,11 @@ module _ {T : Type 0} where
       ]
 
   -- where no bucket is open, there is no item
-  pub IsLaidOut-none : (buckets : List (Option (Bucket T))) → length buckets ≡ 27 → ((b : ℕ) → b < length buckets → get_or buckets b None ≡ None) → IsLaidOut buckets 0 × (items_of buckets ≡ [])
+  pub IsLaidOut-none : (buckets : List (Option (Bucket T))) → length buckets ≡ 27 → ((b : ℕ) → b < length buckets → get_or buckets b None ≡ None) → IsLaidOut buckets 0 0 × (items_of buckets ≡ [])
   IsLaidOut-none buckets counted empty =
       let table = IsTable-none 32 buckets empty in
       let none = items_of-IsTable 32 [] buckets table in
-      (record { buckets_counted = counted; table = rw none table; items_counted = sym (ap length none); few_items = omega arith }, none)
+      (record { buckets_counted = counted; table = rw none table; items_counted = sym (ap length none); few_items = omega arith; fewest_open = sym (fewest_is (omega arith) fewest_of_none) }, none)
 
   -- a part of a list reads what the list reads
   slice_get-take_drop : (xs : List T) (m n s i : ℕ) → s < n → m + s ≡ i → i < length xs → slice_get (take n (drop m xs)) s ≡ slice_get xs i

@@ -29,6 +29,7 @@ pub const MAX_LEN: usize = 4_294_967_264;
 #[derive(Drop)]
 pub struct StableVec<T, A: Allocator = Global> {
     buckets: [Option<Bucket<T, A>>; BUCKETS],
+    open_buckets: usize,
     len: usize,
     alloc: A,
 }
@@ -42,7 +43,7 @@ impl<T, A: Allocator> Model for StableVec<T, A> {
 
     ghost view = { λ vec. items_of vec.buckets };
 
-    ghost invariant = { λ vec. IsLaidOut vec.buckets vec.len };
+    ghost invariant = { λ vec. IsLaidOut vec.buckets vec.open_buckets vec.len };
 }
 
 // The first index of a bucket.
@@ -53,14 +54,17 @@ fn start_of(bucket: usize) -> usize
     (32 << bucket) - 32
 }
 
-// The fewest buckets with room for so many items.
-fn buckets_for(len: usize) -> usize
-    requires { len ≤ max_len }
-    ensures value { result ≡ fewest len }
-    ensures bound { result ≤ 27 }
+// The place of the next item, where the fewest buckets for `len` items are open.
+fn next_place(len: usize, open_buckets: usize) -> (usize, usize)
+    requires below { len < max_len }
+    requires open { open_buckets ≡ fewest len }
+    ensures { IsPlace len result.0 result.1 }
 {
-    // Bucket b ends at 64 * 2^b, once 32 is added.
-    (len + 31).ilog2() as usize - 4
+    if len < start_of(open_buckets) {
+        (open_buckets - 1, len - start_of(open_buckets - 1))
+    } else {
+        (open_buckets, 0)
+    }
 }
 
 // Puts `value` into a place, which is the first free slot of its bucket. The bucket is opened if need be.
@@ -127,6 +131,7 @@ impl<T, A: Allocator> StableVec<T, A> {
     {
         StableVec {
             buckets: array::from_fn(|_| None),
+            open_buckets: 0,
             len: 0,
             alloc,
         }
@@ -151,7 +156,7 @@ impl<T, A: Allocator> StableVec<T, A> {
     pub fn open_buckets(&self) -> usize
         ensures { result ≡ fewest (length self.now) }
     {
-        buckets_for(self.len)
+        self.open_buckets
     }
 
     /// How many slots the open buckets have. Constant time.
@@ -159,7 +164,7 @@ impl<T, A: Allocator> StableVec<T, A> {
         ensures value { result ≡ slots (length self.now) }
         ensures enough { length self.now ≤ result }
     {
-        start_of(buckets_for(self.len))
+        start_of(self.open_buckets)
     }
 
     /// How many items can be pushed before a bucket must be opened. Constant time.
@@ -202,7 +207,7 @@ impl<T, A: Allocator> StableVec<T, A> {
         let buckets = &self.buckets[..];
         StableVecIter {
             front: nothing.iter(),
-            buckets: buckets[..buckets_for(self.len)].iter(),
+            buckets: buckets[..self.open_buckets].iter(),
             behind: self.len,
         }
     }
@@ -232,8 +237,9 @@ impl<T, A: Allocator> StableVec<T, A> {
         if index == MAX_LEN {
             return Err(ArenaError::NotEnoughKeys);
         }
-        let place = StableVec::<T>::place(index);
+        let place = next_place(index, self.open_buckets);
         push_into(&mut self.buckets[..], place, &self.alloc, value)?;
+        self.open_buckets = place.0 + 1;
         self.len = index + 1;
         Ok(index)
     }

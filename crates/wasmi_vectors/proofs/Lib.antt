@@ -1,1 +1,1 @@
-mod Keepers
+mod Handles

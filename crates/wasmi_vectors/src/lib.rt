@@ -5,4 +5,5 @@
 mod heap;
 #[cfg(test)]
 mod memory;
-pub mod watched;
+pub mod observed;
+pub mod tiny;

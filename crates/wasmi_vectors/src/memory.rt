@@ -1,36 +1,41 @@
-//! Vectors, arenas and runs over an allocator that counts its blocks and refuses requests.
-use crate::watched::{Watch, Watched};
+//! Vectors, arenas and runs over an allocator that refuses requests.
+use crate::observed::{Log, Observed};
+use crate::tiny::Tiny;
+use std::alloc::{AllocError, Allocator, Global};
+use std::cell::Cell;
 use std::test::Fail;
-use wasmi_arena::{ArenaCommand, ArenaError, ArenaReply, StableArena, StableVec, run_arena};
+use wasmi_arena::{
+    ArenaCommand, ArenaError, ArenaKey, ArenaReply, StableArena, StableVec, run_arena,
+};
 
 #[test]
 fn a_refused_bucket_can_be_opened_later(rt: HostRuntime) -> Result<(), Fail> {
-    let watch = Watch::new();
+    let log = Log::new();
     {
-        let mut vec = StableVec::new(Watched::new(rt.alloc(), &watch));
+        let mut vec = StableVec::new(Observed::new(rt.alloc(), &log));
         for i in 0..31u64 {
             vec.push(i)?;
         }
-        watch.refuse_from(1);
+        log.refuse_from(1);
         assert_eq!(rt; vec.push(31)?, 31);
         assert_eq!(rt; vec.push(32), Err(ArenaError::OutOfSystemMemory));
         assert_eq!(rt; (vec.len(), vec.open_buckets(), vec.slots()), (32, 1, 32));
-        watch.refuse_from(u64::MAX);
+        log.refuse_none();
         assert_eq!(rt; vec.push(32)?, 32);
         assert_eq!(rt; (vec.len(), vec.open_buckets(), vec.slots()), (33, 2, 96));
     }
-    assert_eq!(rt; watch.requests(), 3);
-    assert_eq!(rt; (watch.given(), watch.taken(), watch.lost()), (2, 2, 0));
+    assert_eq!(rt; log.requests(), 3);
+    assert_eq!(rt; (log.given(), log.returned(), log.misplaced()), (2, 2, 0));
     Ok(())
 }
 
 #[test]
 fn each_request_refused_in_turn(rt: HostRuntime) -> Result<(), Fail> {
     for (nth, len, open) in [(1, 0, 0), (2, 32, 1), (3, 96, 2), (4, 224, 3)] {
-        let watch = Watch::new();
+        let log = Log::new();
         {
-            let mut vec = StableVec::new(Watched::new(rt.alloc(), &watch));
-            watch.refuse_once(nth);
+            let mut vec = StableVec::new(Observed::new(rt.alloc(), &log));
+            log.refuse_once(nth);
             for i in 0..300u64 {
                 if let Err(error) = vec.push(i) {
                     assert_eq!(rt; error, ArenaError::OutOfSystemMemory);
@@ -44,38 +49,38 @@ fn each_request_refused_in_turn(rt: HostRuntime) -> Result<(), Fail> {
                 (300, 4, Some(&299))
             );
         }
-        assert_eq!(rt; watch.requests(), 5);
-        assert_eq!(rt; (watch.given(), watch.taken(), watch.lost()), (4, 4, 0));
+        assert_eq!(rt; log.requests(), 5);
+        assert_eq!(rt; (log.given(), log.returned(), log.misplaced()), (4, 4, 0));
     }
     Ok(())
 }
 
 #[test]
 fn items_without_size_need_no_memory(rt: HostRuntime) -> Result<(), Fail> {
-    let watch = Watch::new();
-    watch.refuse_from(1);
-    let mut vec = StableVec::new(Watched::new(rt.alloc(), &watch));
+    let log = Log::new();
+    log.refuse_from(1);
+    let mut vec = StableVec::new(Observed::new(rt.alloc(), &log));
     for _ in 0..40 {
         vec.push(())?;
     }
     assert_eq!(rt; (vec.len(), vec.open_buckets(), vec.slots()), (40, 2, 96));
-    assert_eq!(rt; watch.requests(), 0);
+    assert_eq!(rt; log.requests(), 0);
     Ok(())
 }
 
 #[test]
 fn a_run_goes_on_after_a_refusal(rt: HostRuntime) -> Result<(), Fail> {
-    let watch = Watch::new();
+    let log = Log::new();
     {
-        let mut arena: StableArena<usize, u8, Watched<'_>> = StableArena::new(Watched::new(
+        let mut arena: StableArena<usize, u8, Observed<'_>> = StableArena::new(Observed::new(
             rt.alloc(),
-            &watch,
+            &log,
         ));
         for i in 0..32u8 {
             arena.alloc(i)?;
         }
         let commands = vec![in rt.alloc(); ArenaCommand::Alloc(1), ArenaCommand::Has(0)]?;
-        watch.refuse_from(1);
+        log.refuse_from(1);
         let replies = run_arena(rt.alloc(), &mut arena, commands)?;
         assert_eq!(rt;
             replies.as_slice(),
@@ -87,22 +92,268 @@ fn a_run_goes_on_after_a_refusal(rt: HostRuntime) -> Result<(), Fail> {
         );
         assert_eq!(rt; (arena.len(), arena.room()), (32, 0));
     }
-    assert_eq!(rt; (watch.given(), watch.taken(), watch.lost()), (1, 1, 0));
+    assert_eq!(rt; (log.given(), log.returned(), log.misplaced()), (1, 1, 0));
     Ok(())
 }
 
 #[test]
 fn a_run_without_room_for_its_replies(rt: HostRuntime) -> Result<(), Fail> {
-    let watch = Watch::new();
+    let log = Log::new();
     {
         let mut arena: StableArena<usize, u8> = StableArena::new(rt.alloc());
-        let handle = Watched::new(rt.alloc(), &watch);
+        let handle = Observed::new(rt.alloc(), &log);
         let commands = vec![in handle.clone()?; ArenaCommand::Alloc(1), ArenaCommand::Has(0)]?;
-        watch.refuse_from(1);
+        log.refuse_from(1);
         let refused = run_arena(handle, &mut arena, commands).is_err();
         assert!(rt; refused);
         assert!(rt; arena.is_empty());
     }
-    assert_eq!(rt; (watch.given(), watch.taken(), watch.lost()), (1, 1, 0));
+    assert_eq!(rt; (log.given(), log.returned(), log.misplaced()), (1, 1, 0));
+    Ok(())
+}
+
+// The buckets have 32, 64, 128, .. slots, so the first ten have 32,736 and the first eleven 65,504.
+#[test]
+fn eleven_buckets_are_opened_in_turn(rt: HostRuntime) -> Result<(), Fail> {
+    let log = Log::new();
+    {
+        let mut vec = StableVec::new(Observed::new(rt.alloc(), &log));
+        for i in 0..32_736u64 {
+            vec.push(i)?;
+        }
+        assert_eq!(rt;
+            (vec.open_buckets(), vec.slots(), vec.room()),
+            (10, 32_736, 0)
+        );
+        assert_eq!(rt; (log.requests(), log.bytes()), (10, 261_888));
+        for i in 32_736..40_000u64 {
+            vec.push(i)?;
+        }
+        assert_eq!(rt;
+            (vec.len(), vec.open_buckets(), vec.slots()),
+            (40_000, 11, 65_504)
+        );
+        assert_eq!(rt;
+            (vec.get(32_735), vec.get(32_736)),
+            (Some(&32_735), Some(&32_736))
+        );
+        assert_eq!(rt; (vec.get(39_999), vec.get(40_000)), (Some(&39_999), None));
+        assert_eq!(rt; (log.requests(), log.bytes()), (11, 524_032));
+    }
+    assert_eq!(rt; (log.given(), log.returned(), log.misplaced()), (11, 11, 0));
+    Ok(())
+}
+
+#[test]
+fn each_large_bucket_refused_once(rt: HostRuntime) -> Result<(), Fail> {
+    let refusals = [
+        (6, 992, 5),
+        (7, 2_016, 6),
+        (8, 4_064, 7),
+        (9, 8_160, 8),
+        (10, 16_352, 9),
+        (11, 32_736, 10),
+    ];
+    for (bucket, slots, open) in refusals {
+        let log = Log::new();
+        {
+            let mut vec = StableVec::new(Observed::new(rt.alloc(), &log));
+            log.refuse_once(bucket);
+            let mut refused = 0u64;
+            for i in 0..40_000u64 {
+                if let Err(error) = vec.push(i) {
+                    refused = refused.wrapping_add(1);
+                    assert_eq!(rt; error, ArenaError::OutOfSystemMemory);
+                    assert_eq!(rt; (vec.len(), vec.slots(), vec.room()), (slots, slots, 0));
+                    assert_eq!(rt; vec.open_buckets(), open, "at bucket {bucket}");
+                    assert_eq!(rt; vec.push(i)?, slots);
+                }
+            }
+            assert_eq!(rt; refused, 1);
+            assert_eq!(rt; (vec.len(), vec.open_buckets()), (40_000, 11));
+            assert_eq!(rt; vec.iter().len(), 40_000);
+        }
+        assert_eq!(rt; log.requests(), 12);
+        assert_eq!(rt; (log.given(), log.returned(), log.misplaced()), (11, 11, 0));
+    }
+    Ok(())
+}
+
+/// An item that counts its drop.
+struct Counted<'a> {
+    drops: &'a Cell<u64>,
+}
+
+impl<'a> Counted<'a> {
+    fn new(drops: &'a Cell<u64>) -> Counted<'a> {
+        Counted { drops }
+    }
+}
+
+impl Drop for Counted<'_> {
+    fn drop(self) {
+        self.drops.set(self.drops.get().wrapping_add(1));
+        let Counted { drops: _ } = self;
+    }
+}
+
+// A count of drops for each of so many items.
+fn counts(alloc: Global, len: usize) -> Result<Vec<Cell<u64>>, AllocError> {
+    let mut counts = Vec::new(alloc);
+    for _ in 0..len {
+        counts.push(Cell::new(0))?;
+    }
+    Ok(counts)
+}
+
+fn each_is(counts: &[Cell<u64>], drops: u64) -> bool {
+    counts.iter().all(|count| count.get() == drops)
+}
+
+#[test]
+fn an_item_whose_push_is_refused_is_dropped(rt: HostRuntime) -> Result<(), Fail> {
+    let log = Log::new();
+    let stored = counts(rt.alloc(), 32)?;
+    let refused = Cell::new(0);
+    {
+        let mut vec = StableVec::new(Observed::new(rt.alloc(), &log));
+        for drops in &stored {
+            vec.push(Counted::new(drops))?;
+        }
+        log.refuse_from(1);
+        let error = vec.push(Counted::new(&refused)).err();
+        assert_eq!(rt; error, Some(ArenaError::OutOfSystemMemory));
+        assert_eq!(rt; refused.get(), 1);
+        assert!(rt; each_is(&stored, 0));
+    }
+    assert_eq!(rt; refused.get(), 1);
+    assert!(rt; each_is(&stored, 1));
+    Ok(())
+}
+
+#[test]
+fn an_item_that_finds_no_memory_is_dropped(rt: HostRuntime) -> Result<(), Fail> {
+    let log = Log::new();
+    let stored = counts(rt.alloc(), 32)?;
+    let refused = Cell::new(0);
+    {
+        let mut arena: StableArena<usize, Counted<'_>, Observed<'_>> = StableArena::new(
+            Observed::new(rt.alloc(), &log),
+        );
+        for drops in &stored {
+            arena.alloc(Counted::new(drops))?;
+        }
+        log.refuse_from(1);
+        let error = arena.alloc(Counted::new(&refused)).err();
+        assert_eq!(rt; error, Some(ArenaError::OutOfSystemMemory));
+        assert_eq!(rt; (arena.len(), refused.get()), (32, 1));
+        assert!(rt; each_is(&stored, 0));
+    }
+    assert_eq!(rt; refused.get(), 1);
+    assert!(rt; each_is(&stored, 1));
+    Ok(())
+}
+
+// A fifth item has no key, and asks for no memory.
+#[test]
+fn an_item_that_finds_no_key_is_dropped(rt: HostRuntime) -> Result<(), Fail> {
+    let log = Log::new();
+    let stored = counts(rt.alloc(), 4)?;
+    let refused = Cell::new(0);
+    {
+        let mut arena: StableArena<Tiny, Counted<'_>, Observed<'_>> = StableArena::new(
+            Observed::new(rt.alloc(), &log),
+        );
+        for drops in &stored {
+            arena.alloc(Counted::new(drops))?;
+        }
+        log.refuse_from(1);
+        let error = arena.alloc(Counted::new(&refused)).err();
+        assert_eq!(rt; error, Some(ArenaError::NotEnoughKeys));
+        assert_eq!(rt; (arena.len(), refused.get()), (4, 1));
+        assert!(rt; each_is(&stored, 0));
+        assert_eq!(rt; log.requests(), 1);
+    }
+    assert_eq!(rt; refused.get(), 1);
+    assert!(rt; each_is(&stored, 1));
+    Ok(())
+}
+
+// A command for each count, to put an item that counts there.
+fn allocs<'a, Key: ArenaKey, A: Allocator>(
+    alloc: A,
+    counts: &'a [Cell<u64>],
+) -> Result<Vec<ArenaCommand<Key, Counted<'a>>, A>, AllocError> {
+    let mut commands = Vec::new(alloc);
+    for drops in counts {
+        commands.push(ArenaCommand::Alloc(Counted::new(drops)))?;
+    }
+    Ok(commands)
+}
+
+// The second bucket is opened for item 32, which is refused, and then for item 33.
+#[test]
+fn a_run_drops_the_item_that_finds_no_memory(rt: HostRuntime) -> Result<(), Fail> {
+    let log = Log::new();
+    let counts = counts(rt.alloc(), 34)?;
+    {
+        let commands = allocs(rt.alloc(), &counts)?;
+        let mut arena = StableArena::new(Observed::new(rt.alloc(), &log));
+        log.refuse_once(2);
+        let replies = run_arena(rt.alloc(), &mut arena, commands)?;
+        assert_eq!(rt; (replies.len(), arena.len()), (34, 33));
+        for (item, reply) in replies.iter().enumerate() {
+            let expected = match item {
+                32 => ArenaReply::Refused(ArenaError::OutOfSystemMemory),
+                33 => ArenaReply::Key(32usize),
+                _ => ArenaReply::Key(item),
+            };
+            assert_eq!(rt; *reply, expected);
+        }
+        for (item, drops) in counts.iter().enumerate() {
+            assert_eq!(rt; drops.get(), if item == 32 { 1 } else { 0 });
+        }
+    }
+    assert!(rt; each_is(&counts, 1));
+    Ok(())
+}
+
+#[test]
+fn a_run_drops_the_items_that_find_no_key(rt: HostRuntime) -> Result<(), Fail> {
+    let counts = counts(rt.alloc(), 6)?;
+    {
+        let commands = allocs(rt.alloc(), &counts)?;
+        let mut arena = StableArena::new(rt.alloc());
+        let replies = run_arena(rt.alloc(), &mut arena, commands)?;
+        assert_eq!(rt; (replies.len(), arena.len()), (6, 4));
+        for (item, reply) in replies.iter().enumerate() {
+            let expected = match Tiny::from_usize(item) {
+                Some(key) => ArenaReply::Key(key),
+                None => ArenaReply::Refused(ArenaError::NotEnoughKeys),
+            };
+            assert_eq!(rt; *reply, expected);
+        }
+        for (item, drops) in counts.iter().enumerate() {
+            assert_eq!(rt; drops.get(), if item < 4 { 0 } else { 1 });
+        }
+    }
+    assert!(rt; each_is(&counts, 1));
+    Ok(())
+}
+
+#[test]
+fn a_run_without_room_for_its_replies_drops_its_items(rt: HostRuntime) -> Result<(), Fail> {
+    let log = Log::new();
+    let counts = counts(rt.alloc(), 2)?;
+    {
+        let handle = Observed::new(rt.alloc(), &log);
+        let commands = allocs(handle.clone()?, &counts)?;
+        let mut arena: StableArena<Tiny, Counted<'_>> = StableArena::new(rt.alloc());
+        log.refuse_from(1);
+        let refused = run_arena(handle, &mut arena, commands).is_err();
+        assert!(rt; refused);
+        assert!(rt; each_is(&counts, 1));
+    }
+    assert!(rt; each_is(&counts, 1));
     Ok(())
 }

@@ -1,0 +1,265 @@
+//! An allocator for tests, over `Global`. It writes down what its handles were asked for, and refuses
+//! the requests that a test names.
+//!
+//! A container that grows by the trait's own `grow` asks for a new block and returns the old one.
+ghost use Rattle.std.specs.Prelude.{◌≡◌};
+ghost use Rattle.std.specs.contracts.impls.GlobalAllocator.TheImpl.{ghosts};
+
+use std::alloc::{AllocError, Allocator, Global};
+use std::cell::Cell;
+
+// Requests are numbered from 1 over the life of a log.
+#[derive(Clone, Copy)]
+enum Refusals {
+    None,
+    Once(u64),
+    From(u64),
+}
+
+/// What the handles of one test were asked for, and which of the coming requests they refuse.
+#[derive(Drop)]
+pub struct Log {
+    refusals: Cell<Refusals>,
+    requests: Cell<u64>,
+    bytes: Cell<u64>,
+    given: Cell<u64>,
+    returned: Cell<u64>,
+    misplaced: Cell<u64>,
+}
+
+impl Log {
+    /// An empty log, which refuses nothing.
+    pub fn new() -> Log {
+        Log {
+            refusals: Cell::new(Refusals::None),
+            requests: Cell::new(0),
+            bytes: Cell::new(0),
+            given: Cell::new(0),
+            returned: Cell::new(0),
+            misplaced: Cell::new(0),
+        }
+    }
+
+    /// Refuses the `nth` request from now and all after it; the next request is the first.
+    pub fn refuse_from(&self, nth: u64) {
+        self.refusals.set(Refusals::From(self.coming(nth)));
+    }
+
+    /// Refuses the `nth` request from now alone; the next request is the first.
+    pub fn refuse_once(&self, nth: u64) {
+        self.refusals.set(Refusals::Once(self.coming(nth)));
+    }
+
+    /// Refuses no request from now on.
+    pub fn refuse_none(&self) {
+        self.refusals.set(Refusals::None);
+    }
+
+    /// The number of requests, refused ones too.
+    pub fn requests(&self) -> u64 {
+        self.requests.get()
+    }
+
+    /// The sum of the bytes of all requests, refused ones too.
+    pub fn bytes(&self) -> u64 {
+        self.bytes.get()
+    }
+
+    /// The number of blocks that were given.
+    pub fn given(&self) -> u64 {
+        self.given.get()
+    }
+
+    /// The number of blocks that came back.
+    pub fn returned(&self) -> u64 {
+        self.returned.get()
+    }
+
+    /// The number of blocks that came back to a handle with none out, and of those that a handle still
+    /// had out when it was dropped.
+    pub fn misplaced(&self) -> u64 {
+        self.misplaced.get()
+    }
+
+    fn coming(&self, nth: u64) -> u64 {
+        self.requests.get().saturating_add(nth)
+    }
+}
+
+/// A handle on `Global` that writes to a log. A clone writes to the same log, and is another handle:
+/// it has no blocks out.
+pub struct Observed<'a> {
+    heap: Global,
+    log: &'a Log,
+    out: Cell<u64>,
+}
+
+impl<'a> Observed<'a> {
+    /// A handle with no blocks out.
+    pub fn new(heap: Global, log: &'a Log) -> Observed<'a> {
+        Observed {
+            heap,
+            log,
+            out: Cell::new(0),
+        }
+    }
+
+    // Writes a request down, and answers whether it is refused.
+    fn refuses(&self, size: usize) -> bool {
+        add(&self.log.bytes, size as u64);
+        add(&self.log.requests, 1);
+        let number = self.log.requests();
+        match self.log.refusals.get() {
+            Refusals::None => false,
+            Refusals::Once(refused) => number == refused,
+            Refusals::From(first) => first <= number,
+        }
+    }
+
+    // Writes down whether a block was given, and hands the answer on.
+    fn gives(&self, answer: Result<*mut u8, AllocError>) -> Result<*mut u8, AllocError>
+        ensures { result ≡ answer }
+    {
+        if answer.is_ok() {
+            add(&self.log.given, 1);
+            add(&self.out, 1);
+        }
+        answer
+    }
+
+    // Writes down that a block came back.
+    fn takes_back(&self) {
+        add(&self.log.returned, 1);
+        match self.out.get().checked_sub(1) {
+            Some(out) => self.out.set(out),
+            None => add(&self.log.misplaced, 1),
+        }
+    }
+}
+
+fn add(count: &Cell<u64>, more: u64) {
+    count.set(count.get().wrapping_add(more));
+}
+
+impl Clone for Observed<'_> {
+    fn clone(&self) -> Result<Self, AllocError> {
+        Ok(Observed::new(self.heap, self.log))
+    }
+}
+
+impl Drop for Observed<'_> {
+    fn drop(self) {
+        add(&self.log.misplaced, self.out.get());
+        let Observed {
+            heap: _,
+            log: _,
+            out: _,
+        } = self;
+    }
+}
+
+unsafe impl Allocator for Observed<'_> {
+    ghost dealloc_token = { λ handle. ghosts.dealloc_token handle.heap };
+
+    fn allocate(&self, size: usize, align: usize) -> Result<*mut u8, AllocError> {
+        if self.refuses(size) {
+            return Err(AllocError);
+        }
+        self.gives(self.heap.allocate(size, align))
+    }
+
+    unsafe fn deallocate(&self, ptr: *mut u8, size: usize, align: usize) {
+        self.takes_back();
+        self.heap.deallocate(ptr, size, align);
+    }
+}
+
+#[cfg(test)]
+mod tests {
+    use super::*;
+    use std::ptr::null_mut;
+    use std::test::Fail;
+
+    #[test]
+    fn a_vec_goes_on_after_a_refusal(rt: HostRuntime) -> Result<(), Fail> {
+        let log = Log::new();
+        {
+            let mut numbers: Vec<u64, Observed<'_>> = Vec::new(Observed::new(rt.alloc(), &log));
+            log.refuse_once(2);
+            let mut refusals = 0u64;
+            for number in 0..9u64 {
+                if numbers.push(number).is_err() {
+                    refusals = refusals.wrapping_add(1);
+                    numbers.push(number)?;
+                }
+            }
+            assert_eq!(rt; refusals, 1);
+            assert_eq!(rt; numbers.as_slice(), [0, 1, 2, 3, 4, 5, 6, 7, 8].as_slice());
+        }
+        // A second request came, and it alone was refused.
+        assert!(rt; log.requests() > 2);
+        assert_eq!(rt; log.given().wrapping_add(1), log.requests());
+        assert_eq!(rt; (log.returned(), log.misplaced()), (log.given(), 0));
+        Ok(())
+    }
+
+    fn boxes<A: Allocator + Clone>(
+        alloc: A,
+        count: u64,
+    ) -> Result<Vec<Box<u64, A>, A>, AllocError> {
+        let mut boxes = Vec::new(alloc.clone()?);
+        for number in 0..count {
+            boxes.push(Box::new(alloc.clone()?, number)?)?;
+        }
+        Ok(boxes)
+    }
+
+    // Six boxes and the vector that holds them need at least eight requests.
+    #[test]
+    fn what_was_given_comes_back_after_a_refusal(rt: HostRuntime) {
+        for nth in 1..9u64 {
+            let log = Log::new();
+            log.refuse_once(nth);
+            assert!(rt; boxes(Observed::new(rt.alloc(), &log), 6).is_err());
+            assert_eq!(rt; log.requests(), nth);
+            assert_eq!(rt; log.given().wrapping_add(1), nth);
+            assert_eq!(rt; (log.returned(), log.misplaced()), (log.given(), 0));
+        }
+    }
+
+    #[test]
+    fn all_requests_are_refused_from_one_on(rt: HostRuntime) -> Result<(), Fail> {
+        let log = Log::new();
+        {
+            let handle = Observed::new(rt.alloc(), &log);
+            let first = Box::new(handle.clone()?, 1u64)?;
+            log.refuse_from(2);
+            let second = Box::new(handle.clone()?, 2u32)?;
+            assert!(rt; Box::new(handle.clone()?, 3u64).is_err());
+            assert!(rt; Box::new(handle.clone()?, 4u64).is_err());
+            log.refuse_none();
+            let fifth = Box::new(handle, 5u64)?;
+            assert_eq!(rt; (*first, *second, *fifth), (1, 2, 5));
+            assert_eq!(rt; log.returned(), 0);
+        }
+        assert_eq!(rt; (log.requests(), log.bytes()), (5, 36));
+        assert_eq!(rt; (log.given(), log.returned(), log.misplaced()), (3, 3, 0));
+        Ok(())
+    }
+
+    // Two handles are told of one block, which the second is said to have taken back.
+    #[test]
+    fn a_block_that_comes_to_another_handle_is_misplaced(rt: HostRuntime) -> Result<(), Fail> {
+        let log = Log::new();
+        let one = Observed::new(rt.alloc(), &log);
+        let other = one.clone()?;
+        assert!(rt; one.gives(Ok(null_mut())).is_ok());
+        other.takes_back();
+        assert_eq!(rt; log.misplaced(), 1);
+        drop(other);
+        assert_eq!(rt; log.misplaced(), 1);
+        drop(one);
+        assert_eq!(rt; (log.given(), log.returned(), log.misplaced()), (1, 1, 2));
+        Ok(())
+    }
+}
