@@ -14,7 +14,8 @@ abbrev pub texts_after_line : Texts → Option Request → Texts
 texts_after_line texts (Some request) = texts_after texts request
 texts_after_line texts None = texts
 
--- the replies to these lines, each ended by a line feed, where so many lines came before and left these texts
+-- the replies to these lines, each ended by a line feed, where so many lines came before and left
+-- these texts
 abbrev pub output_from : Texts → ℕ → List (List ℕ) → List ℕ
 output_from texts before [] = []
 output_from texts before (line ∷ lines) =

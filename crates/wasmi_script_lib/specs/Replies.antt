@@ -29,7 +29,8 @@ text_reply None = error_reply KeyOutOfBounds
 abbrev pub counts_reply : Texts → List ℕ
 counts_reply texts =
     codes "counts " ++ decimal (length texts.kept) ++ codes " " ++ decimal (length texts.deduped)
-    ++ codes " " ++ decimal (length texts.interned) ++ codes " " ++ decimal (slots (length texts.kept))
+    ++ codes " " ++ decimal (length texts.interned)
+    ++ codes " " ++ decimal (slots (length texts.kept))
 
 -- the reply to a request, without the line feed
 abbrev pub reply_to : Texts → Request → List ℕ
@@ -38,14 +39,16 @@ reply_to texts (Alloc text) =
     else error_reply NotEnoughKeys
 reply_to texts (Get key) = text_reply (slice_get texts.kept key)
 reply_to texts (Place index) =
-    if nat_lt index max_len then codes "place " ++ decimal (bucket_of index) ++ codes " " ++ decimal (slot_of index)
+    if nat_lt index max_len
+    then codes "place " ++ decimal (bucket_of index) ++ codes " " ++ decimal (slot_of index)
     else codes "none"
 reply_to texts Count = counts_reply texts
 
 -- the texts after a request: only `a` adds one, and only while there is room
 abbrev pub texts_after : Texts → Request → Texts
 texts_after texts (Alloc text) =
-    if nat_lt (length texts.kept) max_len then record texts { kept = texts.kept ++ text ∷ [] } else texts
+    if nat_lt (length texts.kept) max_len then record texts { kept = texts.kept ++ text ∷ [] }
+    else texts
 texts_after texts (Get key) = texts
 texts_after texts (Place index) = texts
 texts_after texts Count = texts

@@ -14,11 +14,12 @@ pub data Request : Type 0 where
   -- `n`: how much is kept?
   Count : Request
 
--- the number that one or more ASCII digits name, where it is below 2 ^ 64. Leading zeros are allowed.
+-- the number that one or more ASCII digits name, if it is below 2 ^ 64. Leading zeros are allowed.
 abbrev pub number_of : List ℕ → Option ℕ
 number_of [] = None
 number_of (d ∷ ds) =
-    if all_ascii_digits (d ∷ ds) && nat_lt (digits_value 10 (d ∷ ds)) (2 ^ 64) then Some (digits_value 10 (d ∷ ds))
+    if all_ascii_digits (d ∷ ds) && nat_lt (digits_value 10 (d ∷ ds)) (2 ^ 64)
+    then Some (digits_value 10 (d ∷ ds))
     else None
 
 -- what the first two bytes of a line, a letter and a space, ask for of the rest
@@ -29,6 +30,8 @@ request_with head argument =
     else if bytes_eq head (codes "p ") then option_map Place (number_of argument)
     else None
 
--- what a line asks for: `n` alone, or a letter, one space and an argument. Any other line asks for nothing.
+-- what a line asks for: `n` alone, or a letter, one space and an argument. Any other line asks for
+-- nothing.
 abbrev pub request_of : List ℕ → Option Request
-request_of line = if bytes_eq line (codes "n") then Some Count else request_with (take 2 line) (drop 2 line)
+request_of line =
+    if bytes_eq line (codes "n") then Some Count else request_with (take 2 line) (drop 2 line)

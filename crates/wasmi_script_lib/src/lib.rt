@@ -1,4 +1,5 @@
-//! A script of commands to an arena of texts: each line of the input is a command, and gets one line of reply.
+//! A script of commands to an arena of texts: each line of the input is a command, and gets one line
+//! of reply.
 //!
 //! | Line | Reply |
 //! |---|---|
@@ -8,7 +9,8 @@
 //! | `n` | `counts A D I SLOTS`: how many texts are kept, deduplicated and interned, and the arena's slots |
 //! | anything else | `bad line N`, the number of the line, from 1 |
 //!
-//! An error is `error` and the arena's own text. No line deduplicates or interns a text yet, so D and I are 0.
+//! An error is `error` and the arena's own text. No line deduplicates or interns a text yet, so D and
+//! I are 0.
 #![tactic(auto)]
 
 mod error;

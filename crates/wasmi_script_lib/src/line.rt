@@ -18,8 +18,8 @@ pub enum Line<'a> {
 impl<'a> Line<'a> {
     ghost use Rattle.wasmi_script_lib.specs.Meanings.{meaning_of};
 
-    /// Reads a line, given without its line feed. `None` where it asks for nothing. Constant time, but for the digits
-    /// of a number.
+    /// Reads a line, given without its line feed. `None` if it asks for nothing. Constant time, but for
+    /// the digits of a number.
     pub fn parse(line: &'a str) -> Option<Line<'a>>
         ensures { option_map meaning_of result ≡ request_of line.now }
     {
@@ -36,8 +36,8 @@ impl<'a> Line<'a> {
     }
 }
 
-/// The number that one or more ASCII digits name. `None` for any other text, so for one with a sign, and for a number
-/// above `usize::MAX`.
+/// The number that one or more ASCII digits name. `None` for any other text, so for one with a sign,
+/// and for a number above `usize::MAX`.
 fn number(digits: &str) -> Option<usize>
     ensures { result ≡ number_of digits.now }
 {

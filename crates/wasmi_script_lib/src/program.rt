@@ -16,9 +16,9 @@ const READ_LEN: usize = 8192;
 
 /// Reads a script to its end, and writes the replies to it and nothing else.
 ///
-/// Time and memory are linear in the input. Nothing is written before the whole script is answered; after
-/// `WriteFailed` any part of the replies may be. A read that fails isn't tried again, and an input that hasn't ended
-/// after 2^40 reads is `ReadFailed`.
+/// Time and memory are linear in the input. Nothing is written before the whole script is answered;
+/// after `WriteFailed` any part of the replies may be. A read that fails isn't tried again, and an
+/// input that hasn't ended after 2^40 reads is `ReadFailed`.
 pub fn run<R: Read, W: Write>(
     alloc: Global,
     reader: &mut R,
@@ -32,7 +32,8 @@ pub fn run<R: Read, W: Write>(
     ensures unwritten { IfErr result (λ e. e ≢ ScriptError.WriteFailed
         → Keeps (W.contents writer.old) (W.contents writer.new)) }
 
-    // `NotUtf8` says that all was read and is no text. An input that is no text is refused before the write.
+    // `NotUtf8` says that all was read and is no text. An input that is no text is refused before the
+    // write.
     ensures not_utf8 { IsErrOf result ScriptError.NotUtf8 → IsAtEnd (R.remaining reader.new)
         × IfSome (R.remaining reader.old) (λ input. ¬ (IsUtf8 input)) }
     ensures no_text { IfSome (R.remaining reader.old) (λ input. ¬ (IsUtf8 input)

@@ -9,8 +9,8 @@ use wasmi_arena::{ArenaError, MAX_LEN, StableArena, StableVec};
 
 /// The replies to all lines of a script, in order, each ended by a line feed.
 ///
-/// Time and memory are linear in the text: each line is read once, and a text is copied once, where it is kept. The
-/// only error is running out of memory.
+/// Time and memory are linear in the text: each line is read once, and a text is copied once, where it
+/// is kept. The only error is running out of memory.
 pub fn answer(alloc: Global, text: &str) -> Result<String, ArenaError>
     ensures output { IfOk result (λ output. string_bytes output ≡ output_of text.now) }
     ensures errors { IsOkUnless result ArenaError.OutOfSystemMemory }
