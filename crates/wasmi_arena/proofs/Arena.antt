@@ -22,7 +22,7 @@ module _ {K T : Type 0} (keys : Keys K) (limit : ℕ) (IsState : ArenaState T �
   ArenaRun-append old [] (r ∷ rs) mid command reply new run step state = absurd run
   ArenaRun-append old (c ∷ cs) [] mid command reply new run step state = absurd run
 
--- an item that goes to the end takes one place of the room at the most
+-- an item that goes to the end lowers the room by one at the most
 pub room-append : {T : Type 0} (items : List T) (item : T) → length items < max_len → room (length items) ≤ room (length (items ++ item ∷ [])) + 1
 room-append items item below = rw (length-append items (item ∷ [])) (room-add-one (length items) below)
 

@@ -100,7 +100,7 @@ fewest_is_least n small = least_is n 27 small
 pub fewest_is : {n b : ℕ} → n ≤ max_len → IsFewest n b → fewest n ≡ b
 fewest_is {n} {b} small few = fewest_unique (fewest_is_least n small) few
 
--- one more item takes one place of the room at the most
+-- one more item lowers the room by one at the most
 pub room-add-one : (n : ℕ) → n < max_len → room n ≤ room (n + 1) + 1
 room-add-one n below =
     let here = fewest_is_least n (omega arith) in

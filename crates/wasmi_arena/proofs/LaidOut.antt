@@ -118,7 +118,7 @@ module _ {T : Type 0} where
             let same : x ≡ get_or (items_of buckets) i x = at ∙ (ap (λ (xs : List T). get_or xs s x) slice_is ∙ (here ∙ ap (λ n. get_or (items_of buckets) n x) place.index_is)) in
             ap Some same ∙ sym (slice_get-get_or (items_of buckets) i x (rw (← v.items_counted) below))
 
-    -- one more item goes to its place
+    -- one more item goes to its slot
     module _ (b s : ℕ) (place : IsPlace len b s) where
       IsTable-push : (item : T) → IsTable 32 (items_of buckets ++ item ∷ []) (set buckets b (bucket_with (size b) (get_or buckets b None) item))
       IsTable-push item = IsTable-set 32 b (items_of buckets) buckets item (lit< tt) v.table (rw v.buckets_counted place.bucket_exists)

@@ -32,7 +32,7 @@ ArenaUnchanged old new = (new.items ≡ old.items) × (old.room ≤ new.room)
 
 -- An arena has one type of keys, and holds at most `limit` items.
 module _ {K T : Type 0} (keys : Keys K) (limit : ℕ) where
-  -- an item goes to the end, under the key of its position, and takes one place of the room
+  -- an item goes to the end, under the key of its position, and the room falls by one at the most
   pub record AllocatesItem (old : ArenaState T) (item : T) (key : K) (new : ArenaState T)
       : Type 0 where
     pub has_key : length old.items < limit

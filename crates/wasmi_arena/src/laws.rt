@@ -68,7 +68,7 @@ pub fn slots_are_few()
     ensures few { (n : ℕ) → 0 < n → n ≤ max_len → slots n ≤ 2 * n + 30 }
 {}
 
-/// A push takes one place of the room at the most.
+/// A push lowers the room by one at the most.
 pub fn room_after_push()
     ensures { (n : ℕ) → n < max_len → room n ≤ room (n + 1) + 1 }
 {}

@@ -79,7 +79,7 @@ impl<Key: ArenaKey, T, A: Allocator> StableArena<Key, T, A> {
 
     /// Puts an item at the end, and returns its key.
     ///
-    /// Fails with `NotEnoughKeys` if there is no key or place for one more, and then with
+    /// Fails with `NotEnoughKeys` if there is no key for one more or the vector is full, and then with
     /// `OutOfSystemMemory` if a bucket must be opened, which is only where
     /// [`room`](StableArena::room) is 0, and there is no memory for it. After an error the arena is as
     /// before, and the item is dropped. Constant time, but for the opening of a bucket.
