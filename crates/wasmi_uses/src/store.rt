@@ -46,29 +46,21 @@ impl ArenaKey for FuncId {
     }
 }
 
-/// A function's type.
-#[derive(Clone, Copy, PartialEq, Eq)]
-pub struct Func {
-    pub params: u32,
-    pub results: u32,
-}
-
-/// The functions of a module, each under its handle. A contract sees the list of them.
+/// Functions of one type, each under its handle. A contract sees the list of them.
 #[derive(Drop)]
-pub struct FuncStore {
+pub struct FuncStore<Func> {
     funcs: StableArena<FuncId, Func>,
 }
 
-impl Model for FuncStore {
+impl<Func> Model for FuncStore<Func> {
     ghost use Rattle.std.specs.Prelude.{List};
-    ghost use Rattle.wasmi_uses.specs.declared.store.Func.{Func};
 
     ghost Value = { List Func };
 
     ghost view = { λ store. store.funcs };
 }
 
-impl FuncStore {
+impl<Func> FuncStore<Func> {
     /// A store without functions.
     pub fn new(alloc: Global) -> Self
         ensures { result ≡ [] }
@@ -87,6 +79,8 @@ impl FuncStore {
 
     /// Puts a function at the end, and returns its handle. Handles are 0, 1, 2 and so on, without gaps.
     pub fn put(&mut self, func: Func) -> Result<FuncId, ArenaError>
+    where
+        Func: Drop,
         ensures dense { IfOk result (λ id. id ≡ length self.old) }
         ensures reads { IfOk result (λ id. slice_get self.new id ≡ Some func) }
         ensures ok { OnOk result (self.new ≡ self.old ++ func ∷ []) }

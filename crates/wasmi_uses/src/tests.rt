@@ -1,7 +1,7 @@
 //! Each caller on its happy path.
 
 use crate::search::position_of;
-use crate::store::{Func, FuncStore};
+use crate::store::FuncStore;
 use crate::symbols::{Symbols, intern_both};
 use std::test::Fail;
 use wasmi_arena::StableVec;
@@ -9,19 +9,12 @@ use wasmi_arena::StableVec;
 #[test]
 fn a_store_of_two_functions(rt: HostRuntime) -> Result<(), Fail> {
     let mut store = FuncStore::new(rt.alloc());
-    let add = Func {
-        params: 2,
-        results: 1,
-    };
-    let unit = Func {
-        params: 0,
-        results: 0,
-    };
-    let first = store.put(add)?;
-    let second = store.put(unit)?;
+    let first = store.put("add")?;
+    let second = store.put("sub")?;
+    assert!(rt; first != second);
     assert_eq!(rt; store.count(), 2);
-    assert!(rt; store.get(first) == Some(&add));
-    assert!(rt; store.get(second) == Some(&unit));
+    assert_eq!(rt; store.get(first), Some(&"add"));
+    assert_eq!(rt; store.get(second), Some(&"sub"));
     Ok(())
 }
 
