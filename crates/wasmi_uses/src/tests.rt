@@ -1,0 +1,42 @@
+//! Each caller on its happy path.
+
+use crate::search::position_of;
+use crate::store::FuncStore;
+use crate::symbols::{Symbols, intern_both};
+use std::test::Fail;
+use wasmi_arena::StableVec;
+
+#[test]
+fn a_store_of_two_functions(rt: HostRuntime) -> Result<(), Fail> {
+    let mut store = FuncStore::new(rt.alloc());
+    let first = store.put("add")?;
+    let second = store.put("sub")?;
+    assert!(rt; first != second);
+    assert_eq!(rt; store.count(), 2);
+    assert_eq!(rt; store.get(first), Some(&"add"));
+    assert_eq!(rt; store.get(second), Some(&"sub"));
+    Ok(())
+}
+
+#[test]
+fn symbols_of_three_names(rt: HostRuntime) -> Result<(), Fail> {
+    let mut symbols = Symbols::new(rt.alloc());
+    for (name, symbol) in [("memory", 0), ("table", 1), ("memory", 0), ("", 2)] {
+        assert_eq!(rt; symbols.intern(rt.alloc(), name)?, symbol, "of {name}");
+    }
+    assert_eq!(rt; symbols.find("table"), Some(1));
+    assert_eq!(rt; symbols.find("tables"), None);
+    assert_eq!(rt; intern_both(&mut symbols, rt.alloc(), "", "start")?, (2, 3));
+    Ok(())
+}
+
+#[test]
+fn a_search_across_buckets(rt: HostRuntime) -> Result<(), Fail> {
+    let mut vec = StableVec::new(rt.alloc());
+    for i in 0..100u64 {
+        vec.push(i * 2)?;
+    }
+    assert_eq!(rt; position_of(&vec, &140), Some(70));
+    assert_eq!(rt; position_of(&vec, &141), None);
+    Ok(())
+}
