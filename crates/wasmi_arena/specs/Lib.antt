@@ -13,4 +13,5 @@ pub mod VecLend
 pub mod TableLend
 pub mod Table
 pub mod Arena
+pub mod ArenaLend
 pub mod Entries

@@ -38,7 +38,7 @@ fn perform<Key: ArenaKey, T: Drop, A: Allocator + Clone>(
             Ok(key) => ArenaReply::Key(key),
             Err(error) => ArenaReply::Refused(error),
         },
-        ArenaCommand::Has(key) => ArenaReply::Has(arena.get(key).is_ok()),
+        ArenaCommand::Has(key) => ArenaReply::Has(arena.has(key)),
     }
 }
 

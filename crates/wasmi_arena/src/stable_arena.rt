@@ -1,5 +1,5 @@
 //! An arena whose items stay in their slots.
-ghost use Rattle.std.specs.Prelude.{◌≡◌, ◌<◌, ◌≤◌, ◌==◌, ◌↔◌, ◌⊎◌, [], ◌∷◌, ◌++◌, length, IfOk, IfErr, OnOk, OnErr, IsErrOf, IsOk, IsOkUnless, slice_get, Some};
+ghost use Rattle.std.specs.Prelude.{◌≡◌, ◌<◌, ◌≤◌, ◌==◌, ◌↔◌, ◌⊎◌, [], ◌∷◌, ◌++◌, length, IfOk, IfErr, OnOk, OnErr, IsErrOf, IsOk, IsOkUnless, IsTrue, slice_get, slice_set, Some};
 ghost use Rattle.std.specs.Mem.{type_size};
 ghost use Rattle.wasmi_arena.specs.Geometry.{max_len, room};
 ghost use Rattle.wasmi_arena.specs.Arena.{stable_limit};
@@ -11,6 +11,7 @@ use crate::{ArenaError, ArenaKey, MAX_LEN, StableVec};
 pub use iter::StableArenaIter;
 use std::alloc::{Allocator, Global};
 use std::marker::{Model, PhantomData};
+use std::mem;
 
 /// A list of items, each under the key of its position, which stays where it is for good.
 ///
@@ -36,6 +37,9 @@ impl<Key: ArenaKey, T, A: Allocator> Model for StableArena<Key, T, A> {
 }
 
 impl<Key: ArenaKey, T, A: Allocator> StableArena<Key, T, A> {
+    ghost use Rattle.std.specs.Borrow.{sem};
+    ghost use Rattle.wasmi_arena.specs.ArenaLend.{lends_get};
+
     /// An empty arena, which asks `alloc` for memory when a bucket is opened.
     pub fn new(alloc: A) -> Self
         ensures { result ≡ [] }
@@ -117,6 +121,46 @@ impl<Key: ArenaKey, T, A: Allocator> StableArena<Key, T, A> {
         self.items
             .get(key.into_usize())
             .ok_or(ArenaError::KeyOutOfBounds)
+    }
+
+    /// The item under a key to write to, or `KeyOutOfBounds` if there is none. Constant time.
+    pub fn get_mut(&mut self, key: Key) -> Result<&mut T, ArenaError>
+        ensures* writes_back { sem 𝓛 (lends_get Key.row T.row A.row Key.ArenaKey A.Allocator self.entry key result) }
+        ensures item { IfOk result (λ item.
+            slice_get self.old (Key.keys.number key) ≡ Some item.now) }
+        ensures out_of_bounds { IsErrOf result ArenaError.KeyOutOfBounds
+            ↔ (length self.old ≤ Key.keys.number key) }
+        ensures errors { IsOkUnless result ArenaError.KeyOutOfBounds }
+    {
+        let index = key.into_usize();
+        if index < self.items.len() {
+            Ok(self.items.item_mut(index))
+        } else {
+            Err(ArenaError::KeyOutOfBounds)
+        }
+    }
+
+    /// Puts an item under a key in place of the one there, which it returns, or drops it and fails with
+    /// `KeyOutOfBounds` if there is none. Constant time.
+    pub fn put(&mut self, key: Key, item: T) -> Result<T, ArenaError>
+    where
+        T: Drop,
+        ensures old { IfOk result (λ old. slice_get self.old (Key.keys.number key) ≡ Some old) }
+        ensures ok { OnOk result (self.new ≡ slice_set self.old (Key.keys.number key) item) }
+        ensures out_of_bounds { IsErrOf result ArenaError.KeyOutOfBounds
+            ↔ (length self.old ≤ Key.keys.number key) }
+        ensures errors { IsOkUnless result ArenaError.KeyOutOfBounds }
+        ensures err { OnErr result (self.new ≡ self.old) }
+    {
+        let there = self.get_mut(key)?;
+        Ok(mem::replace(there, item))
+    }
+
+    /// Whether a key reads an item. Constant time.
+    pub fn has(&self, key: Key) -> bool
+        ensures { IsTrue result ↔ (Key.keys.number key < length self.now) }
+    {
+        key.into_usize() < self.len()
     }
 
     /// How many items can be added before a bucket must be opened. Constant time.

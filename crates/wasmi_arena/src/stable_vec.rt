@@ -209,7 +209,7 @@ impl<T, A: Allocator> StableVec<T, A> {
     }
 
     // The item at an index, to write to.
-    fn item_mut(&mut self, index: usize) -> &mut T
+    pub(crate) fn item_mut(&mut self, index: usize) -> &mut T
         requires { index < length self.old }
         ensures* writes_back { sem 𝓛 (lends_index T.row A.row A.Allocator self.entry index result) }
         ensures value { slice_get self.old index ≡ Some result.now }

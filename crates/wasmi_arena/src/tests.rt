@@ -299,6 +299,26 @@ fn arenas_under_two_keys(rt: HostRuntime) -> Result<(), Fail> {
 }
 
 #[test]
+fn items_are_exchanged(rt: HostRuntime) -> Result<(), Fail> {
+    let mut arena: StableArena<u32, u32> = StableArena::new(rt.alloc());
+    for i in 0..100 {
+        arena.alloc(i)?;
+    }
+    for key in 0..100 {
+        assert_eq!(rt; arena.put(key, 1000)?, key);
+        *arena.get_mut(key)? = 99 - key;
+    }
+    for key in 0..100 {
+        assert_eq!(rt; arena.get(key), Ok(&(99 - key)));
+    }
+    assert_eq!(rt; arena.put(100, 7), Err(ArenaError::KeyOutOfBounds));
+    assert!(rt; arena.get_mut(100).is_err());
+    assert!(rt; arena.has(99) && !arena.has(100));
+    assert_eq!(rt; (arena.len(), arena.items().open_buckets()), (100, 3));
+    Ok(())
+}
+
+#[test]
 fn a_run_of_commands(rt: HostRuntime) -> Result<(), Fail> {
     let mut arena: StableArena<u32, u8> = StableArena::new(rt.alloc());
     let commands = vec![in rt.alloc();

@@ -1,0 +1,13 @@
+-- What a stable arena is once a `&mut` to an item of it has ended.
+use Rattle.std.specs.Prelude.{ℕ, List, Result, slice_set}
+use Rattle.std.specs.Borrow.{Fml, RattleType, MutBor, LendsIfOk}
+use Rattle.std.specs.declared.alloc.Allocator as alloc
+use Rattle.wasmi_arena.specs.declared.error.ArenaError.{ArenaError}
+use Rattle.wasmi_arena.specs.declared.key.ArenaKey as key
+use Rattle.wasmi_arena.specs.contracts.stable_arena.StableArena.{the_row}
+
+module _ (K R A : RattleType) (keys : key.Ghosts K.Denot) (heap : alloc.Ghosts A.Denot) where
+  -- the item under that key is what was written last through the reference, where there is such an
+  -- item, and no other changes
+  abbrev pub lends_get : MutBor (List R.Denot) → K.Denot → Result (MutBor R.Denot) ArenaError → Fml
+  lends_get arena k item = LendsIfOk (the_row K R A keys heap) R arena item (λ last. slice_set arena.now (keys.keys.number k) last) arena.now
