@@ -2,7 +2,7 @@
 --     SlotsRow, PtrRow      the types of `Slots` and `BlockPtr`.        ptr_vals, ptr_tells      a pointer's machine value
 --     opens_slots, closes_slots      a `&mut Slots` is opened to its three runs of slots, and closed at others
 --     says_two      an `ensures` of two facts
-use mathlib.Core.Path.{◌≡◌, refl, sym, subst}
+use mathlib.Core.Path.{◌≡◌, refl, sym}
 use Prim.Native.Nat.{ℕ, zero, suc, ◌+◌, ◌*◌, ◌<◌, ◌^◌}
 use mathlib.Core.List.{List, [], ◌∷◌}
 use lib.ListN.{length}
@@ -10,7 +10,7 @@ use seplogic.Ra.Ura.{Ura}
 use base.Fraction.{full_share}
 use base.Logic.{SProp, ent, sep, emp, never, id⊢, via}
 use base.Stored.{Gv}
-use base.Fml.{Lft, GName, Share, Fml, ftrue, fsep, fobs, fbor, flft, fobor, fauth, flt}
+use base.Fml.{Lft, GName, Share, Fml, ftrue, fsep, fobs, fbor, flft, fobor, fauth}
 use mir.Syntax.{named, w64}
 use mir.Val.{Val}
 use types.Logic.{Logic, sem}

@@ -9,14 +9,13 @@ use lib.Seq.{take_at as front_of}
 use seplogic.Ra.Ura.{Ura}
 use base.Fraction.{full_share}
 use base.Logic.{SProp, ent, sep}
-use base.Fml.{Lft, GName, Share, Fml, fsep, flft, fobor, fobs, fauth}
+use base.Fml.{Lft, GName, Share, Fml, fsep, fobor, fobs, fauth}
 use mir.Syntax.{named}
 use mir.Val.{Val}
 use types.Logic.{Logic, sem}
-use types.Kit.{⋆, ‵, raw, ◌⊛◌, some, later, ◌$◌, ◌∵◌, !, qed, by, done, move, use1, use2, split, join, group, rewrite, fsplit, fsplit3, fjoin, fjoin3, fpack, flt_i}
+use types.Kit.{⋆, ‵, raw, ◌⊛◌, some, later, ◌$◌, ◌∵◌, !, qed, by, done, move, use1, use2, split, group, rewrite, fsplit, fsplit3, fjoin, fjoin3, fpack, flt_i}
 use types.SemTy.{Body, cells}
-use denote.Array.{Array}
-use denote.Follow.{follows, Part, lends_Part}
+use denote.Follow.{Part, lends_Part}
 use denote.FollowSlice.{Elements, lends_Elements}
 use denote.Index.{row, others, takes, puts, place_is, place as nth}
 use denote.Memory.{mem, cell_at, part_at, part_of, shares}

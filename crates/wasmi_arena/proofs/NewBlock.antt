@@ -3,25 +3,23 @@
 --     new_parts, parts_val, is_new      a new block at p, its machine value, and that it is new
 --     parts_made      it is made of its empty slots and the right to give it back
 --     enters_alloc, leaves_alloc      the frame of a call on `&A`, with a number behind it
-use mathlib.Core.Path.{◌≡◌, refl, sym}
+use mathlib.Core.Path.{refl}
 use Prim.Native.Nat.{ℕ}
 use mathlib.Core.List.{List, [], ◌∷◌}
 use lib.Dec.{T}
 use seplogic.Ra.Ura.{Ura}
 use base.Logic.{SProp, ent, sep}
-use base.Fml.{Lft, Share, Fml, ftrue, fsep, flft}
-use mir.Syntax.{Ty, named, w64}
+use base.Fml.{Lft, Share, Fml, ftrue, flft}
+use mir.Syntax.{named}
 use mir.Val.{Val, vstruct, vcons, vnil}
 use types.Logic.{Logic, sem}
 use types.Kit.{Goal, Step, Item, ⋆, ‵, raw, ◌⊛◌, ◌$◌, ◌∵◌, !, qed, by, done, move, keep, drop, use0, split, join, fsplit, fjoin, fpack, feq_i}
 use contract.BorrowLft.{◌⊑◌}
 use contract.Monad.{fact}
-use denote.Builtin.{usize}
 use denote.Laws.{Tells, Is}
 use denote.Param.Laws.{param_laws}
 use denote.Memory.{hidden_shr}
 use denote.Param.{layout}
-use denote.Plain.{uint_vals}
 use denote.RattleType.{RattleType, Valss}
 use denote.RawPtr.{Ptr, block_ptr, ptr_val}
 use denote.Ref.{Bor, ShrRef, shr_vals}
@@ -64,7 +62,9 @@ module _ (E : El) (Z : Al) where
   pub is_new : (p : Ptr) (n : ℕ) (a : Z.row.Denot) → let x = new_parts p n a in IsNewBlock x.0 x.1 x.2 n a
   is_new p n a = record {
     one = record { block = refl; right_block = refl; right_slots = refl; right_alloc = refl };
-    none_taken = refl; no_items = refl; all_free = refl;
+    none_taken = refl;
+    no_items = refl;
+    all_free = refl;
   }
 
   -- the two values without bytes

@@ -102,9 +102,10 @@ module _ {T : Type 0} where
       let whole : 2 * width * 2 ^ b ≡ width * 2 ^ suc b = sym (mul-pow_suc width b) in
       let high : width ≤ i = omega (arith, whole, mul-le-mul_left (2 * width) (pow_pos b)) in
       let left = length-drop width items in let apart : i ≡ width + (i - width) = omega arith in
-      let rest = IsTable-write (2 * width) b s (i - width) (drop width items) buckets item (omega arith) table.1 (omega arith) (omega arith) (omega arith) (omega arith) in
-      (table.0 ∙ sym (bucket_from-set_high width i items item high (omega arith)),
-      subst (λ (xs : List T). IsTable (2 * width) xs (set buckets b (with_item (get_or buckets b None) s item))) (sym (ap (λ n. drop width (set items n item)) apart ∙ drop-set-add width items (i - width) item)) rest)
+      let rest = IsTable-write (2 * width) b s (i - width) (drop width items) buckets item (omega arith) table.1 (omega arith) (omega arith) (omega arith) (omega arith) in (
+        table.0 ∙ sym (bucket_from-set_high width i items item high (omega arith)),
+        subst (λ (xs : List T). IsTable (2 * width) xs (set buckets b (with_item (get_or buckets b None) s item))) (sym (ap (λ n. drop width (set items n item)) apart ∙ drop-set-add width items (i - width) item)) rest,
+      )
 
   -- the buckets that are needed hold the items alone
   pub IsTable-take : (width b : ℕ) (items : List T) (buckets : List (Option (Bucket T))) → IsTable width items buckets → length items + width ≤ width * 2 ^ b → IsTable width items (take b buckets)

@@ -16,7 +16,7 @@ use denote.ArrayMemory.{Array-apart, Array-whole}
 use denote.Follow.{Part, lends_Part}
 use denote.Index.{row, others, takes, puts, place_is, place as nth}
 use denote.Memory.{mem, part_at, shares, lone}
-use denote.Param.{param, number, bounded, layout, ArrayAt}
+use denote.Param.{param, number, bounded, ArrayAt}
 use denote.Param.Laws.{Laws, param_laws, number_array_laws}
 use denote.RattleType.{RattleType}
 use denote.Steps.{nothing}

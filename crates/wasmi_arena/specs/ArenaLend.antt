@@ -1,5 +1,5 @@
 -- What a stable arena is once a `&mut` to an item of it has ended.
-use Rattle.std.specs.Prelude.{ℕ, List, Result, slice_set}
+use Rattle.std.specs.Prelude.{List, Result, slice_set}
 use Rattle.std.specs.Borrow.{Fml, RattleType, MutBor, LendsIfOk}
 use Rattle.std.specs.declared.alloc.Allocator as alloc
 use Rattle.wasmi_arena.specs.declared.error.ArenaError.{ArenaError}

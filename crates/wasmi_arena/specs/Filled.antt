@@ -1,5 +1,5 @@
 -- How the fields of a bucket agree. No public clause cites this module.
-use Rattle.std.specs.Prelude.{◌≡◌, ℕ, ◌+◌, ◌<◌, length}
+use Rattle.std.specs.Prelude.{◌≡◌, ℕ, ◌+◌, length}
 use Rattle.wasmi_arena.specs.declared.block.BlockPtr.{BlockPtr}
 use Rattle.wasmi_arena.specs.declared.block.Slots.{Slots}
 use Rattle.wasmi_arena.specs.declared.block.DeallocRight.{DeallocRight}

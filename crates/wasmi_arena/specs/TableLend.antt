@@ -3,10 +3,8 @@ use Rattle.std.specs.Prelude.{ℕ, Option, slice_set}
 use Rattle.std.specs.Borrow.{Fml, RattleType, MutBor, Lends}
 use Rattle.std.specs.declared.alloc.Allocator.{Ghosts}
 use Rattle.core.specs.contracts.option.Option as Opt
-use denote.Param.{value_of}
 use Rattle.wasmi_arena.specs.Bucket.{Bucket}
 use Rattle.wasmi_arena.specs.Table.{with_item}
-use Rattle.wasmi_arena.specs.declared.bucket_table.BucketTable.{BucketTable}
 use Rattle.wasmi_arena.specs.contracts.bucket.Bucket.{the_row as bucket_row}
 use Rattle.wasmi_arena.specs.contracts.bucket_table.BucketTable.{the_row}
 

@@ -61,4 +61,3 @@ impl<T, A: Allocator> Model for DeallocRight<T, A> {
 
     ghost also_shares = { λ _ _ _. ftrue };
 }
-

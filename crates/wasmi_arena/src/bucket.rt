@@ -5,9 +5,9 @@ ghost use Rattle.std.specs.Mem.{type_size};
 ghost use Rattle.wasmi_arena.specs.Bucket.{bucket};
 
 use crate::block::{BlockPtr, DeallocRight, Slots, allocate, deallocate, without_block};
-use std_alloc::room::may_hold;
 use std::alloc::{AllocError, Allocator, Global};
 use std::marker::Model;
+use std_alloc::room::may_hold;
 
 /// A block of slots that is filled from its first slot on, and never grows or moves.
 ///

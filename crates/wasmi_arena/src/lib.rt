@@ -11,7 +11,6 @@ pub mod laws;
 mod run;
 mod stable_arena;
 mod stable_vec;
-
 #[cfg(test)]
 mod tests;
 
@@ -19,10 +18,10 @@ pub use bucket::Bucket;
 // A crate above can name a bucket in a contract only if it reaches the types of its fields.
 #[doc(hidden)]
 pub use block::{BlockPtr, DeallocRight, Slots};
+#[doc(hidden)]
+pub use bucket_table::BucketTable;
 pub use error::ArenaError;
 pub use key::ArenaKey;
 pub use run::{ArenaCommand, ArenaReply, run_arena};
 pub use stable_arena::{StableArena, StableArenaIter};
-#[doc(hidden)]
-pub use bucket_table::BucketTable;
 pub use stable_vec::{MAX_LEN, StableVec, StableVecIter};

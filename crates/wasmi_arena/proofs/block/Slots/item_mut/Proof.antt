@@ -1,51 +1,36 @@
 -- `item_mut` lends the item in a slot, and the slots end with what was written there. Assumes `Logic`.
-use Rattle.std.proofs.Common.{◌≡◌, ℕ, ◌+◌, ◌*◌, ◌<◌, ◌^◌, List, [], ◌∷◌, length, get_or, refl, sym, ap, subst, ◌∙◌, arith, w64, MutBor}
+use Rattle.std.proofs.Common.{◌≡◌, ◌+◌, ◌*◌, ◌<◌, [], ◌∷◌, length, get_or, refl, ◌∙◌, arith, w64, MutBor}
 use Rattle.std.proofs.raw_atomic.Walks.{proved}
-use Rattle.std.specs.List.{refill}
-use native.Mathlib.Nat.{zero-mul}
-use lib.ListN.{drop as rest_of}
-use lib.Seq.{take_at as front_of}
-use seplogic.Ra.Ura.{Ura}
 use base.Fraction.{full_share}
-use base.Logic.{ent, sep, id⊢}
-use base.Fml.{Fml, GName, ftrue, fsep, fat, flft, fobs, fbor}
+use base.Logic.{id⊢}
+use base.Fml.{GName, ftrue, fat, flft}
 use mir.Syntax.{named}
 use mir.MapTy.{inst_fn}
-use mir.Val.{Val, vptr}
-use prog.Wp.{Env}
+use mir.Val.{vptr}
 use contract.BorrowLft.{◌⊑◌}
 use contract.Running.{tables}
-use types.Logic.{Logic, sem}
-use types.Kit.{⋆, ‵, raw, ◌⊛◌, some, later, at_ret, ◌$◌, ◌∵◌, !, qed, by, done, move, keep, use1, split, join, group, pick, await, frame, rewrite, fsplit, fjoin, fjoin3, fpack, suffices}
-use types.Part.{whole, sub, agg}
-use types.Run.{bin, size_lit, addr, enter, of_opd, stop, fld, first, blocks, exec, returns, and_then, no_more}
+use types.Kit.{‵, raw, ◌⊛◌, some, later, at_ret, ◌$◌, ◌∵◌, !, qed, done, move, keep, use1, split, group, pick, await, frame, rewrite, suffices}
+use types.Part.{whole, sub}
+use types.Run.{bin, size_lit, addr, enter, of_opd, stop, fld, first, blocks, exec, returns}
 use types.ByLocal.{through, alloc_all, pass_all, free_all, look_at, get, get_in, sets, sets_last, take_at, give_at, env}
-use types.SemTy.{cells}
-use denote.Array.{Array}
 use denote.Builtin.{usize}
 use denote.Exit.{yes, no}
 use denote.Follow.{follows}
-use denote.FollowSlice.{Elements, lends_Elements}
-use denote.Index.{row}
-use denote.Memory.{mem, cell_at, part_of}
 use denote.Param.{layout}
 use denote.Plain.{uint_vals, uint_Tells}
-use denote.RawPtr.{Ptr, block_ptr}
+use denote.RawPtr.{Ptr}
 use denote.Ref.{MutRef, mut_vals, mut_Tells}
-use denote.Signature.{plain, mut_ref_to}
-use denote.Steps.{nothing}
+use denote.Signature.{plain}
 use denote.Triple.Walked.{Stays, walk_of, says, stay_dropped, Goes-dropped, Goes-spent_ref, ends_at}
 use Rattle.core.proofs.mem.Param.{El, R, args, el_x}
 use Rattle.core.proofs.ptr.Rows.{hd}
 use Rattle.std.proofs.lemmas.Option.{slice_get-get_or}
 use Rattle.std_alloc.proofs.RcSteps.{word, word-Good}
 use Rattle.std_alloc.proofs.VecSteps.Shapes.{after}
-use Rattle.wasmi_arena.specs.Block.{runs}
-use Rattle.wasmi_arena.specs.Slots.{with_items}
 use Rattle.wasmi_arena.specs.contracts.block.Slots.item_mut as F
 use Rattle.wasmi_arena.proofs.block.Slots.item_mut.Statement.{statement}
 use Rattle.wasmi_arena.proofs.block.Slots.item_mut.Code as code
-use Rattle.wasmi_arena.proofs.Frame.{SlotsRow, PtrRow, Marker, bytes, ptr_vals, ptr_tells, referred, let_go, enters_slots, leaves_none, opens_slots}
+use Rattle.wasmi_arena.proofs.Frame.{SlotsRow, PtrRow, ptr_vals, ptr_tells, referred, let_go, enters_slots, leaves_none, opens_slots}
 use Rattle.wasmi_arena.proofs.Lending.{written_at, LentItem, lends_one}
 use Rattle.wasmi_arena.proofs.SlotRuns.{sz, offset_fits}
 

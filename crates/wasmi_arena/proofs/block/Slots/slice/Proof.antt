@@ -1,5 +1,5 @@
 -- `slice` lends what a `&` to the slots lends. Assumes `Logic`.
-use Rattle.std.proofs.Common.{◌≡◌, ℕ, ◌+◌, ◌*◌, ◌<◌, ◌^◌, List, [], ◌∷◌, length, refl, sym, ap, ◌∙◌, arith, w64}
+use Rattle.std.proofs.Common.{◌≡◌, ℕ, ◌+◌, ◌*◌, ◌^◌, List, [], ◌∷◌, length, refl, ap, ◌∙◌, arith, w64}
 use Rattle.std.proofs.raw_atomic.Walks.{proved}
 use native.Mathlib.Nat.{zero-mul}
 use base.Fraction.{full_share}
@@ -8,10 +8,9 @@ use base.Fml.{fat, flft, ftrue}
 use mir.Syntax.{named}
 use mir.MapTy.{inst_fn}
 use mir.Val.{Val}
-use prog.Wp.{Env}
 use contract.BorrowLft.{◌⊑◌}
 use contract.Running.{tables}
-use types.Kit.{‵, ◌⊛◌, at_ret, ◌$◌, ◌∵◌, !, qed, by, move, keep, drop, rewrite, fsplit, fjoin, feq_i, flt_l, flt_i, suffices}
+use types.Kit.{‵, ◌⊛◌, at_ret, ◌$◌, ◌∵◌, !, qed, by, keep, drop, rewrite, fsplit, fjoin, feq_i, flt_l, flt_i, suffices}
 use types.Part.{whole, sub, agg}
 use types.Run.{enter, of_opd, stop, fld, first, blocks, exec, returns, and_then, no_more}
 use types.ByLocal.{alloc_all, pass_all, free_all, look_at, get, get_in, sets, sets_last, take_at, give_at, env}

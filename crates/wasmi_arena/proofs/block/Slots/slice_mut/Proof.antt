@@ -1,51 +1,35 @@
 -- `slice_mut` lends the items, and the slots end with what was written to them. Assumes `Logic`.
-use Rattle.std.proofs.Common.{◌≡◌, ℕ, ◌+◌, ◌*◌, ◌<◌, ◌^◌, List, [], ◌∷◌, length, refl, sym, ap, subst, ◌∙◌, arith, w64, MutBor}
+use Rattle.std.proofs.Common.{◌≡◌, ℕ, ◌<◌, ◌^◌, List, [], ◌∷◌, length, refl, sym, subst, ◌∙◌, w64, MutBor}
 use Rattle.std.proofs.raw_atomic.Walks.{proved}
-use Rattle.std.specs.List.{refill}
-use native.Mathlib.Nat.{zero-mul}
-use lib.ListN.{drop as rest_of}
-use lib.Seq.{take_at as front_of}
-use seplogic.Ra.Ura.{Ura}
 use base.Fraction.{full_share}
-use base.Logic.{ent, sep, id⊢}
-use base.Fml.{Fml, GName, ftrue, fsep, fat, flft, fobs, fbor}
+use base.Logic.{id⊢}
+use base.Fml.{GName, ftrue, fat, flft}
 use mir.Syntax.{named}
 use mir.MapTy.{inst_fn}
-use mir.Val.{Val}
-use prog.Wp.{Env}
 use contract.BorrowLft.{◌⊑◌}
 use contract.Running.{tables}
-use types.Logic.{Logic, sem}
-use types.Kit.{⋆, ‵, raw, ◌⊛◌, some, later, at_ret, ◌$◌, ◌∵◌, !, qed, by, done, move, keep, use1, split, join, group, pick, await, frame, rewrite, fsplit, fjoin, fjoin3, fpack, suffices}
+use types.Kit.{‵, raw, ◌⊛◌, some, later, at_ret, ◌$◌, ◌∵◌, !, qed, done, move, keep, use1, split, group, pick, await, frame, rewrite, suffices}
 use types.Part.{whole, sub, agg}
 use types.Run.{enter, of_opd, stop, fld, first, blocks, exec, returns, and_then, no_more}
 use types.ByLocal.{alloc_all, pass_all, free_all, look_at, get, get_in, sets, sets_last, take_at, give_at, env}
-use types.SemTy.{cells}
 use denote.Array.{Array}
 use denote.Builtin.{usize}
 use denote.Exit.{yes, no}
 use denote.Follow.{follows}
-use denote.FollowSlice.{Elements, lends_Elements}
-use denote.Index.{row}
-use denote.Memory.{mem, cell_at, part_of}
 use denote.Param.{layout}
 use denote.Plain.{uint_vals, uint_Tells}
-use denote.RawPtr.{Ptr, block_ptr}
+use denote.RawPtr.{Ptr}
 use denote.Ref.{mut_vals, mut_Tells}
-use denote.Signature.{plain, mut_ref_to}
+use denote.Signature.{plain}
 use denote.Slice.{MutSlice, slice_val}
-use denote.Steps.{nothing}
 use denote.Triple.Walked.{Stays, walk_of, says, stay_dropped, Goes-dropped, Goes-spent_ref, ends_at}
 use Rattle.core.proofs.mem.Param.{El, R, args, el_x}
-use Rattle.core.proofs.ptr.Rows.{times_below}
 use Rattle.std_alloc.proofs.RcSteps.{word, word-Good}
 use Rattle.std_alloc.proofs.VecSteps.Shapes.{after}
-use Rattle.wasmi_arena.specs.Block.{runs}
-use Rattle.wasmi_arena.specs.Slots.{with_items}
 use Rattle.wasmi_arena.specs.contracts.block.Slots.slice_mut as F
 use Rattle.wasmi_arena.proofs.block.Slots.slice_mut.Statement.{statement}
 use Rattle.wasmi_arena.proofs.block.Slots.slice_mut.Code as code
-use Rattle.wasmi_arena.proofs.Frame.{SlotsRow, PtrRow, Marker, bytes, ptr_vals, ptr_tells, referred, let_go, enters_slots, leaves_none, opens_slots}
+use Rattle.wasmi_arena.proofs.Frame.{SlotsRow, PtrRow, ptr_vals, ptr_tells, referred, let_go, enters_slots, leaves_none, opens_slots}
 use Rattle.wasmi_arena.proofs.Lending.{written, Lent, lends_all}
 
 pub slice_mut_spec : {M : Type 1} → statement M

@@ -1,28 +1,24 @@
 -- `take` moves the first item out of its slot. Assumes `Logic`.
-use Rattle.std.proofs.Common.{◌≡◌, ℕ, suc, ◌+◌, ◌*◌, ◌<◌, ◌^◌, List, [], ◌∷◌, length, drop as take_off, refl, sym, ap, ◌∙◌, subst, arith, w64}
+use Rattle.std.proofs.Common.{◌≡◌, ℕ, ◌+◌, ◌*◌, ◌<◌, ◌^◌, [], ◌∷◌, length, refl, ap, ◌∙◌, subst, arith, w64}
 use Rattle.std.proofs.raw_atomic.Walks.{proved}
 use base.Fraction.{full_share}
-use base.Fml.{ftrue, fat, froom, flft}
+use base.Fml.{ftrue, fat}
 use mir.Syntax.{named}
 use mir.MapTy.{inst_fn}
-use mir.Val.{Val, vint}
-use prog.Wp.{Env}
+use mir.Val.{Val}
 use contract.BorrowLft.{◌⊑◌}
-use contract.Monad.{fact}
 use contract.Running.{tables}
-use types.Kit.{‵, raw, ◌⊛◌, some, given, at_ret, ◌$◌, ◌∵◌, !, qed, by, move, keep, drop, use1, use2, split, join, fsplit, fsplit3, pick, learn, rewrite, suffices, frame, group}
+use types.Kit.{‵, ◌⊛◌, some, given, at_ret, ◌$◌, ◌∵◌, !, qed, by, move, keep, use1, use2, split, pick, learn, rewrite, suffices}
 use types.Part.{whole, sub}
 use types.Run.{enter, of_opd, size_lit, bin, load, look, stop, fld, first, blocks, exec, returns}
 use types.ByLocal.{alloc_all, pass_all, free_all, look_at, get, get_in, through, sets, sets_last, take_at, give_at, env}
 use denote.Builtin.{usize}
 use denote.Exit.{yes, no}
-use denote.Memory.{part_at}
 use denote.Param.{layout}
 use denote.Plain.{uint_vals, uint_Tells}
-use denote.RawPtr.{Ptr, ptr_val}
-use denote.Ref.{MutRef, mut_vals, mut_Tells}
+use denote.RawPtr.{Ptr}
+use denote.Ref.{mut_vals, mut_Tells}
 use denote.Signature.{plain}
-use denote.Steps.{nothing, heard}
 use denote.Triple.Walked.{Stays, walk_of, stay_dropped, Goes-dropped, stay_ref, Goes-ref, ends_at}
 use Rattle.core.proofs.mem.Param.{El, R, args, elτ, Good}
 use Rattle.std_alloc.proofs.RcSteps.{word, word-Good}
@@ -31,10 +27,9 @@ use Rattle.wasmi_arena.specs.Block.{runs}
 use Rattle.wasmi_arena.specs.Slots.{without_first}
 use Rattle.wasmi_arena.proofs.SlotRuns.{cut_first, offset_fits, sz, Behind, take_out, take_back}
 use Rattle.wasmi_arena.specs.contracts.block.Slots.take as F
-use Rattle.wasmi_arena.proofs.block.BlockPtr.TheLaws as PtrLaws
 use Rattle.wasmi_arena.proofs.block.Slots.take.Statement.{statement}
 use Rattle.wasmi_arena.proofs.block.Slots.take.Code as code
-use Rattle.wasmi_arena.proofs.Frame.{SlotsRow, PtrRow, ptr_vals, ptr_tells, bytes, referred, enters_slots, leaves_slots, opens_slots, closes_slots, says_two}
+use Rattle.wasmi_arena.proofs.Frame.{SlotsRow, PtrRow, ptr_vals, ptr_tells, referred, enters_slots, leaves_slots, opens_slots, closes_slots, says_two}
 
 pub take_spec : {M : Type 1} → statement M
 take_spec 𝓤 𝓛 𝓜 𝓡 wired X LX =

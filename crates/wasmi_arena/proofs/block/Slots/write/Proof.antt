@@ -1,29 +1,26 @@
 -- `write` moves an item into the slot behind the others. Assumes `Logic`.
-use Rattle.std.proofs.Common.{◌≡◌, ℕ, suc, ◌+◌, ◌*◌, ◌<◌, ◌^◌, List, [], ◌∷◌, length, length-append, ◌++◌, ◌-◌, refl, sym, ap, ◌∙◌, subst, arith, w64}
+use Rattle.std.proofs.Common.{◌≡◌, ℕ, ◌+◌, ◌*◌, ◌<◌, ◌^◌, List, [], ◌∷◌, length, length-append, refl, sym, ◌∙◌, subst, arith, w64}
 use Rattle.std.proofs.raw_atomic.Walks.{proved_at}
 use base.Fraction.{full_share}
-use base.Fml.{ftrue, fsep, fat, froom, flft}
+use base.Fml.{ftrue, fsep, fat, froom}
 use mir.Syntax.{named}
 use mir.MapTy.{inst_fn}
 use mir.Val.{Val, vunit}
 use prog.Wp.{WpFn}
 use base.Logic.{ent}
 use contract.BorrowLft.{◌⊑◌}
-use contract.Monad.{fact}
 use contract.Running.{tables}
-use types.Kit.{use3, feq_i, ‵, raw, ◌⊛◌, some, given, at_ret, ◌$◌, ◌∵◌, !, qed, by, move, keep, drop, use1, use2, split, join, fsplit, fsplit3, pick, learn, rewrite, suffices, frame, group}
+use types.Kit.{use3, feq_i, ‵, ◌⊛◌, at_ret, ◌$◌, ◌∵◌, !, qed, by, move, keep, use1, split, fsplit, rewrite, suffices}
 use types.Part.{whole, sub}
-use types.Run.{unit_lit, init, assigns_last, enter, of_opd, size_lit, bin, load, look, stop, fld, first, blocks, exec, returns}
-use types.ByLocal.{alloc_all, pass_all, free_all, look_at, get, get_in, through, sets, sets_last, take_at, give_at, env}
+use types.Run.{unit_lit, init, assigns_last, enter, of_opd, size_lit, bin, stop, fld, first, blocks, exec, returns}
+use types.ByLocal.{alloc_all, pass_all, free_all, look_at, get, get_in, through, sets, take_at, give_at, env}
 use denote.Builtin.{usize, unit}
 use denote.Exit.{yes, no}
-use denote.Memory.{part_at}
 use denote.Param.{layout}
-use denote.Plain.{uint_vals, uint_Tells}
-use denote.RawPtr.{Ptr, ptr_val}
-use denote.Ref.{MutRef, mut_vals, mut_Tells}
+use denote.Plain.{uint_vals}
+use denote.RawPtr.{Ptr}
+use denote.Ref.{mut_vals, mut_Tells}
 use denote.Signature.{plain}
-use denote.Steps.{nothing, heard}
 use denote.Triple.Walked.{says, Stays, walk_of, stay_dropped, Goes-dropped, stay_ref, Goes-ref, ends_at}
 use Rattle.core.proofs.mem.Param.{El, R, args, elτ, one, lawful}
 use Rattle.std_alloc.proofs.RcSteps.{word, word-Good}
@@ -32,10 +29,9 @@ use Rattle.wasmi_arena.specs.Block.{runs}
 use Rattle.wasmi_arena.specs.Slots.{with_last}
 use Rattle.wasmi_arena.proofs.SlotRuns.{offset_fits, sz, Before, fill_out, fill_in}
 use Rattle.wasmi_arena.specs.contracts.block.Slots.write as F
-use Rattle.wasmi_arena.proofs.block.BlockPtr.TheLaws as PtrLaws
 use Rattle.wasmi_arena.proofs.block.Slots.write.Statement.{statement}
 use Rattle.wasmi_arena.proofs.block.Slots.write.Code as code
-use Rattle.wasmi_arena.proofs.Frame.{SlotsRow, PtrRow, ptr_vals, ptr_tells, bytes, referred, enters_slots, leaves_slots, opens_slots, closes_slots}
+use Rattle.wasmi_arena.proofs.Frame.{SlotsRow, PtrRow, ptr_vals, ptr_tells, referred, enters_slots, leaves_slots, opens_slots, closes_slots}
 
 pub write_spec : {M : Type 1} → statement M
 write_spec 𝓤 𝓛 𝓜 𝓡 wired X LX =

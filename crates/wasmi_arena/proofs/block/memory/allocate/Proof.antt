@@ -1,5 +1,5 @@
 -- `allocate` makes the parts of a block of what the allocator answers. Assumes `Logic`.
-use Rattle.std.proofs.Common.{◌≡◌, ℕ, ◌+◌, ◌*◌, ◌<◌, ◌^◌, List, [], ◌∷◌, T, refl, sym, ap, subst, ◌∙◌, arith, w64, Bool, true, false, lit<}
+use Rattle.std.proofs.Common.{◌≡◌, ℕ, ◌+◌, ◌*◌, ◌<◌, ◌^◌, [], ◌∷◌, refl, sym, ap, subst, arith, w64, Bool, true, false, lit<}
 use Rattle.std.proofs.raw_atomic.Walks.{proved}
 use Rattle.std.specs.Prelude.{IsTrue, IfOk, Ok, Err}
 use Rattle.std.specs.Vec.Ownership.{FitsInBlock, owns_if}
@@ -14,13 +14,13 @@ use prog.Wp.{Wp, after_seq, at_return}
 use contract.BorrowLft.{◌⊑◌}
 use contract.Monad.{fact}
 use contract.Running.{tables}
-use types.Kit.{any_q, later, await, split, Sq, prop, ‵, raw, ◌⊛◌, at_ret, ◌$◌, ◌∵◌, !, qed, by, done, move, keep, drop, use0, use1, use2, rewrite, fsplit, fjoin, flt_i, suffices}
+use types.Kit.{any_q, later, await, split, Sq, prop, ‵, raw, ◌⊛◌, at_ret, ◌$◌, ◌∵◌, !, qed, by, move, keep, use1, use2, rewrite, fjoin, flt_i, suffices}
 use types.Match.{live, vrt, in_variant}
 use types.Part.{whole, agg}
 use types.Run.{enter, of_opd, lit, bin, size_word, align_word, stop, fld, first, switches_on, exec, returns, and_then, no_more}
 use types.ByLocal.{alloc_all, pass_all, free_all, look_at, get, get_in, get_tag, sets, sets_last, lands_as, is, env}
 use denote.Builtin.{usize, RefOf}
-use denote.Exit.{yes, no}
+use denote.Exit.{yes}
 use denote.Memory.{hidden_shr}
 use denote.Param.{layout}
 use denote.Plain.{uint_vals, uint_Tells}
@@ -43,7 +43,7 @@ use Rattle.std_alloc.proofs.RcSteps.{word-Good, first_Good}
 use Rattle.std_alloc.proofs.ResultValues.{ok_of, err_of}
 use Rattle.std_alloc.proofs.RawLayout.{as_written}
 use Rattle.std_alloc.proofs.VecSteps.Shapes.{after, head, arm_body}
-use Rattle.wasmi_arena.specs.Block.{runs, slots_own, right_owns, takes_memory}
+use Rattle.wasmi_arena.specs.Block.{runs, takes_memory}
 use Rattle.wasmi_arena.specs.Slots.{IsNewBlock}
 use Rattle.wasmi_arena.specs.contracts.block.memory.allocate as F
 use Rattle.wasmi_arena.proofs.block.memory.allocate.Statement.{statement}
@@ -70,8 +70,8 @@ allocate_spec 𝓤 𝓛 𝓜 𝓡 wired X Y LX LY g d dd met md =
     let Answer = RS.the_row (Parts E Z) AE.the_row in let al = capped (align (elτ E)) in let τ = block_ty E n in
     enters_alloc E Z 𝓛 κ κ₁ κ₂ q q₁ q₂ a.0 (fsep (usize.own_val n (uint_vals w64 n)) ftrue) (κ₁ ⊑ X.lives) (sep 𝓤 (fact 𝓤 (FitsInBlock (R E) n)) (fact 𝓤 (IsTrue (takes_memory (R E) n)))) _ (λ within.
     let out : (r : Answer.Denot) (v : Val) → IfOk r (λ b. IsNewBlock b.0 b.1 b.2 n self)
-        → Sq 𝓛 (‵ (Answer.own_val r (v ∷ [])) ∷ ‵ (flft κ q) ∷ others E Z 𝓛 κ κ₁ κ₂ q q₁ q₂ ∷ []) (prop (W.post y v)) = λ r v new.
-        suffices ! _ (ends_at 𝓛 call stayed c y v r (tt, (tt, tt)) (tt, (tt, tt))) $ says ! new $ by ! (leaves_alloc E Z 𝓛 κ κ₁ κ₂ q q₁ q₂ 2 Answer r v) in
+    → Sq 𝓛 (‵ (Answer.own_val r (v ∷ [])) ∷ ‵ (flft κ q) ∷ others E Z 𝓛 κ κ₁ κ₂ q q₁ q₂ ∷ []) (prop (W.post y v)) = λ r v new.
+    suffices ! _ (ends_at 𝓛 call stayed c y v r (tt, (tt, tt)) (tt, (tt, tt))) $ says ! new $ by ! (leaves_alloc E Z 𝓛 κ κ₁ κ₂ q q₁ q₂ 2 Answer r v) in
     qed 𝓛 (‵ (hidden_shr (P E Z) κ self a.0.ref_ptr.0 a.0.ref_ptr.1) ∷ ‵ (flft κ q) ∷ others E Z 𝓛 κ κ₁ κ₂ q q₁ q₂ ∷ ‵ (fsep (usize.own_val n (uint_vals w64 n)) ftrue)
     ∷ (raw (fact 𝓤 (FitsInBlock (R E) n)) ⊛ raw (fact 𝓤 (IsTrue (takes_memory (R E) n)))) ∷ []) ∵ move ! (4 ∷ []) $ split ! $ heard ! _ (λ fits. heard ! _ (λ sized. keep ! (0 ∷ 1 ∷ 2 ∷ []) $
     let small : n * size < 2 ^ 63 = fits.0 in let bytes : n * size < 2 ^ 64 = omega arith in

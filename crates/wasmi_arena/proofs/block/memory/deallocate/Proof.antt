@@ -1,55 +1,46 @@
 -- `deallocate` makes the empty slots room again, and gives it back with the right. Assumes `Logic`.
-use Rattle.std.proofs.Common.{◌≡◌, ℕ, ◌+◌, ◌*◌, ◌<◌, ◌^◌, List, [], ◌∷◌, T, refl, sym, ap, subst, ◌∙◌, arith, w64, Bool, true, false, lit<}
+use Rattle.std.proofs.Common.{◌≡◌, ℕ, ◌+◌, ◌*◌, ◌<◌, ◌^◌, List, [], ◌∷◌, T, refl, sym, ap, subst, ◌∙◌, arith, w64, Bool}
 use Rattle.std.proofs.raw_atomic.Walks.{proved}
-use Rattle.std.specs.Prelude.{IsTrue, IfOk, Ok, Err}
-use Rattle.std.specs.Vec.Ownership.{FitsInBlock, owns_if}
-use base.Logic.{sep, never, id⊢}
+use Rattle.std.specs.Vec.Ownership.{owns_if}
+use base.Logic.{never, id⊢}
 use base.Fml.{Incl-trans, ftrue, fsep, froom, flft}
 use mir.Syntax.{named, ty_array, ty_unit}
 use mir.MapTy.{inst_fn}
 use mir.Val.{Val, vint, vunit, has_ty, WT}
 use prog.Memory.{align, capped}
 use prog.Capped.{capped_fits}
-use prog.Wp.{Wp, after_seq, at_return}
 use contract.BorrowLft.{◌⊑◌}
 use contract.Monad.{fact}
 use contract.Running.{tables}
-use types.Kit.{given, learn, feq_i, flt_l, fsplit3, group, any_q, later, await, split, Sq, prop, ‵, raw, ◌⊛◌, at_ret, ◌$◌, ◌∵◌, !, qed, by, done, move, keep, drop, use0, use1, use2, rewrite, fsplit, fjoin, flt_i, suffices}
+use types.Kit.{given, learn, feq_i, flt_l, fsplit3, group, later, await, Sq, prop, ‵, raw, ◌⊛◌, at_ret, ◌$◌, ◌∵◌, !, qed, done, move, keep, use1, rewrite, fsplit, suffices}
 use types.Part.{whole, sub}
 use types.Run.{enter, of_opd, lit, unit_lit, bin, size_word, align_word, stop, fld, first, blocks, branches, skips, exec, returns, and_then, no_more}
-use types.ByLocal.{alloc_all, pass_all, free_all, look_at, get, get_in, get_tag, sets, lands_last, is, env}
+use types.ByLocal.{alloc_all, pass_all, free_all, look_at, get, get_in, sets, lands_last, is, env}
 use denote.Builtin.{usize, unit, RefOf}
 use denote.Exit.{yes, no}
 use denote.Memory.{hidden_shr}
-use denote.Param.{layout}
 use denote.Plain.{uint_vals, uint_Tells}
 use denote.RawPtr.{Ptr, block_ptr, ptr_val, in_a_block}
 use denote.Ref.{shr_vals, shr_Tells}
 use denote.Signature.{plain}
-use denote.Laws.{Is}
 use denote.Steps.{nothing, heard}
-use denote.Struct.Struct.{Struct, Struct-Makes}
-use denote.Struct.Declared as Declared
 use denote.Triple.Call.{calls_at_last}
 use denote.Triple.Table.{framed}
-use denote.Triple.Walked.{says, Stays, walk_of, stay_dropped, Goes-dropped, ends_at}
+use denote.Triple.Walked.{Stays, walk_of, stay_dropped, Goes-dropped, ends_at}
 use Rattle.core.proofs.alloc.Calls.{Al, Goes-blank, token, Gives, at_gives, Gives-goes, Gives-Gives}
 use Rattle.core.proofs.mem.Param.{El, R, elτ}
 use Rattle.core.proofs.slots.Leases.{uncapped, block_ty, block_size, block_align, args, P}
-use Rattle.core.specs.contracts.result.Result as RS
-use Rattle.core.specs.contracts.alloc.AllocError as AE
-use Rattle.std_alloc.proofs.RcSteps.{word-Good, first_Good}
-use Rattle.std_alloc.proofs.ResultValues.{ok_of, err_of}
+use Rattle.std_alloc.proofs.RcSteps.{word-Good}
 use Rattle.std_alloc.proofs.RawLayout.{as_raw}
 use Rattle.std_alloc.proofs.Flags.{T_true}
-use Rattle.std_alloc.proofs.VecSteps.Shapes.{after, head, arm_body}
-use Rattle.wasmi_arena.specs.Block.{runs, slots_own, right_owns, takes_memory}
+use Rattle.std_alloc.proofs.VecSteps.Shapes.{after}
+use Rattle.wasmi_arena.specs.Block.{slots_own, right_owns, takes_memory}
 use Rattle.wasmi_arena.specs.Slots.{AreEmptied}
 use Rattle.wasmi_arena.specs.contracts.block.memory.deallocate as F
 use Rattle.wasmi_arena.proofs.block.memory.deallocate.Statement.{statement}
 use Rattle.wasmi_arena.proofs.block.memory.deallocate.Code as code
 use Rattle.wasmi_arena.proofs.Frame.{SlotsRow, PtrRow, ptr_vals, ptr_tells, let_go}
-use Rattle.wasmi_arena.proofs.NewBlock.{Parts, new_parts, parts_val, parts_typed, is_new, parts_made, marker, RightRow, slots_tells, right_tells, alloc_tokens, others, enters_alloc, leaves_alloc}
+use Rattle.wasmi_arena.proofs.NewBlock.{marker, RightRow, slots_tells, right_tells, alloc_tokens, others, enters_alloc, leaves_alloc}
 use Rattle.wasmi_arena.proofs.SlotRuns.{sz, spent}
 
 pub deallocate_spec : {M : Type 1} → statement M
@@ -61,8 +52,16 @@ deallocate_spec 𝓤 𝓛 𝓜 𝓡 wired X Y LX LY g d dd met md =
     let W = walk_of 𝓛 call stayed c in
     let 𝓣 = tables 𝓤 𝓛.H 𝓜 𝓡 𝓡.env in
     let self = RefOf {n = 3} (0 ∷ []) tt (plain (λ _. P E Z)) (λ _. tt) in
-    proved 𝓛 call stayed c 𝓜 𝓡 (Goes-dropped 𝓛 3 self yes (λ κs x w. refl), (Goes-dropped 𝓛 3 (plain (λ _. PtrRow E)) no (λ κs x w. refl), (Goes-dropped 𝓛 3 (plain (λ _. usize)) yes (λ κs x w. refl),
-    (Goes-blank 𝓛 3 (plain (λ _. SlotsRow E)) no (λ κs x w. tt), (Goes-blank 𝓛 3 (plain (λ _. RightRow E Z)) no (λ κs x w. tt), tt)))))
+    proved 𝓛 call stayed c 𝓜 𝓡 (
+      Goes-dropped 𝓛 3 self yes (λ κs x w. refl),
+      (
+        Goes-dropped 𝓛 3 (plain (λ _. PtrRow E)) no (λ κs x w. refl),
+        (
+          Goes-dropped 𝓛 3 (plain (λ _. usize)) yes (λ κs x w. refl),
+          (Goes-blank 𝓛 3 (plain (λ _. SlotsRow E)) no (λ κs x w. tt), (Goes-blank 𝓛 3 (plain (λ _. RightRow E Z)) no (λ κs x w. tt), tt)),
+        ),
+      ),
+    )
     (F.Key.name (args E Z)) function (code.unfolded 𝓤 𝓛.H 𝓜 𝓡 wired (X, (Y, tt)) d dd)
     (λ κs. (shr_vals, (ptr_vals E, (uint_vals w64, ((λ s. marker ∷ []), ((λ r. marker ∷ []), tt))))))
     (λ κs. (shr_Tells (named 0) κs.0 (P E Z), (ptr_tells E, (uint_Tells w64, (slots_tells E Z, (right_tells E Z, tt))))))
@@ -74,9 +73,9 @@ deallocate_spec 𝓤 𝓛 𝓜 𝓡 wired X Y LX LY g d dd met md =
     let Rest = fsep ((PtrRow E).own_val ptr (ptr_vals E ptr)) (fsep (usize.own_val n (uint_vals w64 n)) (fsep ((SlotsRow E).own_val s (marker ∷ [])) (fsep ((RightRow E Z).own_val r (marker ∷ [])) ftrue))) in
     enters_alloc E Z 𝓛 κ κ₁ κ₂ q q₁ q₂ a.0 Rest (κ₁ ⊑ X.lives) (fact 𝓤 (AreEmptied ptr s r n self)) _ (λ within.
     let out : Sq 𝓛 (‵ (flft κ q) ∷ others E Z 𝓛 κ κ₁ κ₂ q q₁ q₂ ∷ []) (prop (W.post y vunit)) =
-        suffices ! _ (ends_at 𝓛 call stayed c y vunit tt (tt, (tt, (tt, (tt, (tt, tt))))) (tt, (tt, (tt, (tt, (tt, tt)))))) $
-        feq_i ! (List Val) (vunit ∷ []) (vunit ∷ []) refl $ group ! 3 $
-        use1 𝓛 (alloc_tokens E Z 𝓛 κ κ₁ κ₂ q q₁ q₂ ⊛ ‵ (let_go 5) ⊛ ‵ (unit.own_val tt (vunit ∷ []))) (leaves_alloc E Z 𝓛 κ κ₁ κ₂ q q₁ q₂ 5 unit tt vunit) $ nothing ! $ move ! (1 ∷ 0 ∷ []) $ done ! in
+    suffices ! _ (ends_at 𝓛 call stayed c y vunit tt (tt, (tt, (tt, (tt, (tt, tt))))) (tt, (tt, (tt, (tt, (tt, tt)))))) $
+    feq_i ! (List Val) (vunit ∷ []) (vunit ∷ []) refl $ group ! 3 $
+    use1 𝓛 (alloc_tokens E Z 𝓛 κ κ₁ κ₂ q q₁ q₂ ⊛ ‵ (let_go 5) ⊛ ‵ (unit.own_val tt (vunit ∷ []))) (leaves_alloc E Z 𝓛 κ κ₁ κ₂ q q₁ q₂ 5 unit tt vunit) $ nothing ! $ move ! (1 ∷ 0 ∷ []) $ done ! in
     qed 𝓛 (‵ (hidden_shr (P E Z) κ self a.0.ref_ptr.0 a.0.ref_ptr.1) ∷ ‵ (flft κ q) ∷ others E Z 𝓛 κ κ₁ κ₂ q q₁ q₂ ∷ ‵ Rest ∷ raw (fact 𝓤 (AreEmptied ptr s r n self)) ∷ []) ∵ move ! (4 ∷ []) $ heard ! _ (λ empty.
     move ! (3 ∷ []) $ fsplit3 ! $ move ! (2 ∷ []) $ fsplit3 ! $ fsplit ! $ move ! (2 ∷ []) $ fsplit ! $ keep ! (3 ∷ 1 ∷ 7 ∷ 8 ∷ 9 ∷ []) $
     enter ! _ _ _ _ _ $ alloc_all ! (λ l. pass_all ! refl ((tt, tt), (word-Good [] ptr.start, ((tt, record { fits = are.1.1.0.1 }), ((tt, (tt, tt)), ((tt, (tt, tt)), tt))))) $

@@ -1,11 +1,9 @@
 -- `without_block` makes the parts of a block that takes no memory, of nothing. Assumes `Logic`.
-use Rattle.std.proofs.Common.{◌≡◌, ℕ, ◌+◌, ◌*◌, ◌<◌, ◌^◌, List, [], ◌∷◌, T, refl, sym, ap, subst, ◌∙◌, arith, w64, Bool, not, eqb, lit<}
+use Rattle.std.proofs.Common.{◌≡◌, ℕ, ◌+◌, ◌*◌, ◌<◌, ◌^◌, [], ◌∷◌, T, refl, sym, ap, subst, ◌∙◌, arith, w64, not, eqb, lit<}
 use Rattle.std.proofs.raw_atomic.Walks.{proved}
 use Rattle.std.specs.Prelude.{◌==◌, IsSome, IfSome, Some, None, ◌↔◌}
-use Rattle.std.specs.Mem.{type_size}
 use Rattle.std.specs.Vec.Ownership.{owns_if}
 use native.Mathlib.Nat.{mul-zero}
-use lib.Dec.{eqb→eq}
 use base.Logic.{emp}
 use base.Fml.{ftrue, fsep, froom, flft}
 use mir.Syntax.{named, ty_array}
@@ -13,17 +11,15 @@ use mir.MapTy.{inst_fn}
 use mir.Raw.{raw as raw_ty}
 use mir.Val.{Val, vcons, vnil}
 use prog.Memory.{capped}
-use prog.Capped.{capped_is, capped_small}
-use prog.Wp.{Env}
 use contract.BorrowLft.{◌⊑◌}
 use contract.Running.{tables}
-use types.Kit.{Sq, prop, ⋆, ‵, raw, ◌⊛◌, at_ret, ◌$◌, ◌∵◌, !, qed, by, done, move, keep, drop, use0, use1, use2, rewrite, fsplit, fjoin, flt_i, suffices}
+use types.Kit.{Sq, prop, ‵, raw, at_ret, ◌$◌, ◌∵◌, !, qed, by, keep, use0, use1, use2, rewrite, fjoin, flt_i, suffices}
 use types.Match.{live}
-use types.Part.{whole, agg}
-use types.Run.{enter, of_opd, lit, bin, size_word, addr, stop, from, first, branches, skips, exec, returns, returns_within, and_then, no_more}
+use types.Part.{agg}
+use types.Run.{enter, lit, bin, size_word, addr, stop, from, first, branches, skips, exec, returns, returns_within, and_then, no_more}
 use types.ByLocal.{alloc_all, pass_all, free_all, look_at, get, sets, env}
 use denote.Builtin.{usize, RefOf}
-use denote.Exit.{yes, no}
+use denote.Exit.{yes}
 use denote.Memory.{hidden_shr}
 use denote.Param.{layout}
 use denote.Plain.{uint_vals, uint_Tells}
@@ -38,13 +34,13 @@ use Rattle.core.proofs.slots.Leases.{args, P}
 use Rattle.core.specs.contracts.option.Option as Opt
 use Rattle.std_alloc.proofs.RcSteps.{word-Good, some_Good, Some-of, none_of}
 use Rattle.std_alloc.proofs.VecSteps.Shapes.{after}
-use Rattle.wasmi_arena.specs.Block.{runs, slots_own, right_owns, takes_memory}
+use Rattle.wasmi_arena.specs.Block.{runs}
 use Rattle.wasmi_arena.specs.Slots.{IsNewBlock}
 use Rattle.wasmi_arena.specs.contracts.block.memory.without_block as F
 use Rattle.wasmi_arena.proofs.block.memory.without_block.Statement.{statement}
 use Rattle.wasmi_arena.proofs.block.memory.without_block.Code as code
 use Rattle.wasmi_arena.proofs.Frame.{says_two}
-use Rattle.wasmi_arena.proofs.NewBlock.{Parts, new_parts, parts_val, parts_typed, is_new, parts_made, marker, others, enters_alloc, leaves_alloc}
+use Rattle.wasmi_arena.proofs.NewBlock.{Parts, new_parts, parts_val, parts_typed, is_new, parts_made, others, enters_alloc, leaves_alloc}
 use Rattle.wasmi_arena.proofs.SlotRuns.{sz, no_size, fresh, weightless}
 
 pub without_block_spec : {M : Type 1} → statement M
@@ -66,8 +62,8 @@ without_block_spec 𝓤 𝓛 𝓜 𝓡 wired X Y LX LY g d dd met md =
     let Answer = Opt.the_row (Parts E Z) in
     enters_alloc E Z 𝓛 κs.0 κ₁ κ₂ qs.0 q₁ q₂ a.0 (fsep (usize.own_val n (uint_vals w64 n)) ftrue) (κ₁ ⊑ X.lives) (emp 𝓤) _ (λ within.
     let out : (r : Answer.Denot) (v : Val) → (IsSome r ↔ (size ≡ 0)) → IfSome r (λ b. IsNewBlock b.0 b.1 b.2 n a.0.now)
-        → Sq 𝓛 (‵ (Answer.own_val r (v ∷ [])) ∷ ‵ (flft κs.0 qs.0) ∷ others E Z 𝓛 κs.0 κ₁ κ₂ qs.0 q₁ q₂ ∷ []) (prop (W.post y v)) = λ r v some new.
-        suffices ! _ (ends_at 𝓛 call stayed c y v r (tt, (tt, tt)) (tt, (tt, tt))) $ says_two ! some new $ by ! (leaves_alloc E Z 𝓛 κs.0 κ₁ κ₂ qs.0 q₁ q₂ 2 Answer r v) in
+    → Sq 𝓛 (‵ (Answer.own_val r (v ∷ [])) ∷ ‵ (flft κs.0 qs.0) ∷ others E Z 𝓛 κs.0 κ₁ κ₂ qs.0 q₁ q₂ ∷ []) (prop (W.post y v)) = λ r v some new.
+    suffices ! _ (ends_at 𝓛 call stayed c y v r (tt, (tt, tt)) (tt, (tt, tt))) $ says_two ! some new $ by ! (leaves_alloc E Z 𝓛 κs.0 κ₁ κ₂ qs.0 q₁ q₂ 2 Answer r v) in
     qed 𝓛 (‵ (hidden_shr (P E Z) κs.0 a.0.now a.0.ref_ptr.0 a.0.ref_ptr.1) ∷ ‵ (flft κs.0 qs.0) ∷ others E Z 𝓛 κs.0 κ₁ κ₂ qs.0 q₁ q₂ ∷ ‵ (fsep (usize.own_val n (uint_vals w64 n)) ftrue) ∷ raw (emp 𝓤) ∷ []) ∵ keep ! (1 ∷ 2 ∷ []) $
     enter ! _ _ _ _ _ $ alloc_all ! (λ l. pass_all ! refl ((tt, tt), ((tt, record { fits = are.1.0.1 }), tt)) $
     sets ! (bin ! (size_word !) (lit ! tt) tt) refl (tt, tt) $ first ! $ branches ! (get ! refl)

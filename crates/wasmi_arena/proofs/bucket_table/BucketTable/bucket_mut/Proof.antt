@@ -1,29 +1,25 @@
 -- `bucket_mut` lends one bucket of the table. Assumes `Logic`.
-use Rattle.std.proofs.Common.{◌≡◌, ℕ, ◌+◌, ◌*◌, ◌<◌, ◌≤◌, ◌^◌, List, [], ◌∷◌, length, get_or, set, length-set, Option, None, refl, sym, ap, subst, arith, w64, MutBor, mul-le-mul_right}
+use Rattle.std.proofs.Common.{◌≡◌, ℕ, ◌*◌, ◌<◌, ◌≤◌, ◌^◌, [], ◌∷◌, length, get_or, None, refl, sym, ap, subst, arith, w64, MutBor, mul-le-mul_right}
 use Rattle.std.proofs.raw_atomic.Walks.{proved}
 use Rattle.std.specs.Mem.{type_size}
-use seplogic.Ra.Ura.{Ura}
 use base.Fraction.{full_share}
-use base.Logic.{ent, sep, id⊢}
+use base.Logic.{id⊢}
 use base.Fml.{GName, ftrue, flft}
 use mir.Syntax.{named}
 use mir.MapTy.{inst_fn}
-use mir.Val.{Val, vint, vptr}
+use mir.Val.{vint, vptr}
 use prog.Memory.{size}
 use contract.BorrowLft.{◌⊑◌}
 use contract.Monad.{fact}
-use contract.Running.{tables}
-use types.Logic.{sem}
-use types.Kit.{join, use0, use2, ‵, raw, ◌⊛◌, some, later, ◌$◌, ◌∵◌, !, qed, by, done, move, keep, drop, use1, split, group, pick, await, learn, given, fsplit3, fjoin3, frame, suffices}
+use types.Kit.{join, use0, use2, ‵, raw, ◌⊛◌, some, later, ◌$◌, ◌∵◌, !, qed, done, move, keep, drop, use1, split, group, pick, await, learn, given, fsplit3, fjoin3, frame, suffices}
 use types.Run.{enter, size_word, bin, addr, fld, stop, returns}
 use types.ByLocal.{alloc_all, pass_all, free_all, look_at, get, through, sets, is}
 use types.Mut.{open_ref}
-use types.SemTy.{Body}
 use denote.Builtin.{usize}
 use denote.Exit.{yes, no}
-use denote.Follow.{follows, Part, lends_Part}
-use denote.Index.{row, others, takes, puts, place_is, place as nth}
-use denote.Memory.{mem, part_at, shares, lone}
+use denote.Follow.{follows}
+use denote.Index.{row}
+use denote.Memory.{mem}
 use denote.Param.{layout, number}
 use denote.Plain.{uint_vals, uint_Tells}
 use denote.Ref.{MutRef, mut_vals, mut_Tells}

@@ -17,8 +17,10 @@ pub returns : goal.returns
 returns g c =
     let below = index-lt_len _ _ _ c.self.invariant (rw c.self.view_is c.requires) in
     let written = items_of-written _ _ _ c.self.invariant _ _ _ c.place-bucket.ensures.place below in
-    let read = slice_get-slot _ _ _ c.self.invariant _ _ _ c.place-bucket.ensures.place below in
-    ((refl, λ w. rw (← c.bucket_mut-found.ensures.value, ← c.self.view_is) (written w)), record {
-      writes_back = tt;
-      value = rw (← c.self.view_is) (sym read ∙ rw c.bucket_mut-found.ensures.value c.slot_mut.ensures.value);
-    })
+    let read = slice_get-slot _ _ _ c.self.invariant _ _ _ c.place-bucket.ensures.place below in (
+      (refl, λ w. rw (← c.bucket_mut-found.ensures.value, ← c.self.view_is) (written w)),
+      record {
+        writes_back = tt;
+        value = rw (← c.self.view_is) (sym read ∙ rw c.bucket_mut-found.ensures.value c.slot_mut.ensures.value);
+      },
+    )
