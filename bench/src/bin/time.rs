@@ -1,4 +1,5 @@
-//! Times every row and prints the table; writes the chart to the file that its argument names.
+//! Times the rows and prints the table; writes the chart to the file that its first argument names. With a second
+//! argument it times only the rows whose names have that word.
 
 use std::{env, fs, process::ExitCode};
 use wasmi_bench_driver::chart::chart;
@@ -10,8 +11,9 @@ fn main() -> ExitCode {
         eprintln!("give the file to write the chart to");
         return ExitCode::FAILURE;
     };
+    let word = env::args().nth(2).unwrap_or_default();
     let mut entries = Vec::new();
-    for row in ROWS {
+    for row in ROWS.iter().filter(|row| row.name.contains(&word)) {
         for n in SIZES {
             entries.push((row.name, n, time(row, n)));
         }
