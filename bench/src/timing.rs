@@ -61,6 +61,14 @@ impl Side {
     }
 }
 
+/// Has the C library keep freed memory, so that no row pays for pages that come anew from the system.
+///
+/// glibc raises the size from which it maps a block of its own, and returns it, once such a block was freed. Both
+/// sides allocate by the same `malloc`.
+pub fn settle_heap() {
+    drop(black_box(Vec::<u8>::with_capacity(1 << 24)));
+}
+
 fn timed(work: impl Fn() -> u64) -> (f64, u64) {
     let start = Instant::now();
     let checksum = black_box(work());

@@ -4,7 +4,7 @@
 use std::{env, fs, process::ExitCode};
 use wasmi_bench_driver::chart::chart;
 use wasmi_bench_driver::rows::{ROWS, SIZES};
-use wasmi_bench_driver::timing::time;
+use wasmi_bench_driver::timing::{settle_heap, time};
 
 fn main() -> ExitCode {
     let Some(file) = env::args_os().nth(1) else {
@@ -12,6 +12,7 @@ fn main() -> ExitCode {
         return ExitCode::FAILURE;
     };
     let word = env::args().nth(2).unwrap_or_default();
+    settle_heap();
     let mut entries = Vec::new();
     for row in ROWS.iter().filter(|row| row.name.contains(&word)) {
         for n in SIZES {
