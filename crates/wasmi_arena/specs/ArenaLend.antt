@@ -1,6 +1,6 @@
 -- What a stable arena is once a `&mut` to an item of it has ended.
 use Rattle.std.specs.Prelude.{List, Result, slice_set}
-use Rattle.std.specs.Borrow.{Fml, RattleType, MutBor, LendsIfOk}
+use Rattle.std.specs.Borrow.{Fml, RattleType, MutBor, Lends, LendsIfOk}
 use Rattle.std.specs.declared.alloc.Allocator as alloc
 use Rattle.wasmi_arena.specs.declared.error.ArenaError.{ArenaError}
 use Rattle.wasmi_arena.specs.declared.key.ArenaKey as key
@@ -11,3 +11,7 @@ module _ (K R A : RattleType) (keys : key.Ghosts K.Denot) (heap : alloc.Ghosts A
   -- item, and no other changes
   abbrev pub lends_get : MutBor (List R.Denot) → K.Denot → Result (MutBor R.Denot) ArenaError → Fml
   lends_get arena k item = LendsIfOk (the_row K R A keys heap) R arena item (λ last. slice_set arena.now (keys.keys.number k) last) arena.now
+
+  -- the same of a key that reads an item
+  abbrev pub lends_item : MutBor (List R.Denot) → K.Denot → MutBor R.Denot → Fml
+  lends_item arena k item = Lends (the_row K R A keys heap) R arena item (λ last. slice_set arena.now (keys.keys.number k) last)

@@ -12,6 +12,7 @@ pub use iter::StableArenaIter;
 use std::alloc::{Allocator, Global};
 use std::marker::{Model, PhantomData};
 use std::mem;
+use std::ops::{Index, IndexMut};
 
 /// A list of items, each under the key of its position, which stays where it is for good.
 ///
@@ -188,5 +189,48 @@ impl<Key: ArenaKey, T, A: Allocator> StableArena<Key, T, A> {
             next: 0,
             keys: PhantomData,
         }
+    }
+}
+
+impl<Key: ArenaKey, T, A: Allocator> Index<Key> for StableArena<Key, T, A> {
+    ghost use Rattle.std.specs.Prelude.{◌≡◌, ◌<◌, length, slice_get, Some};
+
+    type Output = T;
+
+    // The key reads an item.
+    ghost can_index = { λ arena key. Key.keys.number key < length arena };
+
+    ghost index_gives = { λ arena key item. slice_get arena (Key.keys.number key) ≡ Some item };
+
+    fn index(&self, key: Key) -> &T {
+        match self.get(key) {
+            Ok(item) => item,
+            Err(_) => unreachable!(),
+        }
+    }
+}
+
+impl<Key: ArenaKey, T, A: Allocator> IndexMut<Key> for StableArena<Key, T, A> {
+    ghost use Rattle.std.specs.Borrow.{sem};
+    ghost use Rattle.wasmi_arena.specs.ArenaLend.{lends_item};
+
+    fn index_mut(&mut self, key: Key) -> &mut T
+        requires { Key.keys.number key < length self.old }
+        ensures* writes_back { sem 𝓛 (lends_item Key.row T.row A.row Key.ArenaKey A.Allocator self.entry key result) }
+        ensures value { slice_get self.old (Key.keys.number key) ≡ Some result.now }
+    {
+        self.items.item_mut(key.into_usize())
+    }
+}
+
+impl<'a, Key: ArenaKey, T, A: Allocator> IntoIterator for &'a StableArena<Key, T, A> {
+    type Item = (Key, &'a T);
+
+    type IntoIter = StableArenaIter<'a, Key, T, A>;
+
+    ghost into_iter_gives = { λ arena it. it ≡ entries Key.keys arena.now };
+
+    fn into_iter(self) -> StableArenaIter<'a, Key, T, A> {
+        self.iter()
     }
 }

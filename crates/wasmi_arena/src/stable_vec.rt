@@ -287,3 +287,15 @@ impl<T, A: Allocator> StableVec<T, A> {
         Ok(index)
     }
 }
+
+impl<'a, T, A: Allocator> IntoIterator for &'a StableVec<T, A> {
+    type Item = &'a T;
+
+    type IntoIter = StableVecIter<'a, T, A>;
+
+    ghost into_iter_gives = { λ vec it. it ≡ vec.now };
+
+    fn into_iter(self) -> StableVecIter<'a, T, A> {
+        self.iter()
+    }
+}

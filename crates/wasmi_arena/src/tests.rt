@@ -315,6 +315,23 @@ fn items_are_exchanged(rt: HostRuntime) -> Result<(), Fail> {
     assert!(rt; arena.get_mut(100).is_err());
     assert!(rt; arena.has(99) && !arena.has(100));
     assert_eq!(rt; (arena.len(), arena.items().open_buckets()), (100, 3));
+    for (key, item) in &arena {
+        assert_eq!(rt; key.wrapping_add(*item), 99);
+    }
+    for item in arena.items() {
+        assert!(rt; *item < 100);
+    }
+    Ok(())
+}
+
+#[test]
+fn items_by_index(rt: HostRuntime) -> Result<(), Fail> {
+    let mut arena: StableArena<u32, u8> = StableArena::new(rt.alloc());
+    let first = arena.alloc(7)?;
+    let second = arena.alloc(8)?;
+    assert_eq!(rt; (arena[first], arena[second]), (7, 8));
+    arena[second] = 9;
+    assert_eq!(rt; (arena[first], arena[second]), (7, 9));
     Ok(())
 }
 

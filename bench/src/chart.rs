@@ -1,0 +1,70 @@
+//! The chart of the ratios to the Rust crate: a bar for each row and size, and a line at 1.
+
+use crate::timing::Times;
+use std::fmt::Write;
+
+const WIDTH: f64 = 880.0;
+const LEFT: f64 = 300.0;
+const RIGHT: f64 = 60.0;
+const TOP: f64 = 48.0;
+const BAR: f64 = 14.0;
+const STEP: f64 = 18.0;
+const GAP: f64 = 10.0;
+
+// Where a ratio lies, in a chart whose right edge is `last`. A greater ratio ends there.
+struct Scale {
+    last: f64,
+}
+
+impl Scale {
+    fn x(&self, ratio: f64) -> f64 {
+        LEFT + ratio.min(self.last) / self.last * (WIDTH - LEFT - RIGHT)
+    }
+}
+
+/// The chart, as SVG. Each entry is a row's name, its number of items and its times; the rows stand together.
+pub fn chart(entries: &[(&str, u64, Times)]) -> String {
+    let greatest = entries
+        .iter()
+        .map(|(_, _, times)| times.to_theirs())
+        .fold(0.0, f64::max);
+    let scale = Scale {
+        last: greatest.clamp(1.5, 4.0),
+    };
+    let mut bars = String::new();
+    let mut y = TOP;
+    let mut last_name = "";
+    for (name, n, times) in entries {
+        if *name != last_name {
+            y += GAP;
+            let text = name.replace('`', "");
+            let _ = writeln!(bars, r#"<text x="8" y="{}">{text}</text>"#, y + BAR - 3.0);
+            last_name = name;
+        }
+        bar(&mut bars, &scale, y, *n, times.to_theirs());
+        y += STEP;
+    }
+    let (height, one) = (y + GAP, scale.x(1.0));
+    format!(
+        r##"<svg xmlns="http://www.w3.org/2000/svg" width="{WIDTH}" height="{height}" font-family="sans-serif" font-size="12">
+<rect width="100%" height="100%" fill="#ffffff"/>
+<text x="8" y="20" font-size="14">Time of the port over the time of the Rust crate: left of the line the port is faster</text>
+<text x="{one:.1}" y="42" text-anchor="middle">1</text>
+{bars}<line x1="{one:.1}" y1="{TOP}" x2="{one:.1}" y2="{y}" stroke="#222222" stroke-width="1.5"/>
+</svg>
+"##
+    )
+}
+
+fn bar(bars: &mut String, scale: &Scale, y: f64, n: u64, ratio: f64) {
+    let colour = if ratio <= 1.0 { "#3a8f5c" } else { "#d9822b" };
+    let (end, label, line) = (scale.x(ratio), LEFT - 8.0, y + BAR - 3.0);
+    let (width, after) = (end - LEFT, end + 6.0);
+    let power = n.trailing_zeros();
+    let _ = writeln!(
+        bars,
+        r##"<text x="{label}" y="{line}" text-anchor="end" fill="#555555">2^{power}</text>
+<rect x="{LEFT}" y="{y}" width="{width:.1}" height="{BAR}" fill="{colour}"/>
+<text x="{after:.1}" y="{line}">{ratio:.2}</text>"##
+    );
+}

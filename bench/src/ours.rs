@@ -1,0 +1,12 @@
+//! What the static library of `crates/wasmi_bench` exports. Each function is proved to be safe for all arguments.
+
+unsafe extern "C" {
+    pub safe fn wasmi_bench_vec_push(n: u64, rounds: u64) -> u64;
+    pub safe fn wasmi_bench_vec_get(n: u64, rounds: u64) -> u64;
+    pub safe fn wasmi_bench_vec_iter(n: u64, rounds: u64) -> u64;
+    pub safe fn wasmi_bench_vec_slots(n: u64) -> u64;
+    pub safe fn wasmi_bench_vec_size() -> u64;
+    pub safe fn wasmi_bench_arena_alloc(n: u64, rounds: u64) -> u64;
+    pub safe fn wasmi_bench_arena_iter_usize(n: u64, rounds: u64) -> u64;
+    pub safe fn wasmi_bench_arena_iter_u32(n: u64, rounds: u64) -> u64;
+}

@@ -1,0 +1,63 @@
+//! The table of rows. A new row is a line here, and a function of its name on each side.
+
+use crate::{ours, plain, theirs};
+
+/// Does a row's work on `n` items so many times, and returns a checksum.
+pub type Work = fn(n: u64, rounds: u64) -> u64;
+
+/// The same by C's calling convention, as the port exports it.
+pub type ExportedWork = extern "C" fn(n: u64, rounds: u64) -> u64;
+
+/// What a round does to the container.
+#[derive(Clone, Copy, PartialEq)]
+pub enum Round {
+    /// Fills a new container and drops it.
+    Fills,
+    /// Reads a container that is filled once, before the first round. The time of no rounds is taken off.
+    Reads,
+}
+
+pub struct Row {
+    pub name: &'static str,
+    pub round: Round,
+    pub ours: ExportedWork,
+    pub theirs: Work,
+    pub plain: Work,
+}
+
+/// The numbers of items, each a power of two.
+pub const SIZES: [u64; 4] = [1 << 8, 1 << 12, 1 << 16, 1 << 20];
+
+/// The next index below `n`, a power of two: some bits of the state of a generator of random numbers.
+pub fn next_index(state: &mut u64, n: u64) -> usize {
+    *state = state
+        .wrapping_mul(6364136223846793005)
+        .wrapping_add(1442695040888963407);
+    ((*state >> 32) & n.wrapping_sub(1)) as usize
+}
+
+const fn row(
+    name: &'static str,
+    round: Round,
+    ours: ExportedWork,
+    theirs: Work,
+    plain: Work,
+) -> Row {
+    Row {
+        name,
+        round,
+        ours,
+        theirs,
+        plain,
+    }
+}
+
+#[rustfmt::skip]
+pub const ROWS: &[Row] = &[
+    row("`StableVec` push", Round::Fills, ours::wasmi_bench_vec_push, theirs::vec_push, plain::vec_push),
+    row("`StableVec` get, random", Round::Reads, ours::wasmi_bench_vec_get, theirs::vec_get, plain::vec_get),
+    row("`StableVec` walk", Round::Reads, ours::wasmi_bench_vec_iter, theirs::vec_iter, plain::vec_iter),
+    row("`StableArena` alloc", Round::Fills, ours::wasmi_bench_arena_alloc, theirs::arena_alloc, plain::arena_alloc),
+    row("`StableArena` walk, `usize` keys", Round::Reads, ours::wasmi_bench_arena_iter_usize, theirs::arena_iter::<usize>, plain::arena_iter),
+    row("`StableArena` walk, `u32` keys", Round::Reads, ours::wasmi_bench_arena_iter_u32, theirs::arena_iter::<u32>, plain::arena_iter),
+];

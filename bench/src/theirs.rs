@@ -1,0 +1,93 @@
+//! The rows of the Rust crate, in the form that `crates/wasmi_bench` has: what a round does stands in a function
+//! that isn't inlined.
+
+use crate::rows::next_index;
+use wasmi_collections::arena::{ArenaKey, StableArena, StableVec};
+
+#[inline(never)]
+fn fill(vec: &mut StableVec<u64>, n: u64, first: u64) {
+    for i in 0..n {
+        vec.push(first.wrapping_add(i));
+    }
+}
+
+fn filled(n: u64) -> StableVec<u64> {
+    let mut vec = StableVec::new();
+    fill(&mut vec, n, 1);
+    vec
+}
+
+pub fn vec_push(n: u64, rounds: u64) -> u64 {
+    let mut sum = 0u64;
+    for _ in 0..rounds {
+        let mut vec = StableVec::new();
+        fill(&mut vec, n, sum);
+        let last = vec.get(vec.len().wrapping_sub(1)).copied().unwrap_or(0);
+        sum = sum.wrapping_add(last).wrapping_add(vec.len() as u64);
+    }
+    sum
+}
+
+#[inline(never)]
+fn get_all(vec: &StableVec<u64>, n: u64, before: u64) -> u64 {
+    let (mut state, mut sum) = (1, before);
+    for _ in 0..n {
+        if let Some(item) = vec.get(next_index(&mut state, n)) {
+            sum = sum.wrapping_add(*item);
+        }
+    }
+    sum
+}
+
+pub fn vec_get(n: u64, rounds: u64) -> u64 {
+    let vec = filled(n);
+    (0..rounds).fold(1, |sum, _| get_all(&vec, n, sum))
+}
+
+#[inline(never)]
+fn walk(vec: &StableVec<u64>, before: u64) -> u64 {
+    let mut sum = before;
+    for item in vec.iter() {
+        sum = sum.wrapping_add(*item);
+    }
+    sum
+}
+
+pub fn vec_iter(n: u64, rounds: u64) -> u64 {
+    let vec = filled(n);
+    (0..rounds).fold(1, |sum, _| walk(&vec, sum))
+}
+
+#[inline(never)]
+fn fill_arena<Key: ArenaKey>(arena: &mut StableArena<Key, u64>, n: u64, first: u64) -> u64 {
+    let mut sum = first;
+    for i in 0..n {
+        let Ok(key) = arena.alloc(first.wrapping_add(i)) else {
+            return 0;
+        };
+        sum = sum.wrapping_add(key.into_usize() as u64);
+    }
+    sum
+}
+
+pub fn arena_alloc(n: u64, rounds: u64) -> u64 {
+    (0..rounds).fold(0, |sum, _| {
+        fill_arena(&mut StableArena::<usize, u64>::new(), n, sum)
+    })
+}
+
+#[inline(never)]
+fn walk_arena<Key: ArenaKey>(arena: &StableArena<Key, u64>, before: u64) -> u64 {
+    let mut sum = before;
+    for (key, item) in arena.iter() {
+        let number = key.into_usize() as u64;
+        sum = sum.wrapping_add(*item ^ number);
+    }
+    sum
+}
+
+pub fn arena_iter<Key: ArenaKey>(n: u64, rounds: u64) -> u64 {
+    let mut arena = StableArena::<Key, u64>::new();
+    let sum = fill_arena(&mut arena, n, 1);
+    (0..rounds).fold(sum, |sum, _| walk_arena(&arena, sum))
+}

@@ -1,0 +1,105 @@
+//! Times a row on its three sides, which take turns.
+
+use crate::rows::{Round, Row};
+use std::hint::black_box;
+use std::time::Instant;
+
+// How many operations a measurement has.
+const OPERATIONS: u64 = 1 << 24;
+
+// How often each side is timed. The least time counts.
+const TURNS: usize = 7;
+
+/// Nanoseconds an operation.
+#[derive(Clone, Copy)]
+pub struct Times {
+    pub ours: f64,
+    pub theirs: f64,
+    pub plain: f64,
+}
+
+impl Times {
+    pub fn to_theirs(&self) -> f64 {
+        self.ours / self.theirs
+    }
+
+    pub fn to_plain(&self) -> f64 {
+        self.ours / self.plain
+    }
+}
+
+// The least times of one side, in nanoseconds, and its checksums.
+#[derive(Clone, Copy)]
+struct Side {
+    full: f64,
+    filling: f64,
+    checksums: (u64, u64),
+}
+
+impl Side {
+    const UNTIMED: Side = Side {
+        full: f64::INFINITY,
+        filling: f64::INFINITY,
+        checksums: (0, 0),
+    };
+
+    // Times the work once, with its rounds and with none.
+    fn turn(&mut self, work: impl Fn(u64, u64) -> u64, n: u64, rounds: u64) {
+        let (filling, checksum_filled) = timed(|| work(black_box(n), black_box(0)));
+        let (full, checksum) = timed(|| work(black_box(n), black_box(rounds)));
+        self.filling = self.filling.min(filling);
+        self.full = self.full.min(full);
+        self.checksums = (checksum_filled, checksum);
+    }
+
+    fn of_operation(&self, round: Round, operations: u64) -> f64 {
+        let taken_off = match round {
+            Round::Fills => 0.0,
+            Round::Reads => self.filling,
+        };
+        (self.full - taken_off) / operations as f64
+    }
+}
+
+/// Has the C library keep freed memory, so that no row pays for pages that come anew from the system.
+///
+/// glibc raises the size from which it maps a block of its own, and returns it, once such a block was freed. Both
+/// sides allocate by the same `malloc`.
+pub fn settle_heap() {
+    drop(black_box(Vec::<u8>::with_capacity(1 << 24)));
+}
+
+fn timed(work: impl Fn() -> u64) -> (f64, u64) {
+    let start = Instant::now();
+    let checksum = black_box(work());
+    (start.elapsed().as_nanos() as f64, checksum)
+}
+
+/// Times a row at `n` items.
+///
+/// # Panics
+///
+/// If the three sides differ in a checksum.
+pub fn time(row: &Row, n: u64) -> Times {
+    let rounds = OPERATIONS / n;
+    let (mut ours, mut theirs, mut plain) = (Side::UNTIMED, Side::UNTIMED, Side::UNTIMED);
+    for turn in 0..=TURNS {
+        ours.turn(|n, rounds| (row.ours)(n, rounds), n, rounds);
+        theirs.turn(row.theirs, n, rounds);
+        plain.turn(row.plain, n, rounds);
+        assert_eq!(ours.checksums, theirs.checksums, "{} at {n}", row.name);
+        assert_eq!(ours.checksums, plain.checksums, "{} at {n}", row.name);
+        // The first turn only warms up: memory, caches and the processor's clock.
+        if turn == 0 {
+            for side in [&mut ours, &mut theirs, &mut plain] {
+                *side = Side::UNTIMED;
+            }
+        }
+    }
+    let of = |side: Side| side.of_operation(row.round, rounds * n);
+    Times {
+        ours: of(ours),
+        theirs: of(theirs),
+        plain: of(plain),
+    }
+}

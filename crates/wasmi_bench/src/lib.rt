@@ -1,0 +1,59 @@
+//! The work that the bench times, as a static library: each export does one row on a container of `n` items.
+//!
+//! An export does its row `rounds` times and returns a checksum, which the driver in `bench/` computes too. It
+//! returns 0 where memory ran out, and the driver then stops. A row that reads fills its container once, before
+//! the first round, so with no rounds it costs the filling alone.
+#![tactic(auto)]
+
+mod arena_rows;
+mod vec_rows;
+
+use std::alloc::Global;
+
+/// Pushes `n` items into an empty vector and drops it.
+#[unsafe(no_mangle)]
+pub extern "C" fn wasmi_bench_vec_push(alloc: Global, n: u64, rounds: u64) -> u64 {
+    vec_rows::push(alloc, n, rounds).unwrap_or(0)
+}
+
+/// Reads `n` items of a vector by their indices, which jump about.
+#[unsafe(no_mangle)]
+pub extern "C" fn wasmi_bench_vec_get(alloc: Global, n: u64, rounds: u64) -> u64 {
+    vec_rows::get(alloc, n, rounds).unwrap_or(0)
+}
+
+/// Walks over the items of a vector.
+#[unsafe(no_mangle)]
+pub extern "C" fn wasmi_bench_vec_iter(alloc: Global, n: u64, rounds: u64) -> u64 {
+    vec_rows::iter(alloc, n, rounds).unwrap_or(0)
+}
+
+/// How many slots a vector of `n` items has.
+#[unsafe(no_mangle)]
+pub extern "C" fn wasmi_bench_vec_slots(alloc: Global, n: u64) -> u64 {
+    vec_rows::slots(alloc, n).unwrap_or(0)
+}
+
+/// How many bytes the vector itself takes, without its buckets.
+#[unsafe(no_mangle)]
+pub extern "C" fn wasmi_bench_vec_size() -> u64 {
+    vec_rows::size()
+}
+
+/// Puts `n` items into an empty arena and drops it.
+#[unsafe(no_mangle)]
+pub extern "C" fn wasmi_bench_arena_alloc(alloc: Global, n: u64, rounds: u64) -> u64 {
+    arena_rows::alloc::<usize>(alloc, n, rounds).unwrap_or(0)
+}
+
+/// Walks over the keys and items of an arena with keys of 64 bits.
+#[unsafe(no_mangle)]
+pub extern "C" fn wasmi_bench_arena_iter_usize(alloc: Global, n: u64, rounds: u64) -> u64 {
+    arena_rows::iter::<usize>(alloc, n, rounds).unwrap_or(0)
+}
+
+/// Walks over the keys and items of an arena with keys of 32 bits.
+#[unsafe(no_mangle)]
+pub extern "C" fn wasmi_bench_arena_iter_u32(alloc: Global, n: u64, rounds: u64) -> u64 {
+    arena_rows::iter::<u32>(alloc, n, rounds).unwrap_or(0)
+}
