@@ -1,5 +1,5 @@
 -- What the fields of a stable vector tell, once they agree.
-use Rattle.std.proofs.Common.{◌≡◌, ℕ, ◌+◌, ◌-◌, ◌*◌, ◌^◌, ◌<◌, ◌≤◌, List, [], ◌∷◌, ◌++◌, length, take, drop, get_or, set, Option, Some, None, cond, refl, sym, ◌∙◌, ap, inl, inr, arith, lit<, length-append, length-drop, slice_get, IsSomeAnd}
+use Rattle.std.proofs.Common.{◌≡◌, ◌≢◌, ℕ, ◌+◌, ◌-◌, ◌*◌, ◌^◌, ◌<◌, ◌≤◌, List, [], ◌∷◌, ◌++◌, length, take, drop, get_or, set, Option, Some, None, cond, refl, sym, ◌∙◌, ap, subst, inl, inr, arith, lit<, length-append, length-drop, slice_get, IsSome, IsSomeAnd}
 use Rattle.std.proofs.lemmas.Bool.{cases_lt, lt-ltb, le-ltb}
 use Rattle.std.proofs.Math.ListN.{length-set, drop_of_length-le}
 use Rattle.std.proofs.lemmas.List.{get_or_default, take_all, length-take, get_or-take, get_or-drop}
@@ -8,7 +8,7 @@ use Rattle.wasmi_arena.specs.Geometry.{size, start, max_len, IsPlace, IsFewest, 
 use Rattle.wasmi_arena.specs.Bucket.{Bucket}
 use Rattle.wasmi_arena.specs.StableVec.{bucket_at}
 use Rattle.wasmi_arena.specs.Table.{items_of, items_in, bucket_with, with_item, bucket_from, IsTable, AreFilled, IsLaidOut, IsAhead}
-use Rattle.wasmi_arena.proofs.Geometry.{start-size, size-suc, start_mono, start_below, fewest_is, fewest_is_least, fewest_of_none, fewest_of_place, below_of_start}
+use Rattle.wasmi_arena.proofs.Geometry.{start-size, size-suc, start_mono, start_below, fewest_is, fewest_is_least, fewest_of_none, fewest_of_place, below_of_start, place-next}
 use Rattle.wasmi_arena.proofs.Table.{get_or-IsTable, items_of-IsTable, IsTable-set, IsTable-write, IsTable-take, AreFilled-take, IsTable-none}
 
 module _ {T : Type 0} where
@@ -37,7 +37,7 @@ module _ {T : Type 0} where
       let same = get_or-take n (drop m (x ∷ xs)) s x slot ∙ (get_or-drop m (x ∷ xs) s x ∙ ap (λ k. get_or (x ∷ xs) k x) at) in
       slice_get-get_or (take n (drop m (x ∷ xs))) s x there ∙ (ap Some same ∙ sym (slice_get-get_or (x ∷ xs) i x below))
 
-  module _ (buckets : List (Option (Bucket T))) (open_buckets len : ℕ) (v : IsLaidOut buckets open_buckets len) where
+  module _ (buckets : List (Option (Bucket T))) (open_buckets slots len : ℕ) (v : IsLaidOut buckets open_buckets slots len) where
     -- the open buckets are the fewest
     IsFewest-len : IsFewest len (fewest len)
     IsFewest-len = fewest_is_least len v.few_items
@@ -87,9 +87,8 @@ module _ {T : Type 0} where
     pub length-le_slots : length (items_of buckets) ≤ start (fewest len)
     length-le_slots = rw (← v.items_counted) IsFewest-len.enough
 
-    -- where the last bucket is full, no slot is free
-    pub room-full : max_len ≤ len → room (length (items_of buckets)) ≡ 0
-    room-full full = omega (arith, v.items_counted, ap start fewest-len, start_mono (fewest len) 27 fewest-le_27)
+    pub slots-le_max : slots ≤ max_len
+    slots-le_max = rw v.slots_counted (start_mono open_buckets 27 open-le_27)
 
     -- the open buckets
     IsTable-open : IsTable 32 (items_of buckets) (take (fewest len) buckets)
@@ -141,13 +140,14 @@ module _ {T : Type 0} where
       pub items_of-written : (item : T) → items_of (set buckets b (with_item (get_or buckets b None) s item)) ≡ set (items_of buckets) i item
       items_of-written item = items_of-IsTable 32 (set (items_of buckets) i item) (set buckets b (with_item (get_or buckets b None) s item)) (IsTable-written item)
 
-      pub IsLaidOut-written : (item : T) → IsLaidOut (set buckets b (with_item (get_or buckets b None) s item)) open_buckets len
+      pub IsLaidOut-written : (item : T) → IsLaidOut (set buckets b (with_item (get_or buckets b None) s item)) open_buckets slots len
       IsLaidOut-written item = record {
         buckets_counted = length-set buckets b (with_item (get_or buckets b None) s item) ∙ v.buckets_counted;
         table = rw (items_of-written item) (IsTable-written item);
         items_counted = rw (items_of-written item) (v.items_counted ∙ sym (length-set (items_of buckets) i item));
         few_items = v.few_items;
         fewest_open = v.fewest_open;
+        slots_counted = v.slots_counted;
       }
 
       -- its bucket holds it in that slot
@@ -172,13 +172,14 @@ module _ {T : Type 0} where
       len-push : len + 1 ≤ max_len
       len-push = omega (arith, start_below b 27 place.bucket_exists, place.index_is, place.slot_exists)
 
-      pub IsLaidOut-push : (item : T) → IsLaidOut (set buckets b (bucket_with (size b) (get_or buckets b None) item)) (b + 1) (len + 1)
+      pub IsLaidOut-push : (item : T) → IsLaidOut (set buckets b (bucket_with (size b) (get_or buckets b None) item)) (b + 1) (start (b + 1)) (len + 1)
       IsLaidOut-push item = record {
         buckets_counted = length-set buckets b (bucket_with (size b) (get_or buckets b None) item) ∙ v.buckets_counted;
         table = rw (items_of-push item) (IsTable-push item);
         items_counted = rw (items_of-push item) (omega (arith, length-append (items_of buckets) (item ∷ []), v.items_counted));
         few_items = len-push;
         fewest_open = sym (fewest_is len-push (fewest_of_place place));
+        slots_counted = refl;
       }
 
       -- its slot is the first free one of its bucket
@@ -190,20 +191,44 @@ module _ {T : Type 0} where
       pub open_size : (bucket : Bucket T) → get_or buckets b None ≡ Some bucket → bucket.capacity ≡ size b
       open_size bucket is = bucket_from-capacity (size b) (drop (start b) (items_of buckets)) bucket (sym (get_or-buckets b place.bucket_exists) ∙ is)
 
-      -- where it isn't open, no slot is free
-      pub room-shut : get_or buckets b None ≡ None → room (length (items_of buckets)) ≡ 0
-      room-shut shut = elim (cases_lt (start b) len) [
-        | inl early ↦ absurd (let full = get_or-open b place.bucket_exists early in let none = sym shut ∙ full in cc)
-        | inr late ↦ let few = IsFewest-len.least b late in
-            omega (arith, IsFewest-len.enough, start_mono (fewest len) b few, ap start fewest-len, v.items_counted, place.index_is)
+      -- among the open buckets, it is open
+      pub place-open : b < open_buckets → IsSome (get_or buckets b None)
+      place-open among = elim (cases_lt (start b) len) [
+        | inl early ↦ rw (get_or-open b place.bucket_exists early) refl
+        | inr late ↦ absurd (let few = IsFewest-len.least b late in let is = v.fewest_open in omega arith)
       ]
 
+    -- no slot of the open buckets is free
+    module _ (full : slots ≤ len) where
+      pub room-full : room (length (items_of buckets)) ≡ 0
+      room-full = omega (arith, v.items_counted, v.slots_counted, ap start open-fewest)
+
+      -- so the next item goes to the first slot of the next bucket
+      module _ (other : len ≢ max_len) where
+        below : len < max_len
+        below = let few = v.few_items in omega arith
+
+        pub place-full : IsPlace len open_buckets 0
+        place-full = place-next len open_buckets v.few_items v.fewest_open below (rw (← v.slots_counted) full)
+
+        -- which isn't open
+        pub get_or-full : get_or buckets open_buckets None ≡ None
+        get_or-full = get_or-buckets open_buckets place-full.bucket_exists
+            ∙ ap (bucket_from (size open_buckets)) (drop_of_length-le (items_of buckets) {i = start open_buckets} (rw v.fewest_open length-le_slots))
+
+        -- and is opened for it
+        pub items_of-open_next : (item : T) → items_of (set buckets open_buckets (bucket_with (size open_buckets) None item)) ≡ items_of buckets ++ item ∷ []
+        items_of-open_next item = subst (λ (b : Option (Bucket T)). items_of (set buckets open_buckets (bucket_with (size open_buckets) b item)) ≡ items_of buckets ++ item ∷ []) get_or-full (items_of-push open_buckets 0 place-full item)
+
+        pub IsLaidOut-open_next : (item : T) → IsLaidOut (set buckets open_buckets (bucket_with (size open_buckets) None item)) (open_buckets + 1) (start (open_buckets + 1)) (len + 1)
+        IsLaidOut-open_next item = subst (λ (b : Option (Bucket T)). IsLaidOut (set buckets open_buckets (bucket_with (size open_buckets) b item)) (open_buckets + 1) (start (open_buckets + 1)) (len + 1)) get_or-full (IsLaidOut-push open_buckets 0 place-full item)
+
   -- where no bucket is open, there is no item
-  pub IsLaidOut-none : (buckets : List (Option (Bucket T))) → length buckets ≡ 27 → ((b : ℕ) → b < length buckets → get_or buckets b None ≡ None) → IsLaidOut buckets 0 0 × (items_of buckets ≡ [])
+  pub IsLaidOut-none : (buckets : List (Option (Bucket T))) → length buckets ≡ 27 → ((b : ℕ) → b < length buckets → get_or buckets b None ≡ None) → IsLaidOut buckets 0 0 0 × (items_of buckets ≡ [])
   IsLaidOut-none buckets counted empty =
       let table = IsTable-none 32 buckets empty in
       let none = items_of-IsTable 32 [] buckets table in
-      (record { buckets_counted = counted; table = rw none table; items_counted = sym (ap length none); few_items = omega arith; fewest_open = sym (fewest_is (omega arith) fewest_of_none) }, none)
+      (record { buckets_counted = counted; table = rw none table; items_counted = sym (ap length none); few_items = omega arith; fewest_open = sym (fewest_is (omega arith) fewest_of_none); slots_counted = refl }, none)
 
   -- an item lies in the slot of its index
   pub slice_get-bucket_at : (items : List T) (i b s : ℕ) → length items ≤ max_len → i < length items → IsPlace i b s → IsSomeAnd (bucket_at items b) (λ bucket. slice_get bucket.items s ≡ slice_get items i)

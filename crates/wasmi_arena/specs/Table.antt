@@ -1,7 +1,7 @@
 -- How a stable vector lays out its items: in a table of buckets, each open or not. No public clause
 -- cites this module.
 use Rattle.std.specs.Prelude.{◌≡◌, ℕ, ◌+◌, ◌*◌, ◌<◌, ◌≤◌, List, [], ◌∷◌, ◌++◌, length, take, drop, slice_set, Option, Some, None}
-use Rattle.wasmi_arena.specs.Geometry.{max_len, fewest}
+use Rattle.wasmi_arena.specs.Geometry.{start, max_len, fewest}
 use Rattle.wasmi_arena.specs.Bucket.{Bucket}
 
 module _ {T : Type 0} where
@@ -46,12 +46,13 @@ module _ {T : Type 0} where
   AreFilled (Some bucket ∷ buckets) = (0 < length bucket.items) × AreFilled buckets
 
   -- the fields of a stable vector agree
-  pub record IsLaidOut (buckets : List (Option (Bucket T))) (open_buckets len : ℕ) : Type 0 where
+  pub record IsLaidOut (buckets : List (Option (Bucket T))) (open_buckets slots len : ℕ) : Type 0 where
     pub buckets_counted : length buckets ≡ 27
     pub table : IsTable 32 (items_of buckets) buckets
     pub items_counted : len ≡ length (items_of buckets)
     pub few_items : len ≤ max_len
     pub fewest_open : open_buckets ≡ fewest len
+    pub slots_counted : slots ≡ start open_buckets
 
   -- an iterator has these items of one bucket left, and then these buckets, which hold `behind` more
   pub record IsAhead (front : List T) (buckets : List (Option (Bucket T))) (behind : ℕ)

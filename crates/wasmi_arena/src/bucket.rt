@@ -66,6 +66,7 @@ impl<T, A: Allocator> Bucket<T, A> {
     }
 
     // Fills the first free slot, which is `slot`. Constant time, no allocation.
+    #[inline]
     pub(crate) fn fill(&mut self, slot: usize, item: T)
         requires slot { slot ≡ length self.old.items }
         requires free { length self.old.items < self.old.capacity }

@@ -68,6 +68,7 @@ impl<Key: ArenaKey, T, A: Allocator> StableArena<Key, T, A> {
 
     /// The key that the next [`alloc`](StableArena::alloc) gives its item, or `NotEnoughKeys` if that
     /// fails with it. Constant time, and takes no memory.
+    #[inline]
     pub fn next_key(&self) -> Result<Key, ArenaError>
         ensures key { IfOk result (λ key. key ≡ Key.keys.key (length self.now)) }
         ensures has_key { OnOk result (length self.now < stable_limit Key.keys) }
@@ -88,6 +89,7 @@ impl<Key: ArenaKey, T, A: Allocator> StableArena<Key, T, A> {
     /// `OutOfSystemMemory` if a bucket must be opened, which is only where
     /// [`room`](StableArena::room) is 0, and there is no memory for it. After an error the arena is as
     /// before, and the item is dropped. Constant time, but for the opening of a bucket.
+    #[inline]
     pub fn alloc(&mut self, item: T) -> Result<Key, ArenaError>
     where
         T: Drop,

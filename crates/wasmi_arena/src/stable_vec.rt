@@ -1,5 +1,5 @@
 //! A vector whose items stay in the slots that they were pushed into.
-ghost use Rattle.std.specs.Prelude.{◌≡◌, ◌+◌, ◌<◌, ◌≤◌, ◌==◌, ◌↔◌, [], ◌∷◌, ◌++◌, length, IfOk, IfErr, OnOk, OnErr, IsOk, IsOkUnless, IsErrOf, ◌⊎◌, option_copied, slice_get, slice_index_or, slice_set, Some, None};
+ghost use Rattle.std.specs.Prelude.{◌≡◌, ◌+◌, ◌<◌, ◌≤◌, ◌==◌, ◌↔◌, [], ◌∷◌, ◌++◌, length, IfOk, IfErr, OnOk, OnErr, IsOk, IsSome, IsOkUnless, IsErrOf, ◌⊎◌, option_copied, slice_get, slice_index_or, slice_set, Some, None};
 ghost use Rattle.std.specs.Borrow.{sem};
 ghost use Rattle.std.specs.Mem.{type_size};
 ghost use Rattle.std.specs.Option.{ForSome, option_copied_mut};
@@ -32,6 +32,8 @@ pub const MAX_LEN: usize = 4_294_967_264;
 pub struct StableVec<T, A: Allocator = Global> {
     table: BucketTable<T, A, BUCKETS>,
     open_buckets: usize,
+    // How many slots these have.
+    slots: usize,
     len: usize,
     alloc: A,
 }
@@ -45,10 +47,11 @@ impl<T, A: Allocator> Model for StableVec<T, A> {
 
     ghost view = { λ vec. items_of vec.table.buckets };
 
-    ghost invariant = { λ vec. IsLaidOut vec.table.buckets vec.open_buckets vec.len };
+    ghost invariant = { λ vec. IsLaidOut vec.table.buckets vec.open_buckets vec.slots vec.len };
 }
 
 // The first index of a bucket.
+#[inline]
 fn start_of(bucket: usize) -> usize
     requires { bucket ≤ 27 }
     ensures { result ≡ start bucket }
@@ -56,50 +59,63 @@ fn start_of(bucket: usize) -> usize
     (32 << bucket) - 32
 }
 
-// The place of the next item, where the fewest buckets for `len` items are open.
-fn next_place(len: usize, open_buckets: usize) -> (usize, usize)
+// The place of the next item, which is in the last open bucket where that has a free slot.
+#[inline]
+fn place_in_last(len: usize, open_buckets: usize, slots: usize) -> (usize, usize)
     requires below { len < max_len }
     requires open { open_buckets ≡ fewest len }
-    ensures { IsPlace len result.0 result.1 }
+    requires slots { slots ≡ start open_buckets }
+    requires free { len < slots }
+    ensures place { IsPlace len result.0 result.1 }
+    ensures last { result.0 + 1 ≡ open_buckets }
 {
-    if len < start_of(open_buckets) {
-        (open_buckets - 1, len - start_of(open_buckets - 1))
-    } else {
-        (open_buckets, 0)
-    }
+    // The last bucket has as many slots as those before it, and 32 more.
+    (open_buckets - 1, len - (slots - 32) / 2)
 }
 
-// Puts `value` into a place, which is the first free slot of its bucket. The bucket is opened if need be.
-fn push_into<T: Drop, A: Allocator + Clone>(
+// Puts `value` into a place, which is the first free slot of an open bucket.
+#[inline]
+fn fill_at<T, A: Allocator>(
     buckets: &mut [Option<Bucket<T, A>>],
     place: (usize, usize),
-    alloc: &A,
     value: T,
-) -> Result<(), ArenaError>
+)
     requires in_table { place.0 < length buckets.old }
-    requires exists { place.0 < 27 }
+    requires open { IsSome (slice_index_or buckets.old place.0 None) }
     requires slot { place.1 ≡ length (items_in (slice_index_or buckets.old place.0 None)) }
     requires free { place.1 < size place.0 }
     requires capacity { ForSome (slice_index_or buckets.old place.0 None)
         (λ b. b.capacity ≡ size place.0) }
-    ensures ok { OnOk result (buckets.new ≡ slice_set buckets.old place.0
-        (bucket_with (size place.0) (slice_index_or buckets.old place.0 None) value)) }
+    ensures { buckets.new ≡ slice_set buckets.old place.0
+        (bucket_with (size place.0) (slice_index_or buckets.old place.0 None) value) }
+{
+    match &mut buckets[place.0] {
+        Some(open) => open.fill(place.1, value),
+        None => unreachable!(),
+    }
+}
+
+// Opens a bucket, and puts `value` into its first slot.
+#[cold]
+#[inline(never)]
+fn open_with<T: Drop, A: Allocator + Clone>(
+    buckets: &mut [Option<Bucket<T, A>>],
+    bucket: usize,
+    alloc: &A,
+    value: T,
+) -> Result<(), ArenaError>
+    requires in_table { bucket < length buckets.old }
+    requires exists { bucket < 27 }
+    ensures ok { OnOk result (buckets.new ≡ slice_set buckets.old bucket
+        (bucket_with (size bucket) None value)) }
     ensures errors { IsOkUnless result ArenaError.OutOfSystemMemory }
     ensures err { OnErr result (buckets.new ≡ buckets.old) }
-    ensures shut { OnErr result (slice_index_or buckets.old place.0 None ≡ None) }
     ensures without_size { type_size T.row ≡ 0 → A.is_infallible alloc.now → IsOk result }
 {
-    let (bucket, slot) = place;
-    let target = &mut buckets[bucket];
-    match target {
-        Some(open) => open.fill(slot, value),
-        None => {
-            let capacity = StableVec::<T>::size_of_bucket_at(bucket);
-            let mut opened = Bucket::open(alloc.clone()?, capacity)?;
-            opened.fill(slot, value);
-            *target = Some(opened);
-        }
-    }
+    let capacity = StableVec::<T>::size_of_bucket_at(bucket);
+    let mut opened = Bucket::open(alloc.clone()?, capacity)?;
+    opened.fill(0, value);
+    buckets[bucket] = Some(opened);
     Ok(())
 }
 
@@ -150,6 +166,7 @@ impl<T, A: Allocator> StableVec<T, A> {
                 buckets: array::from_fn(|_| None),
             },
             open_buckets: 0,
+            slots: 0,
             len: 0,
             alloc,
         }
@@ -182,7 +199,7 @@ impl<T, A: Allocator> StableVec<T, A> {
         ensures value { result ≡ slots (length self.now) }
         ensures enough { length self.now ≤ result }
     {
-        start_of(self.open_buckets)
+        self.slots
     }
 
     /// How many items can be pushed before a bucket must be opened. Constant time.
@@ -261,6 +278,7 @@ impl<T, A: Allocator> StableVec<T, A> {
     /// `NotEnoughKeys` if the vector is full, and then with `OutOfSystemMemory` if a bucket must be
     /// opened and there is no memory for it. After an error the vector is as before, and the item is
     /// dropped. Constant time, but for the opening.
+    #[inline]
     pub fn push(&mut self, value: T) -> Result<usize, ArenaError>
     where
         T: Drop,
@@ -277,12 +295,18 @@ impl<T, A: Allocator> StableVec<T, A> {
         ensures err { OnErr result (self.new ≡ self.old) }
     {
         let index = self.len;
+        if index < self.slots {
+            let place = place_in_last(index, self.open_buckets, self.slots);
+            fill_at(&mut self.table.buckets[..], place, value);
+            self.len = index + 1;
+            return Ok(index);
+        }
         if index == MAX_LEN {
             return Err(ArenaError::NotEnoughKeys);
         }
-        let place = next_place(index, self.open_buckets);
-        push_into(&mut self.table.buckets[..], place, &self.alloc, value)?;
-        self.open_buckets = place.0 + 1;
+        open_with(&mut self.table.buckets[..], self.open_buckets, &self.alloc, value)?;
+        self.open_buckets += 1;
+        self.slots = start_of(self.open_buckets);
         self.len = index + 1;
         Ok(index)
     }
