@@ -1,5 +1,5 @@
 -- What the fields of a stable vector tell, once they agree.
-use Rattle.std.proofs.Common.{◌≡◌, ◌≢◌, ℕ, ◌+◌, ◌-◌, ◌*◌, ◌^◌, ◌<◌, ◌≤◌, List, [], ◌∷◌, ◌++◌, length, take, drop, get_or, set, Option, Some, None, cond, refl, sym, ◌∙◌, ap, subst, inl, inr, arith, lit<, length-append, length-drop, slice_get, IsSome, IsSomeAnd}
+use Rattle.std.proofs.Common.{◌≡◌, ◌≢◌, ℕ, ◌+◌, ◌-◌, ◌*◌, ◌^◌, ◌<◌, ◌≤◌, List, [], ◌∷◌, ◌++◌, length, take, drop, get_or, set, Option, Some, None, cond, refl, sym, ◌∙◌, ap, subst, inl, inr, arith, lit<, length-append, append-nil, length-drop, slice_get, IsSome, IsSomeAnd}
 use Rattle.std.proofs.lemmas.Bool.{cases_lt, lt-ltb, le-ltb}
 use Rattle.std.proofs.Math.ListN.{length-set, drop_of_length-le}
 use Rattle.std.proofs.lemmas.List.{get_or_default, take_all, length-take, get_or-take, get_or-drop}
@@ -107,8 +107,11 @@ module _ {T : Type 0} where
         ])
 
     -- all items are ahead of an iterator that begins
-    pub all_ahead : (nothing : List T) → nothing ≡ [] → IsAhead nothing (take open_buckets buckets) len × (nothing ++ items_of (take open_buckets buckets) ≡ items_of buckets)
-    all_ahead nothing none = rw v.fewest_open (record { filled = AreFilled-open; counted = rw items_of-open v.items_counted; few = rw none (let few = v.few_items in omega arith) }, rw none items_of-open)
+    pub all_ahead : (front back : List T) → front ≡ [] → back ≡ [] → IsAhead front (take open_buckets buckets) back len × (front ++ items_of (take open_buckets buckets) ++ back ≡ items_of buckets)
+    all_ahead front back no_front no_back = rw v.fewest_open (
+      record { filled = AreFilled-open; counted = rw items_of-open v.items_counted; few = rw (no_front, no_back) (let few = v.few_items in omega arith) },
+      rw (no_front, no_back) (append-nil (items_of (take (fewest len) buckets)) ∙ items_of-open),
+    )
 
     -- what is read at the bucket of an index
     module _ (i b s : ℕ) (place : IsPlace i b s) (below : i < len) (found : Option (Bucket T)) (read : found ≡ get_or buckets b found) where

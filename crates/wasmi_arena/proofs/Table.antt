@@ -1,12 +1,16 @@
 -- Facts on the table in which a stable vector lays out its items.
-use Rattle.std.proofs.Common.{◌≡◌, ℕ, zero, suc, ◌+◌, ◌-◌, ◌*◌, ◌^◌, ◌<◌, ◌≤◌, List, [], ◌∷◌, ◌++◌, length, take, drop, get_or, set, Option, Some, None, refl, sym, ◌∙◌, ap, subst, arith, length-append, length-drop}
+use Rattle.std.proofs.Common.{◌≡◌, ℕ, zero, suc, ◌+◌, ◌-◌, ◌*◌, ◌^◌, ◌<◌, ◌≤◌, List, [], ◌∷◌, ◌++◌, length, take, drop, get_or, set, Option, Some, None, refl, sym, ◌∙◌, ap, subst, arith, length-append, append-nil, append_assoc, length-drop}
 use Rattle.std.proofs.Math.Nat.{pow-succ', mul-le-mul_left}
 use Rattle.std.proofs.Math.ListN.{drop_of_length-le}
 use Rattle.std.proofs.Math.Seq.{drop-nil, take-set-lt}
 use Rattle.std.proofs.lemmas.Nat.{pow_pos}
 use Rattle.std.proofs.lemmas.List.{nil_from_length, take_all, take-append-drop, take-append-le, drop-append-le, drop-drop, length-take, length-set, take-set-le, drop-set-lt, drop-set-add}
+use Rattle.std.specs.Iterator.{YieldsLastRef, MakesProgress, item_count}
+use Rattle.std.specs.Borrow.{Bor}
+use Rattle.std.specs.Slice.Iter.{iter_rest, iter_steps_back}
+use Rattle.std.specs.declared.slice.Iter.{Iter}
 use Rattle.wasmi_arena.specs.Bucket.{Bucket}
-use Rattle.wasmi_arena.specs.Table.{items_of, bucket_with, with_item, bucket_from, IsTable, AreFilled}
+use Rattle.wasmi_arena.specs.Table.{items_of, bucket_with, with_item, bucket_from, IsTable, AreFilled, IsAhead}
 
 -- twice the width before is the width after
 mul-pow_suc : (width b : ℕ) → width * 2 ^ suc b ≡ 2 * width * 2 ^ b
@@ -127,3 +131,59 @@ module _ {T : Type 0} where
       let rest = AreFilled-take (2 * width) b (drop width items) buckets (omega arith) table.1 (omega arith)
       (λ c below. let next = early (suc c) (omega arith) in omega (arith, mul-pow_suc width c, length-drop width items)) in
       subst (λ (r : Option (Bucket T)). AreFilled (r ∷ take b buckets)) (sym table.0) (AreFilled-bucket_from width items (take b buckets) pos (omega arith) rest)
+
+  -- the items of the last bucket come last
+  pub items_of_last : (buckets : List (Option (Bucket T))) (bucket : Bucket T) → items_of (buckets ++ Some bucket ∷ []) ≡ items_of buckets ++ bucket.items
+  items_of_last [] bucket = append-nil bucket.items
+  items_of_last (None ∷ buckets) bucket = items_of_last buckets bucket
+  items_of_last (Some first ∷ buckets) bucket = ap (λ (xs : List T). first.items ++ xs) (items_of_last buckets bucket) ∙ sym (append_assoc first.items (items_of buckets) bucket.items)
+
+  -- the last bucket is open and has an item, and so have the others
+  pub filled_last_open : (buckets : List (Option (Bucket T))) → AreFilled (buckets ++ None ∷ []) → ⊥
+  filled_last_open [] filled = filled
+  filled_last_open (None ∷ buckets) filled = filled
+  filled_last_open (Some first ∷ buckets) filled = filled_last_open buckets filled.1
+
+  pub filled_last : (buckets : List (Option (Bucket T))) (bucket : Bucket T) → AreFilled (buckets ++ Some bucket ∷ []) → (0 < length bucket.items) × AreFilled buckets
+  filled_last [] bucket filled = (filled.0, tt)
+  filled_last (None ∷ buckets) bucket filled = absurd filled
+  filled_last (Some first ∷ buckets) bucket filled = let rest = filled_last buckets bucket filled.1 in (rest.0, (filled.0, rest.1))
+
+  -- what is ahead of an iterator, where nothing is left of the last bucket and the one before it is entered
+  module _ (front back : List T) (buckets rest : List (Option (Bucket T))) (found : Option (Bucket T)) (bucket : Bucket T) (between : ℕ) (it : IsAhead front buckets back between) (last : buckets ≡ rest ++ found ∷ []) (is : Some bucket ≡ found) where
+    opened : buckets ≡ rest ++ Some bucket ∷ []
+    opened = last ∙ ap (λ (b : Option (Bucket T)). rest ++ b ∷ []) (sym is)
+
+    pub last_filled : (0 < length bucket.items) × AreFilled rest
+    last_filled = filled_last rest bucket (rw (← opened) it.filled)
+
+    pub last_counted : between ≡ length (items_of rest) + length bucket.items
+    last_counted = it.counted ∙ (ap (λ (bs : List (Option (Bucket T))). length (items_of bs)) opened ∙ (ap length (items_of_last rest bucket) ∙ length-append (items_of rest) bucket.items))
+
+    pub last_ahead : (left : List T) (count : ℕ) → count ≡ length bucket.items → length left ≤ count → IsAhead front rest left (between - count)
+    last_ahead left count counted few = let c = last_counted in let most = it.few in record { filled = last_filled.1; counted = omega arith; few = omega arith }
+
+    pub last_items : length back ≡ 0 → (left : List T) (x : T) → bucket.items ≡ left ++ x ∷ [] → front ++ items_of buckets ++ back ≡ front ++ items_of rest ++ left ++ x ∷ []
+    last_items none left x are =
+        rw (nil_from_length back none, append-nil (front ++ items_of buckets)) (ap (λ (bs : List (Option (Bucket T))). front ++ items_of bs) opened
+        ∙ (ap (λ (xs : List T). front ++ xs) (items_of_last rest bucket ∙ ap (λ (xs : List T). items_of rest ++ xs) are)
+        ∙ (sym (append_assoc front (items_of rest) (left ++ x ∷ [])) ∙ sym (append_assoc (front ++ items_of rest) left (x ∷ [])))))
+
+    -- the bucket is entered and called from the back
+    module _ (s t : Iter T) (r : Option (Bor T)) (whole : iter_rest s ≡ bucket.items) (steps : iter_steps_back s r t) where
+      yields_by : (r : Option (Bor T)) → iter_steps_back s r t → length back ≡ 0 → YieldsLastRef (λ (xs : List T). xs) (front ++ items_of buckets ++ back) r (front ++ items_of rest ++ iter_rest t)
+      yields_by None ended none = absurd (let some = last_filled.0 in let short = ended.0 in omega (arith, ap length whole))
+      yields_by (Some x) at none = last_items none (iter_rest t) x.now (sym whole ∙ at)
+
+      pub last_yields : length back ≡ 0 → YieldsLastRef (λ (xs : List T). xs) (front ++ items_of buckets ++ back) r (front ++ items_of rest ++ iter_rest t)
+      last_yields none = yields_by r steps none
+
+  -- a call from the back leaves no more than there was
+  pub length-steps_back : (s t : Iter T) (r : Option (Bor T)) → iter_steps_back s r t → length (iter_rest t) ≤ length (iter_rest s)
+  length-steps_back s t None ended = omega (arith, ap (λ (u : Iter T). length (iter_rest u)) ended.1)
+  length-steps_back s t (Some x) at = omega (arith, ap length at, length-append (iter_rest t) (x.now ∷ []))
+
+  -- a call that yields the last item brings the end nearer
+  pub progress-yields_last : (can : List T → Type 0) → ((xs : List T) → can xs) → (old new : List T) (r : Option (Bor T)) → YieldsLastRef (λ (xs : List T). xs) old r new → MakesProgress can (item_count (λ (xs : List T). xs)) old r new
+  progress-yields_last can all old new None ended = record { on = λ _. tt; keeps = tt; rests = λ _. tt }
+  progress-yields_last can all old new (Some x) at = record { on = λ _. (all new, tt, omega (arith, ap length at, length-append new (x.now ∷ []))); keeps = all new; rests = λ _. tt }

@@ -54,9 +54,10 @@ module _ {T : Type 0} where
     pub fewest_open : open_buckets ≡ fewest len
     pub slots_counted : slots ≡ start open_buckets
 
-  -- an iterator has these items of one bucket left, and then these buckets, which hold `behind` more
-  pub record IsAhead (front : List T) (buckets : List (Option (Bucket T))) (behind : ℕ)
-      : Type 0 where
+  -- an iterator has these items of a first bucket left, then these buckets, which hold `between`, and
+  -- then these items of a last bucket
+  pub record IsAhead (front : List T) (buckets : List (Option (Bucket T))) (back : List T)
+      (between : ℕ) : Type 0 where
     pub filled : AreFilled buckets
-    pub counted : behind ≡ length (items_of buckets)
-    pub few : length front + behind ≤ max_len
+    pub counted : between ≡ length (items_of buckets)
+    pub few : length front + between + length back ≤ max_len

@@ -126,6 +126,38 @@ fn writes_through_references(rt: HostRuntime) -> Result<(), Fail> {
 }
 
 #[test]
+fn walks_from_both_ends(rt: HostRuntime) -> Result<(), Fail> {
+    let vec = counted(rt.alloc(), 200)?;
+    let mut items = vec.iter();
+    for (front, back) in [(0, 199), (1, 198)] {
+        assert_eq!(rt; items.next(), Some(&front));
+        assert_eq!(rt; items.next_back(), Some(&back));
+    }
+    assert_eq!(rt; items.len(), 196);
+    assert_eq!(rt; items.next_back(), Some(&197));
+    let mut backward = vec.iter().rev();
+    for wanted in 0..200u32 {
+        assert_eq!(rt; backward.next(), Some(&(199 - wanted)));
+    }
+    assert_eq!(rt; backward.next(), None);
+    // One end comes to the last item of the other's bucket.
+    let few = counted(rt.alloc(), 3)?;
+    let mut ends = few.iter();
+    assert_eq!(rt; (ends.next_back(), ends.next()), (Some(&2), Some(&0)));
+    assert_eq!(rt; (ends.next(), ends.next_back()), (Some(&1), None));
+    let mut arena: StableArena<u32, u8> = StableArena::new(rt.alloc());
+    for item in 0..100 {
+        arena.alloc(item)?;
+    }
+    let mut entries = arena.iter();
+    assert_eq!(rt; entries.next_back(), Some((99, &99)));
+    assert_eq!(rt; entries.next(), Some((0, &0)));
+    assert_eq!(rt; entries.next_back(), Some((98, &98)));
+    assert_eq!(rt; entries.len(), 97);
+    Ok(())
+}
+
+#[test]
 fn items_without_size(rt: HostRuntime) -> Result<(), Fail> {
     let mut vec = StableVec::new(rt.alloc());
     for _ in 0..40 {

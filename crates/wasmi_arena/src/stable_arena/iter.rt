@@ -1,12 +1,13 @@
 //! The iterator over a stable arena.
 ghost use Rattle.std.specs.Prelude.{◌≡◌, length};
-ghost use Rattle.std.specs.Iterator.{YieldsFirstBy, item_count};
+ghost use Rattle.std.specs.Iterator.{YieldsFirstBy, YieldsLastBy, item_count};
 
 use crate::{ArenaKey, StableVecIter};
 use std::alloc::{Allocator, Global};
 use std::marker::{Model, PhantomData};
 
-/// The keys and items of a [`StableArena`](crate::StableArena) that are left to visit, in order.
+/// The keys and items of a [`StableArena`](crate::StableArena) that are left to visit, in order,
+/// from both ends.
 #[derive(Drop)]
 pub struct StableArenaIter<'a, Key: ArenaKey, T, A: Allocator = Global> {
     pub(super) items: StableVecIter<'a, T, A>,
@@ -52,6 +53,19 @@ impl<'a, Key: ArenaKey, T, A: Allocator> Iterator for StableArenaIter<'a, Key, T
                 self.next += 1;
                 Some((key, item))
             }
+            None => unreachable!(),
+        }
+    }
+}
+
+impl<'a, Key: ArenaKey, T, A: Allocator> DoubleEndedIterator for StableArenaIter<'a, Key, T, A> {
+    ghost next_back_gives = { YieldsLastBy (λ entry. (entry.0, entry.1.now)) (λ entries. entries) };
+
+    #[tactic(auto, using(crate::proofs::Entries::entries_from_last))]
+    fn next_back(&mut self) -> Option<(Key, &'a T)> {
+        let item = self.items.next_back()?;
+        match Key::from_usize(self.next + self.items.len()) {
+            Some(key) => Some((key, item)),
             None => unreachable!(),
         }
     }
