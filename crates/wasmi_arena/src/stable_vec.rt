@@ -75,11 +75,7 @@ fn place_in_last(len: usize, open_buckets: usize, slots: usize) -> (usize, usize
 
 // Puts `value` into a place, which is the first free slot of an open bucket.
 #[inline]
-fn fill_at<T, A: Allocator>(
-    buckets: &mut [Option<Bucket<T, A>>],
-    place: (usize, usize),
-    value: T,
-)
+fn fill_at<T, A: Allocator>(buckets: &mut [Option<Bucket<T, A>>], place: (usize, usize), value: T)
     requires in_table { place.0 < length buckets.old }
     requires open { IsSome (slice_index_or buckets.old place.0 None) }
     requires slot { place.1 ≡ length (items_in (slice_index_or buckets.old place.0 None)) }
@@ -304,7 +300,12 @@ impl<T, A: Allocator> StableVec<T, A> {
         if index == MAX_LEN {
             return Err(ArenaError::NotEnoughKeys);
         }
-        open_with(&mut self.table.buckets[..], self.open_buckets, &self.alloc, value)?;
+        open_with(
+            &mut self.table.buckets[..],
+            self.open_buckets,
+            &self.alloc,
+            value,
+        )?;
         self.open_buckets += 1;
         self.slots = start_of(self.open_buckets);
         self.len = index + 1;

@@ -1,5 +1,4 @@
-use Rattle.std.proofs.Common.{arith, ◌<◌}
-use Rattle.wasmi_arena.specs.Geometry.{max_len}
+use Rattle.std.proofs.Common.{arith}
 use Rattle.wasmi_arena.proofs.LaidOut.{first_free, open_size, place-open, open-le_27, slots-le_max, room-full, place-full, items_of-push, IsLaidOut-push, items_of-open_next, IsLaidOut-open_next}
 use Rattle.wasmi_arena.proofs.stable_vec.StableVec.push.Goals as goal
 
