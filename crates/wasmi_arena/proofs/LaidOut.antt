@@ -2,12 +2,14 @@
 use Rattle.std.proofs.Common.{◌≡◌, ◌≢◌, ℕ, ◌+◌, ◌-◌, ◌*◌, ◌^◌, ◌<◌, ◌≤◌, List, [], ◌∷◌, ◌++◌, length, take, drop, get_or, set, Option, Some, None, cond, refl, sym, ◌∙◌, ap, subst, inl, inr, arith, lit<, length-append, append-nil, length-drop, slice_get, IsSome, IsSomeAnd}
 use Rattle.std.proofs.lemmas.Bool.{cases_lt, lt-ltb, le-ltb}
 use Rattle.std.proofs.Math.ListN.{length-set, drop_of_length-le}
-use Rattle.std.proofs.lemmas.List.{get_or_default, take_all, length-take, get_or-take, get_or-drop}
-use Rattle.std.proofs.lemmas.Option.{slice_get-get_or}
+use Rattle.std.proofs.lemmas.List.{set_comm, get_or_default, take_all, length-take, get_or-take, get_or-drop}
+use Rattle.std.proofs.lemmas.Option.{slice_get-get_or, slice_get_cases, get_or_from_slice_get}
+use Rattle.std.proofs.lemmas.List.Edits.{swap_is}
+use Rattle.std.specs.List.{swap}
 use Rattle.wasmi_arena.specs.Geometry.{size, start, max_len, IsPlace, IsFewest, fewest, room}
 use Rattle.wasmi_arena.specs.Bucket.{Bucket}
 use Rattle.wasmi_arena.specs.StableVec.{bucket_at}
-use Rattle.wasmi_arena.specs.Table.{items_of, items_in, bucket_with, with_item, bucket_from, IsTable, AreFilled, IsLaidOut, IsAhead}
+use Rattle.wasmi_arena.specs.Table.{items_of, items_in, bucket_with, with_item, write, bucket_from, IsTable, AreFilled, IsLaidOut, IsAhead}
 use Rattle.wasmi_arena.proofs.Geometry.{start-size, size-suc, start_mono, start_below, fewest_is, fewest_is_least, fewest_of_none, fewest_of_place, below_of_start, place-next}
 use Rattle.wasmi_arena.proofs.Table.{get_or-IsTable, items_of-IsTable, IsTable-set, IsTable-write, IsTable-take, AreFilled-take, IsTable-none}
 
@@ -225,6 +227,50 @@ module _ {T : Type 0} where
 
         pub IsLaidOut-open_next : (item : T) → IsLaidOut (set buckets open_buckets (bucket_with (size open_buckets) None item)) (open_buckets + 1) (start (open_buckets + 1)) (len + 1)
         IsLaidOut-open_next item = subst (λ (b : Option (Bucket T)). IsLaidOut (set buckets open_buckets (bucket_with (size open_buckets) b item)) (open_buckets + 1) (start (open_buckets + 1)) (len + 1)) get_or-full (IsLaidOut-push open_buckets 0 place-full item)
+
+  -- which of two items is named first makes no difference to their exchange
+  pub swap-comm : (items : List T) (i j : ℕ) → i ≢ j → swap items i j ≡ swap items j i
+  swap-comm [] i j apart = refl
+  swap-comm (x ∷ xs) i j apart = set_comm (x ∷ xs) i j (get_or (x ∷ xs) j x) (get_or (x ∷ xs) i x) apart
+
+  -- the items at i and at j are exchanged, each in the other's slot
+  module _ (buckets : List (Option (Bucket T))) (open_buckets slots len : ℕ) (v : IsLaidOut buckets open_buckets slots len) (i b s : ℕ) (place-i : IsPlace i b s) (j d t : ℕ) (place-j : IsPlace j d t) (order : i < j) (below : j < len) where
+    -- the later one lies in no earlier bucket
+    pub bucket-order : b ≤ d
+    bucket-order = elim (cases_lt d b) [
+      | inl less ↦ absurd (omega (arith, start_below d b less, place-i.index_is, place-j.index_is, place-j.slot_exists, order))
+      | inr least ↦ least
+    ]
+
+    below-i : i < len
+    below-i = omega (arith, order)
+
+    there : (k : ℕ) → k < len → (x : T) × (slice_get (items_of buckets) k ≡ Some x)
+    there k inside = elim (slice_get_cases (items_of buckets) k).1 [
+      | inl some ↦ (some.0, some.2)
+      | inr past ↦ absurd (omega (arith, v.items_counted, past.0))
+    ]
+
+    module _ (x y : T) (at-i : slice_get (items_of buckets) i ≡ Some x) (at-j : slice_get (items_of buckets) j ≡ Some y) where
+      IsLaidOut-once : IsLaidOut (write buckets b s y) open_buckets slots len
+      IsLaidOut-once = IsLaidOut-written buckets open_buckets slots len v i b s place-i below-i y
+
+      IsLaidOut-twice : IsLaidOut (write (write buckets b s y) d t x) open_buckets slots len
+      IsLaidOut-twice = IsLaidOut-written (write buckets b s y) open_buckets slots len IsLaidOut-once j d t place-j below x
+
+      items_of-twice : items_of (write (write buckets b s y) d t x) ≡ swap (items_of buckets) i j
+      items_of-twice =
+          let items = items_of buckets in
+          items_of-written (write buckets b s y) open_buckets slots len IsLaidOut-once j d t place-j below x
+          ∙ rw (items_of-written buckets open_buckets slots len v i b s place-i below-i y, ← get_or_from_slice_get items i x x at-i, ← get_or_from_slice_get items j y x at-j)
+          (swap_is items i j x (omega (arith, v.items_counted, below-i)) (omega (arith, v.items_counted)))
+
+    pub IsLaidOut-swap : (table : List (Option (Bucket T))) → ((x y : T) → slice_get (items_in (get_or buckets b None)) s ≡ Some x → slice_get (items_in (get_or buckets d None)) t ≡ Some y → table ≡ write (write buckets b s y) d t x)
+        → IsLaidOut table open_buckets slots len × (items_of table ≡ swap (items_of buckets) i j)
+    IsLaidOut-swap table exchanged =
+        let x = there i below-i in let y = there j below in
+        let table_is = exchanged x.0 y.0 (slice_get-slot buckets open_buckets slots len v i b s place-i below-i ∙ x.1) (slice_get-slot buckets open_buckets slots len v j d t place-j below ∙ y.1) in
+        (rw table_is (IsLaidOut-twice x.0 y.0 x.1 y.1), rw table_is (items_of-twice x.0 y.0 x.1 y.1))
 
   -- where no bucket is open, there is no item
   pub IsLaidOut-none : (buckets : List (Option (Bucket T))) → length buckets ≡ 27 → ((b : ℕ) → b < length buckets → get_or buckets b None ≡ None) → IsLaidOut buckets 0 0 0 × (items_of buckets ≡ [])

@@ -4,13 +4,13 @@ use Rattle.std.proofs.Math.Nat.{pow-succ', mul-le-mul_left}
 use Rattle.std.proofs.Math.ListN.{drop_of_length-le}
 use Rattle.std.proofs.Math.Seq.{drop-nil, take-set-lt}
 use Rattle.std.proofs.lemmas.Nat.{pow_pos}
-use Rattle.std.proofs.lemmas.List.{nil_from_length, take_all, take-append-drop, take-append-le, drop-append-le, drop-drop, length-take, length-set, take-set-le, drop-set-lt, drop-set-add}
+use Rattle.std.proofs.lemmas.List.{nil_from_length, take_all, take-append-drop, take-append-le, drop-append-le, drop-drop, length-take, length-set, take-set-le, drop-set-lt, drop-set-add, get_or_append_left, get_or-append_right, get_or-set_same, set-append_left, set-append_right, set-set}
 use Rattle.std.specs.Iterator.{YieldsLastRef, MakesProgress, item_count}
 use Rattle.std.specs.Borrow.{Bor}
 use Rattle.std.specs.Slice.Iter.{iter_rest, iter_steps_back}
 use Rattle.std.specs.declared.slice.Iter.{Iter}
 use Rattle.wasmi_arena.specs.Bucket.{Bucket}
-use Rattle.wasmi_arena.specs.Table.{items_of, bucket_with, with_item, bucket_from, IsTable, AreFilled, IsAhead}
+use Rattle.wasmi_arena.specs.Table.{items_of, bucket_with, with_item, write, bucket_from, IsTable, AreFilled, IsAhead}
 
 -- twice the width before is the width after
 mul-pow_suc : (width b : ℕ) → width * 2 ^ suc b ≡ 2 * width * 2 ^ b
@@ -110,6 +110,21 @@ module _ {T : Type 0} where
         table.0 ∙ sym (bucket_from-set_high width i items item high (omega arith)),
         subst (λ (xs : List T). IsTable (2 * width) xs (set buckets b (with_item (get_or buckets b None) s item))) (sym (ap (λ n. drop width (set items n item)) apart ∙ drop-set-add width items (i - width) item)) rest,
       )
+
+  -- a write to one part of a table
+  pub write-append_left : (front back : List (Option (Bucket T))) (b s : ℕ) (item : T) → b < length front → write (front ++ back) b s item ≡ write front b s item ++ back
+  write-append_left front back b s item inside =
+      rw (get_or_append_left front back None b inside) (set-append_left front back b (with_item (get_or front b None) s item) inside)
+
+  pub write-append_right : (front back : List (Option (Bucket T))) (b s : ℕ) (item : T) → length front ≡ b → write (front ++ back) b s item ≡ front ++ write back 0 s item
+  write-append_right front back b s item at =
+      let first : b - b ≡ 0 = omega arith in
+      rw (get_or-append_right front back b b None at (omega arith), set-append_right front back b b (with_item (get_or back (b - b) None) s item) at (omega arith), first) refl
+
+  -- two writes to one bucket
+  pub write-write : (buckets : List (Option (Bucket T))) (b s t : ℕ) (x y : T) → b < length buckets → write (write buckets b s y) b t x ≡ set buckets b (with_item (with_item (get_or buckets b None) s y) t x)
+  write-write buckets b s t x y inside =
+      rw (get_or-set_same buckets b (with_item (get_or buckets b None) s y) None inside) (set-set buckets b (with_item (get_or buckets b None) s y) (with_item (with_item (get_or buckets b None) s y) t x))
 
   -- the buckets that are needed hold the items alone
   pub IsTable-take : (width b : ℕ) (items : List T) (buckets : List (Option (Bucket T))) → IsTable width items buckets → length items + width ≤ width * 2 ^ b → IsTable width items (take b buckets)

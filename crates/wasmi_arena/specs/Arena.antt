@@ -1,13 +1,14 @@
 -- The steps of an arena, and its runs: what each command may be replied to, and what it leaves.
-use Rattle.std.specs.Prelude.{◌≡◌, ℕ, ◌+◌, ◌<◌, ◌≤◌, ◌↔◌, List, [], ◌∷◌, ◌++◌, length, IsTrue, min}
+use Rattle.std.specs.Prelude.{◌≡◌, ◌≢◌, ℕ, ◌+◌, ◌<◌, ◌≤◌, ◌↔◌, ◌⊎◌, List, [], ◌∷◌, ◌++◌, length, slice_get, slice_set, Some, IsTrue, min}
+use Rattle.std.specs.List.{swap}
 use Rattle.wasmi_arena.specs.Keys.{Keys}
 use Rattle.wasmi_arena.specs.Geometry.{max_len, room}
 use Rattle.wasmi_arena.specs.declared.error.ArenaError.{ArenaError}
 use Rattle.wasmi_arena.specs.declared.error.ArenaError.TheVariants.{OutOfSystemMemory, KeyOutOfBounds, NotEnoughKeys, AliasingPairAccess}
 use Rattle.wasmi_arena.specs.declared.run.ArenaCommand.{ArenaCommand}
-use Rattle.wasmi_arena.specs.declared.run.ArenaCommand.TheVariants.{Alloc, Has}
+use Rattle.wasmi_arena.specs.declared.run.ArenaCommand.TheVariants.{Alloc, Has, Put, Swap}
 use Rattle.wasmi_arena.specs.declared.run.ArenaReply.{ArenaReply}
-use Rattle.wasmi_arena.specs.declared.run.ArenaReply.TheVariants.{Key, Has as HasReply, Refused}
+use Rattle.wasmi_arena.specs.declared.run.ArenaReply.TheVariants.{Key, Has as HasReply, Old, Done, Refused}
 
 -- what an arena is: the list of its items, and how many more fit before memory is asked for
 pub record ArenaState (T : Type 0) : Type 0 where
@@ -47,21 +48,62 @@ module _ {K T : Type 0} (keys : Keys K) (limit : ℕ) where
   RefusesItem old KeyOutOfBounds = ⊥
   RefusesItem old AliasingPairAccess = ⊥
 
+  -- an item makes way for another, and is handed back
+  pub record PutsItem (old : ArenaState T) (key : K) (item there : T) (new : ArenaState T)
+      : Type 0 where
+    pub there_is : slice_get old.items (keys.number key) ≡ Some there
+    pub items_are : new.items ≡ slice_set old.items (keys.number key) item
+    pub room_left : old.room ≤ new.room
+
+  -- two items change places
+  pub record SwapsItems (old : ArenaState T) (first second : K) (new : ArenaState T)
+      : Type 0 where
+    pub apart : keys.number first ≢ keys.number second
+    pub first_reads : keys.number first < length old.items
+    pub second_reads : keys.number second < length old.items
+    pub items_are : new.items ≡ swap old.items (keys.number first) (keys.number second)
+    pub room_left : old.room ≤ new.room
+
+  -- why two items don't change places: the keys are one, or one of them reads nothing. One key twice
+  -- that reads nothing may be refused for either.
+  abbrev pub RefusesSwap : ArenaState T → K → K → ArenaError → Type 0
+  RefusesSwap old first second AliasingPairAccess = keys.number first ≡ keys.number second
+  RefusesSwap old first second KeyOutOfBounds =
+      (length old.items ≤ keys.number first) ⊎ (length old.items ≤ keys.number second)
+  RefusesSwap old first second OutOfSystemMemory = ⊥
+  RefusesSwap old first second NotEnoughKeys = ⊥
+
   -- from old, the arena may give this reply to the command and go on to new
-  abbrev pub ArenaStep : ArenaState T → ArenaCommand K T → ArenaReply K → ArenaState T → Type 0
+  abbrev pub ArenaStep : ArenaState T → ArenaCommand K T → ArenaReply K T → ArenaState T → Type 0
   ArenaStep old (Alloc item) (Key key) new = AllocatesItem old item key new
   ArenaStep old (Alloc item) (Refused error) new = RefusesItem old error × ArenaUnchanged old new
   ArenaStep old (Has key) (HasReply found) new =
       (IsTrue found ↔ (keys.number key < length old.items)) × ArenaUnchanged old new
+  ArenaStep old (Put key item) (Old there) new = PutsItem old key item there new
+  ArenaStep old (Put key item) (Refused error) new =
+      (error ≡ KeyOutOfBounds) × (length old.items ≤ keys.number key) × ArenaUnchanged old new
+  ArenaStep old (Swap first second) Done new = SwapsItems old first second new
+  ArenaStep old (Swap first second) (Refused error) new =
+      RefusesSwap old first second error × ArenaUnchanged old new
   -- no other reply is given
   ArenaStep old (Alloc item) (HasReply found) new = ⊥
+  ArenaStep old (Alloc item) (Old there) new = ⊥
+  ArenaStep old (Alloc item) Done new = ⊥
   ArenaStep old (Has key) (Key other) new = ⊥
+  ArenaStep old (Has key) (Old there) new = ⊥
+  ArenaStep old (Has key) Done new = ⊥
   ArenaStep old (Has key) (Refused error) new = ⊥
+  ArenaStep old (Put key item) (Key other) new = ⊥
+  ArenaStep old (Put key item) (HasReply found) new = ⊥
+  ArenaStep old (Put key item) Done new = ⊥
+  ArenaStep old (Swap first second) (Key other) new = ⊥
+  ArenaStep old (Swap first second) (HasReply found) new = ⊥
+  ArenaStep old (Swap first second) (Old there) new = ⊥
 
   -- the arena may give these replies to these commands, one step after another. Before, between and
   -- after them it is in a state in which it may be: one of `IsState`.
   abbrev pub ArenaRun : (ArenaState T → Type 0)
-      → ArenaState T → List (ArenaCommand K T) → List (ArenaReply K) → ArenaState T → Type 0
+      → ArenaState T → List (ArenaCommand K T) → List (ArenaReply K T) → ArenaState T → Type 0
   ArenaRun IsState old [] [] new = IsState old × (new ≡ old)
   ArenaRun IsState old (command ∷ commands) (reply ∷ replies) new =
       IsState old × ((next : ArenaState T) × ArenaStep old command reply next

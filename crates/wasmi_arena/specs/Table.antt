@@ -1,6 +1,6 @@
 -- How a stable vector lays out its items: in a table of buckets, each open or not. No public clause
 -- cites this module.
-use Rattle.std.specs.Prelude.{◌≡◌, ℕ, ◌+◌, ◌*◌, ◌<◌, ◌≤◌, List, [], ◌∷◌, ◌++◌, length, take, drop, slice_set, Option, Some, None}
+use Rattle.std.specs.Prelude.{◌≡◌, ℕ, ◌+◌, ◌*◌, ◌<◌, ◌≤◌, List, [], ◌∷◌, ◌++◌, length, take, drop, slice_set, slice_index_or, Option, Some, None}
 use Rattle.wasmi_arena.specs.Geometry.{start, max_len, fewest}
 use Rattle.wasmi_arena.specs.Bucket.{Bucket}
 
@@ -26,6 +26,10 @@ module _ {T : Type 0} where
   with_item None slot item = None
   with_item (Some bucket) slot item =
       Some record { items = slice_set bucket.items slot item; capacity = bucket.capacity }
+
+  -- a table with another item in a filled slot of bucket b
+  abbrev pub write : List (Option (Bucket T)) → ℕ → ℕ → T → List (Option (Bucket T))
+  write buckets b slot item = slice_set buckets b (with_item (slice_index_or buckets b None) slot item)
 
   -- the bucket of `width` slots that holds the first of these items, and isn't open where there are
   -- none

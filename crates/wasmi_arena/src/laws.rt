@@ -94,9 +94,13 @@ pub fn clone_of_error(error: &ArenaError) -> Result<ArenaError, AllocError>
     error.clone()
 }
 
-/// Two replies are equal where they are the same, if two keys are.
-pub fn equal_replies<Key: PartialEq>(a: &ArenaReply<Key>, b: &ArenaReply<Key>) -> bool
-    ensures { ((x y : Key) → (IsTrue (Key.eq x y) ↔ (x ≡ y))) → (IsTrue result ↔ (a.now ≡ b.now)) }
+/// Two replies are equal where they are the same, if two keys are and two items are.
+pub fn equal_replies<Key: PartialEq, T: PartialEq>(
+    a: &ArenaReply<Key, T>,
+    b: &ArenaReply<Key, T>,
+) -> bool
+    ensures { ((x y : Key) → (IsTrue (Key.eq x y) ↔ (x ≡ y)))
+        → ((x y : T) → (IsTrue (T.eq x y) ↔ (x ≡ y))) → (IsTrue result ↔ (a.now ≡ b.now)) }
 {
     a == b
 }

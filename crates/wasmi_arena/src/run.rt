@@ -12,15 +12,23 @@ pub enum ArenaCommand<Key, T> {
     Alloc(T),
     /// Tell whether the key reads an item.
     Has(Key),
+    /// Put the item under the key, in place of the one there.
+    Put(Key, T),
+    /// Exchange the items under two keys.
+    Swap(Key, Key),
 }
 
 /// What it replies.
 #[derive(Debug, PartialEq, Eq, Drop)]
-pub enum ArenaReply<Key> {
-    /// The key of the item that was put.
+pub enum ArenaReply<Key, T> {
+    /// To `Alloc`: the key of the item that was put at the end.
     Key(Key),
-    /// Whether the key reads an item.
+    /// To `Has`: whether the key reads an item.
     Has(bool),
+    /// To `Put`: the item that was under the key.
+    Old(T),
+    /// To `Swap`: the items were exchanged.
+    Done,
     /// The command was refused, and the arena is as before it.
     Refused(ArenaError),
 }
@@ -29,7 +37,7 @@ pub enum ArenaReply<Key> {
 fn perform<Key: ArenaKey, T: Drop, A: Allocator + Clone>(
     arena: &mut StableArena<Key, T, A>,
     command: ArenaCommand<Key, T>,
-) -> ArenaReply<Key>
+) -> ArenaReply<Key, T>
     ensures { ArenaStep Key.keys (stable_limit Key.keys)
         (stable_state arena.old) command result (stable_state arena.new) }
 {
@@ -39,6 +47,14 @@ fn perform<Key: ArenaKey, T: Drop, A: Allocator + Clone>(
             Err(error) => ArenaReply::Refused(error),
         },
         ArenaCommand::Has(key) => ArenaReply::Has(arena.has(key)),
+        ArenaCommand::Put(key, item) => match arena.put(key, item) {
+            Ok(there) => ArenaReply::Old(there),
+            Err(error) => ArenaReply::Refused(error),
+        },
+        ArenaCommand::Swap(first, second) => match arena.swap(first, second) {
+            Ok(()) => ArenaReply::Done,
+            Err(error) => ArenaReply::Refused(error),
+        },
     }
 }
 
@@ -51,7 +67,7 @@ pub fn run_arena<Key: ArenaKey, T: Drop, A: Allocator + Clone, B: Allocator>(
     alloc: B,
     arena: &mut StableArena<Key, T, A>,
     commands: Vec<ArenaCommand<Key, T>, B>,
-) -> Result<Vec<ArenaReply<Key>, B>, ArenaError>
+) -> Result<Vec<ArenaReply<Key, T>, B>, ArenaError>
     ensures run { IfOk result (λ replies. ArenaRun Key.keys (stable_limit Key.keys) IsStableState
         (stable_state arena.old) commands.items replies.items (stable_state arena.new)) }
     ensures errors { IsOkUnless result ArenaError.OutOfSystemMemory }

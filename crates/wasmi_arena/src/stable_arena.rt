@@ -1,5 +1,6 @@
 //! An arena whose items stay in their slots.
-ghost use Rattle.std.specs.Prelude.{◌≡◌, ◌<◌, ◌≤◌, ◌==◌, ◌↔◌, ◌⊎◌, [], ◌∷◌, ◌++◌, length, IfOk, IfErr, OnOk, OnErr, IsErrOf, IsOk, IsOkUnless, IsTrue, slice_get, slice_set, Some};
+ghost use Rattle.std.specs.Prelude.{◌≡◌, ◌≢◌, ◌<◌, ◌≤◌, ◌==◌, ◌↔◌, ◌⊎◌, [], ◌∷◌, ◌++◌, length, IfOk, IfErr, OnOk, OnErr, IsErrOf, IsOk, IsOkUnless, IsTrue, slice_get, slice_set, Some};
+ghost use Rattle.std.specs.List.{swap};
 ghost use Rattle.std.specs.Mem.{type_size};
 ghost use Rattle.wasmi_arena.specs.Geometry.{max_len, room};
 ghost use Rattle.wasmi_arena.specs.Arena.{stable_limit};
@@ -157,6 +158,25 @@ impl<Key: ArenaKey, T, A: Allocator> StableArena<Key, T, A> {
     {
         let there = self.get_mut(key)?;
         Ok(mem::replace(there, item))
+    }
+
+    /// Exchanges the items under two keys.
+    ///
+    /// Fails with `AliasingPairAccess` if the keys are equal, and then with `KeyOutOfBounds` if there is
+    /// no item under one. After an error the arena is as before. Constant time.
+    pub fn swap(&mut self, first: Key, second: Key) -> Result<(), ArenaError>
+        ensures ok { OnOk result
+            (self.new ≡ swap self.old (Key.keys.number first) (Key.keys.number second)) }
+        ensures aliasing { IsErrOf result ArenaError.AliasingPairAccess
+            ↔ (Key.keys.number first ≡ Key.keys.number second) }
+        ensures out_of_bounds { IsErrOf result ArenaError.KeyOutOfBounds
+            ↔ ((Key.keys.number first ≢ Key.keys.number second)
+            × ((length self.old ≤ Key.keys.number first) ⊎ (length self.old ≤ Key.keys.number second))) }
+        ensures errors { IfErr result (λ error. (error ≡ ArenaError.AliasingPairAccess)
+            ⊎ (error ≡ ArenaError.KeyOutOfBounds)) }
+        ensures err { OnErr result (self.new ≡ self.old) }
+    {
+        self.items.swap(first.into_usize(), second.into_usize())
     }
 
     /// Whether a key reads an item. Constant time.

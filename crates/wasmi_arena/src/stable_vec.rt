@@ -9,6 +9,7 @@ ghost use Rattle.wasmi_arena.specs.StableVec.{bucket_at};
 ghost use Rattle.wasmi_arena.specs.Table.{items_in, bucket_with};
 
 mod iter;
+mod pairs;
 
 use crate::{ArenaError, Bucket, BucketTable};
 pub use iter::StableVecIter;

@@ -277,13 +277,17 @@ fn debug_texts_of_commands_and_replies(rt: HostRuntime) -> Result<(), Fail> {
     for (command, text) in [
         (ArenaCommand::<u32, u8>::Alloc(7), "Alloc(7)"),
         (ArenaCommand::Has(1), "Has(1)"),
+        (ArenaCommand::Put(1, 9), "Put(1, 9)"),
+        (ArenaCommand::Swap(0, 1), "Swap(0, 1)"),
     ] {
         let shown = format!(in rt.alloc(); "{command:?}")?;
         assert_eq!(rt; shown.as_str(), text);
     }
     for (reply, text) in [
-        (ArenaReply::Key(0u32), "Key(0)"),
+        (ArenaReply::<u32, u8>::Key(0), "Key(0)"),
         (ArenaReply::Has(true), "Has(true)"),
+        (ArenaReply::Old(7), "Old(7)"),
+        (ArenaReply::Done, "Done"),
         (
             ArenaReply::Refused(ArenaError::NotEnoughKeys),
             "Refused(NotEnoughKeys)",
@@ -372,21 +376,63 @@ fn a_run_of_commands(rt: HostRuntime) -> Result<(), Fail> {
     let mut arena: StableArena<u32, u8> = StableArena::new(rt.alloc());
     let commands = vec![in rt.alloc();
         ArenaCommand::Alloc(7),
-        ArenaCommand::Has(0),
-        ArenaCommand::Has(1),
         ArenaCommand::Alloc(8),
+        ArenaCommand::Swap(0, 1),
+        ArenaCommand::Put(0, 9),
+        ArenaCommand::Has(1),
+        ArenaCommand::Has(2),
+        ArenaCommand::Put(2, 5),
+        ArenaCommand::Swap(1, 1),
+        ArenaCommand::Swap(5, 5),
+        ArenaCommand::Swap(1, 2),
     ]?;
     let replies = run_arena(rt.alloc(), &mut arena, commands)?;
     assert_eq!(rt;
         replies.as_slice(),
         [
             ArenaReply::Key(0),
+            ArenaReply::Key(1),
+            ArenaReply::Done,
+            ArenaReply::Old(8),
             ArenaReply::Has(true),
             ArenaReply::Has(false),
-            ArenaReply::Key(1)
+            ArenaReply::Refused(ArenaError::KeyOutOfBounds),
+            ArenaReply::Refused(ArenaError::AliasingPairAccess),
+            ArenaReply::Refused(ArenaError::AliasingPairAccess),
+            ArenaReply::Refused(ArenaError::KeyOutOfBounds)
         ]
         .as_slice()
     );
-    assert_eq!(rt; arena.get(1)?, &8);
+    assert_eq!(rt; (arena.len(), arena.get(0)?, arena.get(1)?), (2, &9, &7));
+    Ok(())
+}
+
+#[test]
+fn items_change_places(rt: HostRuntime) -> Result<(), Fail> {
+    let mut vec = StableVec::new(rt.alloc());
+    for item in 0..100 {
+        vec.push(item)?;
+    }
+    // In one bucket, in two, in either order.
+    for (first, second) in [(0, 31), (31, 32), (96, 5), (99, 98)] {
+        vec.swap(first, second)?;
+        assert_eq!(rt;
+            (vec.get(first), vec.get(second)),
+            (Some(&second), Some(&first))
+        );
+        vec.swap(second, first)?;
+        assert_eq!(rt;
+            (vec.get(first), vec.get(second)),
+            (Some(&first), Some(&second))
+        );
+    }
+    for index in [5, 100] {
+        assert_eq!(rt; vec.swap(index, index), Err(ArenaError::AliasingPairAccess));
+        assert_eq!(rt; vec.swap(index, 101), Err(ArenaError::KeyOutOfBounds));
+        assert_eq!(rt; vec.swap(101, index), Err(ArenaError::KeyOutOfBounds));
+    }
+    for (index, item) in (0..100).zip(vec.iter()) {
+        assert_eq!(rt; &index, item);
+    }
     Ok(())
 }
