@@ -291,6 +291,21 @@ fn allocs<'a, Key: ArenaKey, A: Allocator>(
     Ok(commands)
 }
 
+// Whether the reply to an `Alloc` is this key, or this refusal.
+fn replies_with<Key: PartialEq + Drop, T>(
+    reply: &ArenaReply<Key, T>,
+    expected: Result<Key, ArenaError>,
+) -> bool {
+    match reply {
+        ArenaReply::Key(key) => match expected {
+            Ok(wanted) => *key == wanted,
+            Err(_) => false,
+        },
+        ArenaReply::Refused(error) => expected.err() == Some(*error),
+        _ => false,
+    }
+}
+
 // The second bucket is opened for item 32, which is refused, and then for item 33.
 #[test]
 fn a_run_drops_the_item_that_finds_no_memory(rt: HostRuntime) -> Result<(), Fail> {
@@ -304,11 +319,11 @@ fn a_run_drops_the_item_that_finds_no_memory(rt: HostRuntime) -> Result<(), Fail
         assert_eq!(rt; (replies.len(), arena.len()), (34, 33));
         for (item, reply) in replies.iter().enumerate() {
             let expected = match item {
-                32 => ArenaReply::Refused(ArenaError::OutOfSystemMemory),
-                33 => ArenaReply::Key(32usize),
-                _ => ArenaReply::Key(item),
+                32 => Err(ArenaError::OutOfSystemMemory),
+                33 => Ok(32usize),
+                _ => Ok(item),
             };
-            assert_eq!(rt; *reply, expected);
+            assert!(rt; replies_with(reply, expected));
         }
         for (item, drops) in counts.iter().enumerate() {
             assert_eq!(rt; drops.get(), if item == 32 { 1 } else { 0 });
@@ -327,11 +342,8 @@ fn a_run_drops_the_items_that_find_no_key(rt: HostRuntime) -> Result<(), Fail> {
         let replies = run_arena(rt.alloc(), &mut arena, commands)?;
         assert_eq!(rt; (replies.len(), arena.len()), (6, 4));
         for (item, reply) in replies.iter().enumerate() {
-            let expected = match Tiny::from_usize(item) {
-                Some(key) => ArenaReply::Key(key),
-                None => ArenaReply::Refused(ArenaError::NotEnoughKeys),
-            };
-            assert_eq!(rt; *reply, expected);
+            let expected = Tiny::from_usize(item).ok_or(ArenaError::NotEnoughKeys);
+            assert!(rt; replies_with(reply, expected));
         }
         for (item, drops) in counts.iter().enumerate() {
             assert_eq!(rt; drops.get(), if item < 4 { 0 } else { 1 });
@@ -353,6 +365,33 @@ fn a_run_without_room_for_its_replies_drops_its_items(rt: HostRuntime) -> Result
         let refused = run_arena(handle, &mut arena, commands).is_err();
         assert!(rt; refused);
         assert!(rt; each_is(&counts, 1));
+    }
+    assert!(rt; each_is(&counts, 1));
+    Ok(())
+}
+
+// A refused item is dropped with its command, one that makes way comes back in its reply.
+#[test]
+fn a_run_hands_back_what_makes_way(rt: HostRuntime) -> Result<(), Fail> {
+    let counts = counts(rt.alloc(), 3)?;
+    {
+        let mut arena: StableArena<u32, Counted<'_>> = StableArena::new(rt.alloc());
+        let commands = vec![in rt.alloc();
+            ArenaCommand::Alloc(Counted::new(&counts[0])),
+            ArenaCommand::Put(1, Counted::new(&counts[1])),
+            ArenaCommand::Put(0, Counted::new(&counts[2])),
+        ]?;
+        let replies = run_arena(rt.alloc(), &mut arena, commands)?;
+        assert_eq!(rt; (replies.len(), arena.len()), (3, 1));
+        assert_eq!(rt;
+            (counts[0].get(), counts[1].get(), counts[2].get()),
+            (0, 1, 0)
+        );
+        drop(replies);
+        assert_eq!(rt;
+            (counts[0].get(), counts[1].get(), counts[2].get()),
+            (1, 1, 0)
+        );
     }
     assert!(rt; each_is(&counts, 1));
     Ok(())
