@@ -1,7 +1,8 @@
 //! Laws: what the definitions of `specs/` tell, and what derived calls do, as contracts of functions.
 ghost use Rattle.std.specs.Prelude.{◌≡◌, ℕ, ◌+◌, ◌*◌, ◌<◌, ◌≤◌, [], ◌∷◌, List, length, map, slice_get, IsSomeAnd, IsTrue, ◌↔◌, Ok};
+ghost use Rattle.std.specs.List.{flat_map};
 ghost use Rattle.wasmi_arena.specs.Geometry.{size, start, max_len, IsPlace, IsFewest, fewest, slots, room, bucket_of, slot_of};
-ghost use Rattle.wasmi_arena.specs.StableVec.{bucket_at};
+ghost use Rattle.wasmi_arena.specs.StableVec.{bucket_at, filled_parts};
 
 use crate::{ArenaError, ArenaReply};
 use std::alloc::AllocError;
@@ -78,6 +79,12 @@ pub fn item_is_in_its_slot<T>()
     ensures { (items : List T) (index b s : ℕ) → length items ≤ max_len → index < length items
         → IsPlace index b s
         → IsSomeAnd (bucket_at items b) (λ bucket. slice_get bucket.items s ≡ slice_get items index) }
+{}
+
+/// One after another, the items of the buckets are all items.
+pub fn slices_are_the_items<T>()
+    ensures { (items : List T) → length items ≤ max_len
+        → flat_map (λ part. part) (filled_parts items) ≡ items }
 {}
 
 /// Two refusals are equal where they are the same.
