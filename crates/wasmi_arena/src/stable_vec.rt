@@ -8,6 +8,7 @@ ghost use Rattle.wasmi_arena.specs.TableLend.{lends_slot};
 ghost use Rattle.wasmi_arena.specs.StableVec.{bucket_at, filled_parts};
 ghost use Rattle.wasmi_arena.specs.Table.{items_in, bucket_with};
 
+mod compared;
 mod iter;
 mod slices;
 
@@ -273,7 +274,8 @@ impl<T, A: Allocator> StableVec<T, A> {
 
     /// The items of each open bucket as a slice, in order.
     pub fn slices(&self) -> StableVecSlices<'_, T, A>
-        ensures { result ≡ filled_parts self.now }
+        ensures parts { result ≡ filled_parts self.now }
+        ensures bound { length self.now ≤ max_len }
     {
         let buckets = &self.table.buckets[..];
         let open = &buckets[..self.open_buckets];

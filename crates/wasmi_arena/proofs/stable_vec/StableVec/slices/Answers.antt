@@ -12,5 +12,5 @@ slice_bounds-open-end g c =
 pub invariant_of-result : goal.invariant_of-result
 invariant_of-result g c = rw c.iter.ensures.rest (parts_open _ _ _ _ c.self.invariant).0
 
-pub returns : goal.returns
-returns g c = rw (c.iter.ensures.rest, ← c.self.view_is) (parts_open _ _ _ _ c.self.invariant).1
+pub returns-clause-parts : goal.returns-clause-parts
+returns-clause-parts g c = rw (c.iter.ensures.rest, ← c.self.view_is) (parts_open _ _ _ _ c.self.invariant).1
