@@ -4,7 +4,7 @@ ghost use Rattle.std.specs.List.{flat_map};
 ghost use Rattle.wasmi_arena.specs.Geometry.{size, start, max_len, IsPlace, IsFewest, fewest, slots, room, bucket_of, slot_of};
 ghost use Rattle.wasmi_arena.specs.StableVec.{bucket_at, filled_parts};
 
-use crate::{ArenaError, ArenaReply};
+use crate::{ArenaError, ArenaKey, ArenaReply, StableArena, StableVec};
 use std::alloc::AllocError;
 
 /// The 27 buckets, each with its number of slots and its first index.
@@ -104,6 +104,23 @@ pub fn clone_of_error(error: &ArenaError) -> Result<ArenaError, AllocError>
 /// Two replies are equal where they are the same, if two keys are.
 pub fn equal_replies<Key: PartialEq>(a: &ArenaReply<Key>, b: &ArenaReply<Key>) -> bool
     ensures { ((x y : Key) → (IsTrue (Key.eq x y) ↔ (x ≡ y))) → (IsTrue result ↔ (a.now ≡ b.now)) }
+{
+    a == b
+}
+
+/// Two vectors are equal where their lists are, if two items are.
+pub fn equal_vectors<T: PartialEq>(a: &StableVec<T>, b: &StableVec<T>) -> bool
+    ensures { ((x y : T) → (IsTrue (T.eq x y) ↔ (x ≡ y))) → (IsTrue result ↔ (a.now ≡ b.now)) }
+{
+    a == b
+}
+
+/// Two arenas are equal where their lists are, if two items are.
+pub fn equal_arenas<Key: ArenaKey, T: PartialEq>(
+    a: &StableArena<Key, T>,
+    b: &StableArena<Key, T>,
+) -> bool
+    ensures { ((x y : T) → (IsTrue (T.eq x y) ↔ (x ≡ y))) → (IsTrue result ↔ (a.now ≡ b.now)) }
 {
     a == b
 }
