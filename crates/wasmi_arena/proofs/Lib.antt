@@ -3,6 +3,8 @@ pub mod Table
 pub mod LaidOut
 pub mod Arena
 pub mod Entries
+pub mod FilledParts
+pub mod Compared
 pub mod SlotRuns
 pub mod Frame
 pub mod Sharing
