@@ -8,6 +8,7 @@ ghost use Rattle.wasmi_arena.specs.TableLend.{lends_slot};
 ghost use Rattle.wasmi_arena.specs.StableVec.{bucket_at};
 ghost use Rattle.wasmi_arena.specs.Table.{items_in, bucket_with};
 
+mod grow;
 mod iter;
 
 use crate::{ArenaError, Bucket, BucketTable};
