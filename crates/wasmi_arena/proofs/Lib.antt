@@ -5,6 +5,7 @@ pub mod Arena
 pub mod Entries
 pub mod FilledParts
 pub mod Compared
+pub mod Growth
 pub mod SlotRuns
 pub mod Frame
 pub mod Sharing
