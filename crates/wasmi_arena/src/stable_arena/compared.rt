@@ -23,10 +23,6 @@ impl<Key: ArenaKey, T: Eq, A: Allocator> Eq for StableArena<Key, T, A> {
 impl<Key: ArenaKey + fmt::Debug, T: fmt::Debug, A: Allocator> fmt::Debug
     for StableArena<Key, T, A> {
     fn fmt<W: fmt::Write>(&self, f: &mut fmt::Formatter<W>) -> fmt::Result {
-        let mut map = f.debug_map();
-        for (key, item) in self.iter() {
-            map.entry(&key, item);
-        }
-        map.finish()
+        f.debug_map().entries(self).finish()
     }
 }

@@ -13,9 +13,9 @@ use std::hash::{Hash, Hasher};
 // too, and so on: so where two buckets differ, that is where the lists do.
 
 impl<T: PartialEq, A: Allocator> PartialEq for StableVec<T, A> {
-    ghost eq = { pointwise T.eq };
-
     ghost laws = { lists_per T.laws };
+
+    ghost eq = { pointwise T.eq };
 
     fn eq(&self, other: &Self) -> bool {
         self.len == other.len && self.slices().eq(other.slices())
@@ -24,30 +24,6 @@ impl<T: PartialEq, A: Allocator> PartialEq for StableVec<T, A> {
 
 impl<T: Eq, A: Allocator> Eq for StableVec<T, A> {
     ghost laws = { lists_equiv T.Eq.laws };
-}
-
-impl<T: PartialOrd, A: Allocator> PartialOrd for StableVec<T, A> {
-    ghost partial_cmp = { slice_partial_cmp T.partial_cmp };
-
-    ghost laws = { lists_po T.PartialOrd.laws };
-
-    fn partial_cmp(&self, other: &Self) -> Option<Ordering> {
-        self.slices().partial_cmp(other.slices())
-    }
-}
-
-impl<T: Ord, A: Allocator> Ord for StableVec<T, A> {
-    ghost cmp = { slice_cmp T.cmp };
-
-    ghost total = { lists_total T.total };
-
-    ghost matches_partial_cmp = { lists_agrees T.matches_partial_cmp };
-
-    ghost matches_eq = { lists_ties T.cmp T.matches_eq };
-
-    fn cmp(&self, other: &Self) -> Ordering {
-        self.slices().cmp(other.slices())
-    }
 }
 
 impl<T: Hash, A: Allocator> Hash for StableVec<T, A> {
@@ -63,8 +39,32 @@ impl<T: Hash, A: Allocator> Hash for StableVec<T, A> {
     }
 }
 
+impl<T: PartialOrd, A: Allocator> PartialOrd for StableVec<T, A> {
+    ghost laws = { lists_po T.PartialOrd.laws };
+
+    ghost partial_cmp = { slice_partial_cmp T.partial_cmp };
+
+    fn partial_cmp(&self, other: &Self) -> Option<Ordering> {
+        self.slices().partial_cmp(other.slices())
+    }
+}
+
+impl<T: Ord, A: Allocator> Ord for StableVec<T, A> {
+    ghost matches_eq = { lists_ties T.cmp T.matches_eq };
+
+    ghost matches_partial_cmp = { lists_agrees T.matches_partial_cmp };
+
+    ghost total = { lists_total T.total };
+
+    ghost cmp = { slice_cmp T.cmp };
+
+    fn cmp(&self, other: &Self) -> Ordering {
+        self.slices().cmp(other.slices())
+    }
+}
+
 impl<T: fmt::Debug, A: Allocator> fmt::Debug for StableVec<T, A> {
     fn fmt<W: fmt::Write>(&self, f: &mut fmt::Formatter<W>) -> fmt::Result {
-        f.debug_list().entries(self.iter()).finish()
+        f.debug_list().entries(self).finish()
     }
 }
