@@ -4,6 +4,7 @@ pub mod LaidOut
 pub mod Arena
 pub mod Entries
 pub mod Growth
+pub mod Apart
 pub mod SlotRuns
 pub mod Frame
 pub mod Sharing

@@ -8,6 +8,7 @@ ghost use Rattle.wasmi_arena.specs.TableLend.{lends_slot};
 ghost use Rattle.wasmi_arena.specs.StableVec.{bucket_at};
 ghost use Rattle.wasmi_arena.specs.Table.{items_in, bucket_with};
 
+mod defaults;
 mod grow;
 mod iter;
 
