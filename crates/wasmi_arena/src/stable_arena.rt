@@ -8,6 +8,7 @@ ghost use Rattle.wasmi_arena.specs.Entries.{entries};
 
 mod any;
 mod compared;
+mod grow;
 mod iter;
 
 use crate::{ArenaError, ArenaKey, MAX_LEN, StableVec};
