@@ -3,6 +3,7 @@ pub mod Table
 pub mod LaidOut
 pub mod Arena
 pub mod Entries
+pub mod Passed
 pub mod SlotRuns
 pub mod Frame
 pub mod Sharing
