@@ -2,6 +2,10 @@
 #![tactic(auto)]
 
 #[cfg(test)]
+mod counted;
+#[cfg(test)]
+mod growth;
+#[cfg(test)]
 mod heap;
 #[cfg(test)]
 mod memory;

@@ -1,4 +1,5 @@
 //! Vectors, arenas and runs over an allocator that refuses requests.
+use crate::counted::Counted;
 use crate::observed::{Log, Observed};
 use crate::tiny::Tiny;
 use std::alloc::{AllocError, Allocator, Global};
@@ -179,31 +180,22 @@ fn each_large_bucket_refused_once(rt: HostRuntime) -> Result<(), Fail> {
     Ok(())
 }
 
-/// An item that counts its drop.
-struct Counted<'a> {
-    drops: &'a Cell<u64>,
-}
-
-impl<'a> Counted<'a> {
-    fn new(drops: &'a Cell<u64>) -> Counted<'a> {
-        Counted { drops }
-    }
-}
-
-impl Drop for Counted<'_> {
-    fn drop(self) {
-        self.drops.set(self.drops.get().wrapping_add(1));
-        let Counted { drops: _ } = self;
-    }
-}
-
 // A count of drops for each of so many items.
-fn counts(alloc: Global, len: usize) -> Result<Vec<Cell<u64>>, AllocError> {
+pub fn counts(alloc: Global, len: usize) -> Result<Vec<Cell<u64>>, AllocError> {
     let mut counts = Vec::new(alloc);
     for _ in 0..len {
         counts.push(Cell::new(0))?;
     }
     Ok(counts)
+}
+
+// Whether the counts are these, one by one.
+pub fn counts_are(counts: &[Cell<u64>], drops: &[u64]) -> bool {
+    counts.len() == drops.len()
+        && counts
+            .iter()
+            .zip(drops)
+            .all(|(count, drops)| count.get() == *drops)
 }
 
 fn each_is(counts: &[Cell<u64>], drops: u64) -> bool {
@@ -370,28 +362,35 @@ fn a_run_without_room_for_its_replies_drops_its_items(rt: HostRuntime) -> Result
     Ok(())
 }
 
+// Commands to put in an item, to put one under a key that reads nothing, and one in the place of the first.
+fn alloc_and_puts<'a>(
+    alloc: Global,
+    counts: &'a [Cell<u64>],
+) -> Result<Vec<ArenaCommand<u32, Counted<'a>>>, AllocError> {
+    let mut commands = Vec::new(alloc);
+    for (number, drops) in counts.iter().enumerate() {
+        let item = Counted::new(drops);
+        commands.push(match number {
+            0 => ArenaCommand::Alloc(item),
+            1 => ArenaCommand::Put(1, item),
+            _ => ArenaCommand::Put(0, item),
+        })?;
+    }
+    Ok(commands)
+}
+
 // A refused item is dropped with its command, one that makes way comes back in its reply.
 #[test]
 fn a_run_hands_back_what_makes_way(rt: HostRuntime) -> Result<(), Fail> {
     let counts = counts(rt.alloc(), 3)?;
     {
-        let mut arena: StableArena<u32, Counted<'_>> = StableArena::new(rt.alloc());
-        let commands = vec![in rt.alloc();
-            ArenaCommand::Alloc(Counted::new(&counts[0])),
-            ArenaCommand::Put(1, Counted::new(&counts[1])),
-            ArenaCommand::Put(0, Counted::new(&counts[2])),
-        ]?;
+        let commands = alloc_and_puts(rt.alloc(), &counts)?;
+        let mut arena = StableArena::new(rt.alloc());
         let replies = run_arena(rt.alloc(), &mut arena, commands)?;
         assert_eq!(rt; (replies.len(), arena.len()), (3, 1));
-        assert_eq!(rt;
-            (counts[0].get(), counts[1].get(), counts[2].get()),
-            (0, 1, 0)
-        );
+        assert!(rt; counts_are(&counts, &[0, 1, 0]));
         drop(replies);
-        assert_eq!(rt;
-            (counts[0].get(), counts[1].get(), counts[2].get()),
-            (1, 1, 0)
-        );
+        assert!(rt; counts_are(&counts, &[1, 1, 0]));
     }
     assert!(rt; each_is(&counts, 1));
     Ok(())

@@ -1,0 +1,160 @@
+//! Calls that add several items, over an allocator that refuses requests.
+use crate::counted::Counted;
+use crate::memory::{counts, counts_are};
+use crate::observed::{Log, Observed};
+use crate::tiny::Tiny;
+use std::alloc::{AllocError, Global};
+use std::cell::Cell;
+use std::test::Fail;
+use wasmi_arena::{ArenaError, ArenaKey, StableArena, StableVec};
+
+// So many items that count their drops in one of the counts.
+fn items<'a>(
+    alloc: Global,
+    counts: &'a [Cell<u64>],
+    count: usize,
+    len: usize,
+) -> Result<Vec<Counted<'a>>, AllocError> {
+    let mut items = Vec::new(alloc);
+    if let Some(drops) = counts.get(count) {
+        for _ in 0..len {
+            items.push(Counted::new(drops))?;
+        }
+    }
+    Ok(items)
+}
+
+#[test]
+fn items_come_in_their_order(rt: HostRuntime) -> Result<(), Fail> {
+    let mut vec = StableVec::from_iter(rt.alloc(), 0..50u64)?;
+    vec.extend(50..100)?;
+    assert_eq!(rt; (vec.len(), vec.open_buckets()), (100, 3));
+    for (index, item) in vec.iter().enumerate() {
+        assert_eq!(rt; *item, index as u64);
+    }
+    Ok(())
+}
+
+#[test]
+fn a_refused_extend_keeps_what_had_room(rt: HostRuntime) -> Result<(), Fail> {
+    let log = Log::new();
+    let drops = counts(rt.alloc(), 2)?;
+    {
+        let first = items(rt.alloc(), &drops, 0, 30)?;
+        let more = items(rt.alloc(), &drops, 1, 5)?;
+        let mut vec = StableVec::new(Observed::new(rt.alloc(), &log));
+        vec.extend(first)?;
+        log.refuse_from(1);
+        let refused = vec.extend(more);
+        assert_eq!(rt; refused, Err(ArenaError::OutOfSystemMemory));
+        assert_eq!(rt; (vec.len(), vec.open_buckets()), (32, 1));
+        assert!(rt; counts_are(&drops, &[0, 3]));
+    }
+    assert!(rt; counts_are(&drops, &[30, 5]));
+    assert_eq!(rt; (log.given(), log.returned(), log.misplaced()), (1, 1, 0));
+    Ok(())
+}
+
+#[test]
+fn an_extend_goes_as_far_as_its_buckets(rt: HostRuntime) -> Result<(), Fail> {
+    let log = Log::new();
+    {
+        let mut vec = StableVec::new(Observed::new(rt.alloc(), &log));
+        vec.extend(0..32u64)?;
+        log.refuse_once(2);
+        assert_eq!(rt; vec.extend(32..132), Err(ArenaError::OutOfSystemMemory));
+        assert_eq!(rt; (vec.len(), vec.open_buckets()), (96, 2));
+        assert_eq!(rt; vec.get(95), Some(&95));
+    }
+    assert_eq!(rt; (log.given(), log.returned(), log.misplaced()), (2, 2, 0));
+    Ok(())
+}
+
+#[test]
+fn alloc_many_adds_all_or_none(rt: HostRuntime) -> Result<(), Fail> {
+    let log = Log::new();
+    {
+        let mut arena: StableArena<usize, i32, Observed<'_>> = StableArena::from_iter(
+            Observed::new(rt.alloc(), &log),
+            0..31,
+        )?;
+        log.refuse_once(2);
+        let refused = arena.alloc_many(100).err();
+        assert_eq!(rt; refused, Some(ArenaError::OutOfSystemMemory));
+        assert_eq!(rt; (arena.len(), arena.items().open_buckets()), (31, 1));
+        assert_eq!(rt; (log.given(), log.returned()), (2, 1));
+        let keys = arena.alloc_many(100)?;
+        assert_eq!(rt; (keys.start, keys.end), (31, 131));
+        assert_eq!(rt;
+            (arena.items().open_buckets(), arena.items().slots()),
+            (3, 224)
+        );
+        assert_eq!(rt;
+            (arena.get(30), arena.get(31), arena.get(130)),
+            (Ok(&30), Ok(&0), Ok(&0))
+        );
+    }
+    assert_eq!(rt; (log.given(), log.returned(), log.misplaced()), (4, 4, 0));
+    Ok(())
+}
+
+#[test]
+fn alloc_many_needs_a_key_for_its_end(rt: HostRuntime) -> Result<(), Fail> {
+    let mut arena: StableArena<Tiny, i32> = StableArena::from_iter(rt.alloc(), 0..3)?;
+    assert_eq!(rt; arena.alloc_many(1).err(), Some(ArenaError::NotEnoughKeys));
+    assert_eq!(rt; arena.len(), 3);
+    let keys = arena.alloc_many(0)?;
+    assert_eq!(rt; (keys.start.into_usize(), keys.end.into_usize()), (3, 3));
+    let full: Result<StableArena<Tiny, i32>, ArenaError> = StableArena::from_iter(rt.alloc(), 0..5);
+    assert_eq!(rt; full.err(), Some(ArenaError::NotEnoughKeys));
+    Ok(())
+}
+
+#[test]
+fn too_many_for_the_buckets_open_none(rt: HostRuntime) -> Result<(), Fail> {
+    let log = Log::new();
+    let mut arena: StableArena<usize, u8, Observed<'_>> = StableArena::new(Observed::new(
+        rt.alloc(),
+        &log,
+    ));
+    let refused = arena.alloc_many(4_294_967_265).err();
+    assert_eq!(rt; refused, Some(ArenaError::NotEnoughKeys));
+    assert_eq!(rt; (arena.len(), log.requests()), (0, 0));
+    Ok(())
+}
+
+#[test]
+fn a_clone_is_in_the_allocator_that_it_is_given(rt: HostRuntime) -> Result<(), Fail> {
+    let log = Log::new();
+    let vec = StableVec::from_iter(rt.alloc(), 0..100u64)?;
+    {
+        let made = vec.clone_in(Observed::new(rt.alloc(), &log))?;
+        let again = made.clone()?;
+        assert_eq!(rt; (made.len(), again.len()), (100, 100));
+        for index in 0..100 {
+            assert_eq!(rt; made.get(index), vec.get(index));
+            assert_eq!(rt; again.get(index), vec.get(index));
+        }
+        log.refuse_once(2);
+        assert_eq!(rt; made.clone().err(), Some(ArenaError::OutOfSystemMemory));
+    }
+    assert_eq!(rt; (log.given(), log.returned(), log.misplaced()), (7, 7, 0));
+    Ok(())
+}
+
+#[test]
+fn items_without_size_ask_for_nothing(rt: HostRuntime) -> Result<(), Fail> {
+    let log = Log::new();
+    log.refuse_from(1);
+    let mut arena: StableArena<usize, (), Observed<'_>> = StableArena::new(Observed::new(
+        rt.alloc(),
+        &log,
+    ));
+    let keys = arena.alloc_many(40)?;
+    assert_eq!(rt; (keys.start, keys.end), (0, 40));
+    let mut vec = arena.items().clone()?;
+    vec.extend([(), ()])?;
+    assert_eq!(rt; (vec.len(), arena.clone()?.len()), (42, 40));
+    assert_eq!(rt; log.requests(), 0);
+    Ok(())
+}
