@@ -1,0 +1,111 @@
+//! Calls on a `StableArena`.
+
+use crate::answers::{bad, result, value};
+use crate::call::{Call, ItemCall};
+use crate::replay::Container;
+use crate::stable_vec::{bucket, place, size_of_bucket_at};
+use std::alloc::Global;
+use std::io::Write;
+use std::{io, mem};
+use wasmi_arena::{ArenaError, ArenaKey, StableArena};
+
+/// An arena of numbers at work. A line names a key by its number.
+#[derive(Drop)]
+pub struct ArenaReplay<Key: ArenaKey> {
+    arena: StableArena<Key, i64>,
+}
+
+impl<Key: ArenaKey> ArenaReplay<Key> {
+    pub fn new(alloc: Global) -> Self {
+        ArenaReplay {
+            arena: StableArena::new(alloc),
+        }
+    }
+
+    // Puts `new` in the place of an item, which it returns.
+    fn write(&mut self, key: Key, new: i64) -> Result<i64, ArenaError> {
+        let item = self.arena.get_mut(key)?;
+        Ok(mem::replace(item, new))
+    }
+
+    // Makes a call on the item under a key.
+    fn answer_item<W: Write>(&mut self, key: Key, call: ItemCall, out: &mut W) -> io::Result<()> {
+        match call {
+            ItemCall::Get => result(out, self.arena.get(key)),
+            ItemCall::GetMut(item) => result(out, self.write(key, item)),
+            ItemCall::Put(item) => result(out, self.arena.put(key, item)),
+            ItemCall::Has => value(out, self.arena.has(key)),
+            ItemCall::Index if self.arena.has(key) => value(out, self.arena[key]),
+            ItemCall::IndexMut(item) if self.arena.has(key) => {
+                self.arena[key] = item;
+                value(out, "written")
+            }
+            ItemCall::Index | ItemCall::IndexMut(_) => value(out, "no item"),
+        }
+    }
+
+    // Exchanges the items under the keys of two numbers.
+    fn swap<W: Write>(&mut self, first: usize, second: usize, out: &mut W) -> io::Result<()> {
+        match (Key::from_usize(first), Key::from_usize(second)) {
+            (Some(first), Some(second)) => {
+                result(out, self.arena.swap(first, second).map(|()| "done"))
+            }
+            _ => value(out, "no key"),
+        }
+    }
+}
+
+impl<Key: ArenaKey> Container for ArenaReplay<Key> {
+    fn answer<W: Write>(&mut self, call: Call<'_>, out: &mut W) -> io::Result<()> {
+        match call {
+            Call::Len => value(out, self.arena.len()),
+            Call::IsEmpty => value(out, self.arena.is_empty()),
+            Call::Alloc(item) => { result(out, self.arena.alloc(item).map(|key| key.into_usize())) }
+            Call::Item(number, call) => match Key::from_usize(number) {
+                Some(key) => self.answer_item(key, call, out),
+                None => value(out, "no key"),
+            },
+            Call::Swap(first, second) => self.swap(first, second, out),
+            Call::Iter(steps) => iter(&self.arena, steps, out),
+            Call::For => all(&self.arena, out),
+            Call::NextKey => result(out, self.arena.next_key().map(|key| key.into_usize())),
+            Call::Room => value(out, self.arena.room()),
+            Call::OpenBuckets => value(out, self.arena.items().open_buckets()),
+            Call::Slots => value(out, self.arena.items().slots()),
+            Call::Bucket(number) => bucket(self.arena.items(), number, out),
+            Call::Place(index) => place(index, out),
+            Call::SizeOfBucketAt(number) => size_of_bucket_at(number, out),
+            Call::Push(_) => bad(out),
+        }
+    }
+}
+
+// Takes entries from an iterator, and then asks it how many are left.
+fn iter<Key: ArenaKey, W: Write>(
+    arena: &StableArena<Key, i64>,
+    steps: &str,
+    out: &mut W,
+) -> io::Result<()> {
+    let mut entries = arena.iter();
+    for step in steps.bytes() {
+        let entry = if step == b'f' {
+            entries.next()
+        } else {
+            entries.next_back()
+        };
+        match entry {
+            Some((key, item)) => write!(out, "{}={item} ", key.into_usize())?,
+            None => write!(out, "none ")?,
+        }
+    }
+    writeln!(out, "left {}", entries.len())
+}
+
+// Writes how many items there are, and each with its key.
+fn all<Key: ArenaKey, W: Write>(arena: &StableArena<Key, i64>, out: &mut W) -> io::Result<()> {
+    write!(out, "{}:", arena.len())?;
+    for (key, item) in arena {
+        write!(out, " {}={item}", key.into_usize())?;
+    }
+    writeln!(out)
+}
