@@ -4,6 +4,11 @@ unsafe extern "C" {
     pub safe fn wasmi_bench_vec_push(n: u64, rounds: u64) -> u64;
     pub safe fn wasmi_bench_vec_get(n: u64, rounds: u64) -> u64;
     pub safe fn wasmi_bench_vec_iter(n: u64, rounds: u64) -> u64;
+    pub safe fn wasmi_bench_vec_iter_rev(n: u64, rounds: u64) -> u64;
+    pub safe fn wasmi_bench_vec_slices(n: u64, rounds: u64) -> u64;
+    pub safe fn wasmi_bench_vec_swap(n: u64, rounds: u64) -> u64;
+    pub safe fn wasmi_bench_vec_clone(n: u64, rounds: u64) -> u64;
+    pub safe fn wasmi_bench_vec_eq(n: u64, rounds: u64) -> u64;
     pub safe fn wasmi_bench_vec_slots(n: u64) -> u64;
     pub safe fn wasmi_bench_vec_size() -> u64;
     pub safe fn wasmi_bench_arena_alloc(n: u64, rounds: u64) -> u64;

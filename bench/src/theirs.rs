@@ -59,6 +59,64 @@ pub fn vec_iter(n: u64, rounds: u64) -> u64 {
 }
 
 #[inline(never)]
+fn walk_back(vec: &StableVec<u64>, before: u64) -> u64 {
+    let mut sum = before;
+    for item in vec.iter().rev() {
+        sum = sum.wrapping_add(*item);
+    }
+    sum
+}
+
+pub fn vec_iter_rev(n: u64, rounds: u64) -> u64 {
+    let vec = filled(n);
+    (0..rounds).fold(1, |sum, _| walk_back(&vec, sum))
+}
+
+#[inline(never)]
+fn swap_all(vec: &mut StableVec<u64>, n: u64) {
+    let mut state = 1;
+    for i in 0..n {
+        if let Ok([a, b]) = vec.get_disjoint_mut([i as usize, next_index(&mut state, n)]) {
+            std::mem::swap(a, b);
+        }
+    }
+}
+
+// The last item and the length.
+fn ends(vec: &StableVec<u64>) -> u64 {
+    let last = vec.get(vec.len().wrapping_sub(1)).copied().unwrap_or(0);
+    last.wrapping_add(vec.len() as u64)
+}
+
+pub fn vec_swap(n: u64, rounds: u64) -> u64 {
+    let mut vec = filled(n);
+    for _ in 0..rounds {
+        swap_all(&mut vec, n);
+    }
+    ends(&vec)
+}
+
+#[inline(never)]
+fn clone_once(vec: &StableVec<u64>, before: u64) -> u64 {
+    before.wrapping_add(ends(&vec.clone()))
+}
+
+pub fn vec_clone(n: u64, rounds: u64) -> u64 {
+    let vec = filled(n);
+    (0..rounds).fold(1, |sum, _| clone_once(&vec, sum))
+}
+
+#[inline(never)]
+fn is_equal(left: &StableVec<u64>, right: &StableVec<u64>, before: u64) -> u64 {
+    before.wrapping_add(if left == right { 2 } else { 1 })
+}
+
+pub fn vec_eq(n: u64, rounds: u64) -> u64 {
+    let (left, right) = (filled(n), filled(n));
+    (0..rounds).fold(1, |sum, _| is_equal(&left, &right, sum))
+}
+
+#[inline(never)]
 fn fill_arena<Key: ArenaKey>(arena: &mut StableArena<Key, u64>, n: u64, first: u64) -> u64 {
     let mut sum = first;
     for i in 0..n {

@@ -93,7 +93,7 @@ module _ {T : Type 0} where
     slots-le_max = rw v.slots_counted (start_mono open_buckets 27 open-le_27)
 
     -- the open buckets
-    IsTable-open : IsTable 32 (items_of buckets) (take (fewest len) buckets)
+    pub IsTable-open : IsTable 32 (items_of buckets) (take (fewest len) buckets)
     IsTable-open = IsTable-take 32 (fewest len) (items_of buckets) buckets v.table (let enough = IsFewest-len.enough in omega (arith, start-size (fewest len), v.items_counted))
 
     -- the open buckets hold every item

@@ -3,6 +3,9 @@ pub mod Table
 pub mod LaidOut
 pub mod Arena
 pub mod Entries
+pub mod FilledParts
+pub mod Compared
+pub mod Growth
 pub mod SlotRuns
 pub mod Frame
 pub mod Sharing

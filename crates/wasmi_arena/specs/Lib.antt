@@ -15,3 +15,4 @@ pub mod Table
 pub mod Arena
 pub mod ArenaLend
 pub mod Entries
+pub mod Growth

@@ -1,9 +1,10 @@
 //! Laws: what the definitions of `specs/` tell, and what derived calls do, as contracts of functions.
 ghost use Rattle.std.specs.Prelude.{◌≡◌, ℕ, ◌+◌, ◌*◌, ◌<◌, ◌≤◌, [], ◌∷◌, List, length, map, slice_get, IsSomeAnd, IsTrue, ◌↔◌, Ok};
+ghost use Rattle.std.specs.List.{flat_map};
 ghost use Rattle.wasmi_arena.specs.Geometry.{size, start, max_len, IsPlace, IsFewest, fewest, slots, room, bucket_of, slot_of};
-ghost use Rattle.wasmi_arena.specs.StableVec.{bucket_at};
+ghost use Rattle.wasmi_arena.specs.StableVec.{bucket_at, filled_parts};
 
-use crate::{ArenaError, ArenaReply};
+use crate::{ArenaError, ArenaKey, ArenaReply, StableArena, StableVec};
 use std::alloc::AllocError;
 
 /// The 27 buckets, each with its number of slots and its first index.
@@ -80,6 +81,12 @@ pub fn item_is_in_its_slot<T>()
         → IsSomeAnd (bucket_at items b) (λ bucket. slice_get bucket.items s ≡ slice_get items index) }
 {}
 
+/// One after another, the items of the buckets are all items.
+pub fn slices_are_the_items<T>()
+    ensures { (items : List T) → length items ≤ max_len
+        → flat_map (λ part. part) (filled_parts items) ≡ items }
+{}
+
 /// Two refusals are equal where they are the same.
 pub fn equal_errors(a: &ArenaError, b: &ArenaError) -> bool
     ensures { IsTrue result ↔ (a.now ≡ b.now) }
@@ -101,6 +108,23 @@ pub fn equal_replies<Key: PartialEq, T: PartialEq>(
 ) -> bool
     ensures { ((x y : Key) → (IsTrue (Key.eq x y) ↔ (x ≡ y)))
         → ((x y : T) → (IsTrue (T.eq x y) ↔ (x ≡ y))) → (IsTrue result ↔ (a.now ≡ b.now)) }
+{
+    a == b
+}
+
+/// Two vectors are equal where their lists are, if two items are.
+pub fn equal_vectors<T: PartialEq>(a: &StableVec<T>, b: &StableVec<T>) -> bool
+    ensures { ((x y : T) → (IsTrue (T.eq x y) ↔ (x ≡ y))) → (IsTrue result ↔ (a.now ≡ b.now)) }
+{
+    a == b
+}
+
+/// Two arenas are equal where their lists are, if two items are.
+pub fn equal_arenas<Key: ArenaKey, T: PartialEq>(
+    a: &StableArena<Key, T>,
+    b: &StableArena<Key, T>,
+) -> bool
+    ensures { ((x y : T) → (IsTrue (T.eq x y) ↔ (x ≡ y))) → (IsTrue result ↔ (a.now ≡ b.now)) }
 {
     a == b
 }

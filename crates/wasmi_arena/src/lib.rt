@@ -24,4 +24,4 @@ pub use error::ArenaError;
 pub use key::ArenaKey;
 pub use run::{ArenaCommand, ArenaReply, run_arena};
 pub use stable_arena::{StableArena, StableArenaIter};
-pub use stable_vec::{MAX_LEN, StableVec, StableVecIter};
+pub use stable_vec::{MAX_LEN, StableVec, StableVecIter, StableVecSlices};

@@ -5,14 +5,18 @@ ghost use Rattle.std.specs.Mem.{type_size};
 ghost use Rattle.std.specs.Option.{ForSome, option_copied_mut};
 ghost use Rattle.wasmi_arena.specs.Geometry.{size, start, max_len, IsPlace, IsFewest, fewest, slots, room, bucket_of, slot_of};
 ghost use Rattle.wasmi_arena.specs.TableLend.{lends_slot};
-ghost use Rattle.wasmi_arena.specs.StableVec.{bucket_at};
+ghost use Rattle.wasmi_arena.specs.StableVec.{bucket_at, filled_parts};
 ghost use Rattle.wasmi_arena.specs.Table.{items_in, bucket_with};
 
+mod compared;
+mod grow;
 mod iter;
 mod pairs;
+mod slices;
 
 use crate::{ArenaError, Bucket, BucketTable};
 pub use iter::StableVecIter;
+pub use slices::StableVecSlices;
 use std::alloc::{Allocator, Global};
 use std::array;
 use std::marker::Model;
@@ -267,6 +271,18 @@ impl<T, A: Allocator> StableVec<T, A> {
             buckets: buckets[..self.open_buckets].iter(),
             back: nothing.iter(),
             between: self.len,
+        }
+    }
+
+    /// The items of each open bucket as a slice, in order.
+    pub fn slices(&self) -> StableVecSlices<'_, T, A>
+        ensures parts { result ≡ filled_parts self.now }
+        ensures bound { length self.now ≤ max_len }
+    {
+        let buckets = &self.table.buckets[..];
+        let open = &buckets[..self.open_buckets];
+        StableVecSlices {
+            buckets: open.iter(),
         }
     }
 

@@ -3,6 +3,8 @@ ghost use Rattle.std.specs.Prelude.{◌<◌};
 ghost use Rattle.wasmi_arena.specs.Geometry.{max_len, IsPlace};
 
 mod callers;
+mod compared;
+mod slices;
 
 use crate::{ArenaCommand, ArenaError, ArenaKey, ArenaReply, StableArena, StableVec, run_arena};
 use std::alloc::Global;

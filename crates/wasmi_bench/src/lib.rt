@@ -28,6 +28,36 @@ pub extern "C" fn wasmi_bench_vec_iter(alloc: Global, n: u64, rounds: u64) -> u6
     vec_rows::iter(alloc, n, rounds).unwrap_or(0)
 }
 
+/// Walks over the items of a vector from the last to the first.
+#[unsafe(no_mangle)]
+pub extern "C" fn wasmi_bench_vec_iter_rev(alloc: Global, n: u64, rounds: u64) -> u64 {
+    vec_rows::iter_rev(alloc, n, rounds).unwrap_or(0)
+}
+
+/// Walks over the items of a vector, slice by slice.
+#[unsafe(no_mangle)]
+pub extern "C" fn wasmi_bench_vec_slices(alloc: Global, n: u64, rounds: u64) -> u64 {
+    vec_rows::slices(alloc, n, rounds).unwrap_or(0)
+}
+
+/// Exchanges `n` pairs of items of a vector.
+#[unsafe(no_mangle)]
+pub extern "C" fn wasmi_bench_vec_swap(alloc: Global, n: u64, rounds: u64) -> u64 {
+    vec_rows::swap(alloc, n, rounds).unwrap_or(0)
+}
+
+/// Clones a vector of `n` items, and drops the clone.
+#[unsafe(no_mangle)]
+pub extern "C" fn wasmi_bench_vec_clone(alloc: Global, n: u64, rounds: u64) -> u64 {
+    vec_rows::clone(alloc, n, rounds).unwrap_or(0)
+}
+
+/// Compares two equal vectors of `n` items.
+#[unsafe(no_mangle)]
+pub extern "C" fn wasmi_bench_vec_eq(alloc: Global, n: u64, rounds: u64) -> u64 {
+    vec_rows::eq(alloc, n, rounds).unwrap_or(0)
+}
+
 /// How many slots a vector of `n` items has.
 #[unsafe(no_mangle)]
 pub extern "C" fn wasmi_bench_vec_slots(alloc: Global, n: u64) -> u64 {

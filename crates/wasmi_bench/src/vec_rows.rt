@@ -80,6 +80,101 @@ pub fn iter(alloc: Global, n: u64, rounds: u64) -> Result<u64, ArenaError> {
     Ok(sum)
 }
 
+#[inline(never)]
+fn walk_back(vec: &StableVec<u64>, before: u64) -> u64 {
+    let mut sum = before;
+    for item in vec.iter().rev() {
+        sum = sum.wrapping_add(*item);
+    }
+    sum
+}
+
+pub fn iter_rev(alloc: Global, n: u64, rounds: u64) -> Result<u64, ArenaError> {
+    let mut vec = StableVec::new(alloc);
+    fill(&mut vec, n, 1)?;
+    let mut sum = 1;
+    for _ in 0..rounds {
+        sum = walk_back(&vec, sum);
+    }
+    Ok(sum)
+}
+
+#[inline(never)]
+fn walk_slices(vec: &StableVec<u64>, before: u64) -> u64 {
+    let mut sum = before;
+    for part in vec.slices() {
+        for item in part {
+            sum = sum.wrapping_add(*item);
+        }
+    }
+    sum
+}
+
+pub fn slices(alloc: Global, n: u64, rounds: u64) -> Result<u64, ArenaError> {
+    let mut vec = StableVec::new(alloc);
+    fill(&mut vec, n, 1)?;
+    let mut sum = 1;
+    for _ in 0..rounds {
+        sum = walk_slices(&vec, sum);
+    }
+    Ok(sum)
+}
+
+// Exchanges as many pairs of items as there are items, each the next index and one that jumps about.
+#[inline(never)]
+fn swap_all(vec: &mut StableVec<u64>, n: u64) {
+    let mask = n.wrapping_sub(1);
+    let mut state: u64 = 1;
+    for i in 0..n {
+        state = state
+            .wrapping_mul(6364136223846793005)
+            .wrapping_add(1442695040888963407);
+        let _ = vec.swap(i as usize, ((state >> 32) & mask) as usize);
+    }
+}
+
+pub fn swap(alloc: Global, n: u64, rounds: u64) -> Result<u64, ArenaError> {
+    let mut vec = StableVec::new(alloc);
+    fill(&mut vec, n, 1)?;
+    for _ in 0..rounds {
+        swap_all(&mut vec, n);
+    }
+    Ok(ends(&vec))
+}
+
+// Clones a vector, and drops the clone.
+#[inline(never)]
+fn clone_once(vec: &StableVec<u64>, before: u64) -> Result<u64, ArenaError> {
+    let copy = vec.clone()?;
+    Ok(before.wrapping_add(ends(&copy)))
+}
+
+pub fn clone(alloc: Global, n: u64, rounds: u64) -> Result<u64, ArenaError> {
+    let mut vec = StableVec::new(alloc);
+    fill(&mut vec, n, 1)?;
+    let mut sum = 1;
+    for _ in 0..rounds {
+        sum = clone_once(&vec, sum)?;
+    }
+    Ok(sum)
+}
+
+#[inline(never)]
+fn is_equal(left: &StableVec<u64>, right: &StableVec<u64>, before: u64) -> u64 {
+    before.wrapping_add(if left == right { 2 } else { 1 })
+}
+
+pub fn eq(alloc: Global, n: u64, rounds: u64) -> Result<u64, ArenaError> {
+    let (mut left, mut right) = (StableVec::new(alloc), StableVec::new(alloc));
+    fill(&mut left, n, 1)?;
+    fill(&mut right, n, 1)?;
+    let mut sum = 1;
+    for _ in 0..rounds {
+        sum = is_equal(&left, &right, sum);
+    }
+    Ok(sum)
+}
+
 pub fn slots(alloc: Global, n: u64) -> Result<u64, ArenaError> {
     let mut vec = StableVec::new(alloc);
     fill(&mut vec, n, 0)?;

@@ -1,0 +1,26 @@
+-- What contracts say of calls that add several items, one by one.
+use Rattle.std.specs.Prelude.{◌≡◌, ℕ, ◌<◌, ◌≤◌, List, ◌++◌, length, Option, Some}
+use Rattle.std.specs.Iterator.{Drains, YieldsThen}
+use Rattle.wasmi_arena.specs.Geometry.{room}
+use Rattle.wasmi_arena.specs.declared.error.ArenaError.{ArenaError}
+use Rattle.wasmi_arena.specs.declared.error.ArenaError.TheVariants.{OutOfSystemMemory, KeyOutOfBounds, NotEnoughKeys, AliasingPairAccess}
+
+-- why one more item is refused by a vector or a stable arena that has n items and holds at most
+-- `limit`: it is full, or it isn't but has no room and got no memory
+abbrev pub RefusesOneMore : ℕ → ℕ → ArenaError → Type 0
+RefusesOneMore limit n NotEnoughKeys = limit ≤ n
+RefusesOneMore limit n OutOfSystemMemory = (n < limit) × (room n ≡ 0)
+RefusesOneMore limit n KeyOutOfBounds = ⊥
+RefusesOneMore limit n AliasingPairAccess = ⊥
+
+-- what is made an iterator by `becomes`, which then steps by `steps`
+module _ {U S T : Type 0} (becomes : U → S → Type 0) (steps : S → Option T → S → Type 0) where
+  -- all its items went in at the end, in order
+  abbrev pub TakesAll : U → List T → List T → Type 0
+  TakesAll iter old new = (it : S) × (xs : List T) × becomes iter it × Drains steps it xs × (new ≡ old ++ xs)
+
+  -- its items went in at the end, in order, up to one that was refused
+  abbrev pub TakesUntilRefused : ℕ → U → List T → List T → ArenaError → Type 0
+  TakesUntilRefused limit iter old new error =
+      (it : S) × (xs : List T) × (x : T) × (rest : S) × becomes iter it × YieldsThen steps it xs (Some x) rest
+      × (new ≡ old ++ xs) × RefusesOneMore limit (length new) error
