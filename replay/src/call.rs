@@ -13,8 +13,23 @@ pub enum Call {
     /// A call on the item at an index, or under the key of that number.
     Item(usize, ItemCall),
     Swap(usize, usize),
+    /// So many numbers, from the first one on.
+    Extend(i64, u16),
+    FromIter(i64, u16),
+    /// A clone, in the place of the other container.
+    Clone,
+    /// Go on with the other container.
+    Exchange,
+    /// `==`, with the other container.
+    Eq,
+    PartialCmp,
+    Cmp,
+    Hash,
+    Debug,
     /// Take items from an iterator: an `f` from the front, a `b` from the back.
     Iter(String),
+    /// Take buckets from an iterator of slices, likewise.
+    Slices(String),
     /// All items, by a `for` over a reference.
     For,
     NextKey,
@@ -62,6 +77,16 @@ impl Call {
             "index" => Call::Item(number(words)?, ItemCall::Index),
             "index_mut" => Call::Item(number(words)?, ItemCall::IndexMut(number(words)?)),
             "swap" => Call::Swap(number(words)?, number(words)?),
+            "extend" => Call::Extend(number(words)?, number(words)?),
+            "from_iter" => Call::FromIter(number(words)?, number(words)?),
+            "clone" => Call::Clone,
+            "exchange" => Call::Exchange,
+            "eq" => Call::Eq,
+            "partial_cmp" => Call::PartialCmp,
+            "cmp" => Call::Cmp,
+            "hash" => Call::Hash,
+            "debug" => Call::Debug,
+            "slices" => Call::Slices(steps(words)?),
             "iter" => Call::Iter(steps(words)?),
             "for" => Call::For,
             "next_key" => Call::NextKey,
@@ -101,6 +126,16 @@ impl fmt::Display for Call {
             Call::Item(at, ItemCall::Index) => write!(f, "index {at}"),
             Call::Item(at, ItemCall::IndexMut(item)) => write!(f, "index_mut {at} {item}"),
             Call::Swap(first, second) => write!(f, "swap {first} {second}"),
+            Call::Extend(first, count) => write!(f, "extend {first} {count}"),
+            Call::FromIter(first, count) => write!(f, "from_iter {first} {count}"),
+            Call::Clone => write!(f, "clone"),
+            Call::Exchange => write!(f, "exchange"),
+            Call::Eq => write!(f, "eq"),
+            Call::PartialCmp => write!(f, "partial_cmp"),
+            Call::Cmp => write!(f, "cmp"),
+            Call::Hash => write!(f, "hash"),
+            Call::Debug => write!(f, "debug"),
+            Call::Slices(steps) => write!(f, "slices {steps}"),
             Call::Iter(steps) => write!(f, "iter {steps}"),
             Call::For => write!(f, "for"),
             Call::NextKey => write!(f, "next_key"),

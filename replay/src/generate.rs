@@ -51,6 +51,9 @@ const BAD: [&str; 12] = [
 /// The most items of which all are written often.
 const SHORT: usize = 40;
 
+/// The most items at which a call that goes over all of them is made.
+const LONG: usize = 1000;
+
 /// After so many calls all items are written, however many there are.
 const CONTENT_EVERY: usize = 10_000;
 
@@ -65,6 +68,9 @@ pub fn generate(container: &str, seed: u64, calls: usize) -> String {
             usize::MAX
         },
         len: 0,
+        other_len: 0,
+        is_mirrored: false,
+        pending: Vec::new(),
         input: String::new(),
     };
     let mut left = calls;
@@ -89,6 +95,12 @@ struct Generator {
     most: usize,
     /// How many items there are.
     len: usize,
+    /// How many items the other container has.
+    other_len: usize,
+    /// Whether what is added to one container is added to the other one too.
+    is_mirrored: bool,
+    /// The calls that come before another one is drawn, the last one first.
+    pending: Vec<Call>,
     input: String,
 }
 
@@ -100,7 +112,9 @@ impl Generator {
             0 => self.random.below(1000),
             _ => self.random.one_of(&EDGES),
         };
-        self.len = 0;
+        (self.len, self.other_len) = (0, 0);
+        self.is_mirrored = !self.is_vec && !is_long && self.random.once_in(4);
+        self.pending.clear();
         self.line(format_args!("on {container}"));
         for done in 1..calls {
             if done % CONTENT_EVERY == 0 {
@@ -122,11 +136,14 @@ impl Generator {
 
     /// The next call. Up to the target about every second one adds an item, and few do after it.
     fn call(&mut self, target: usize) -> Call {
+        if let Some(call) = self.pending.pop() {
+            return call;
+        }
         let times = if self.len < target { 2 } else { 40 };
         if self.random.once_in(times) {
             return self.add();
         }
-        match self.random.below(21) {
+        match self.random.below(24) {
             0 => Call::Len,
             1 => Call::IsEmpty,
             2..=3 => self.item(ItemCall::Get),
@@ -152,7 +169,10 @@ impl Generator {
             17 => Call::OpenBuckets,
             18 => Call::Slots,
             19 => Call::Place(self.index()),
-            _ => Call::SizeOfBucketAt(self.bucket()),
+            20 => Call::SizeOfBucketAt(self.bucket()),
+            21 => self.several(target),
+            22 => self.beside(),
+            _ => self.compared(),
         }
     }
 
@@ -160,10 +180,13 @@ impl Generator {
         let item = self.value();
         self.len = (self.len + 1).min(self.most);
         if self.is_vec {
-            Call::Push(item)
-        } else {
-            Call::Alloc(item)
+            return Call::Push(item);
         }
+        if self.is_mirrored {
+            self.other_len = (self.other_len + 1).min(self.most);
+            self.pending = vec![Call::Eq, Call::Exchange, Call::Alloc(item), Call::Exchange];
+        }
+        Call::Alloc(item)
     }
 
     fn item(&mut self, call: ItemCall) -> Call {
@@ -180,13 +203,72 @@ impl Generator {
         Call::Swap(first, second)
     }
 
+    /// A call that takes several items, or that begins anew with them. Rarely many, and few add any after the target.
+    fn several(&mut self, target: usize) -> Call {
+        let first = self.value();
+        let count = match self.random.below(4) {
+            0 => self.random.one_of(&EDGES),
+            _ => self.random.below(9),
+        };
+        let is_new = self.random.once_in(4);
+        let grows = self.len < target || self.random.once_in(10);
+        if !self.is_vec || (is_new && self.len > LONG) || !(is_new || grows) {
+            return Call::Len;
+        }
+        let count = count as u16;
+        if is_new {
+            self.len = count.into();
+            Call::FromIter(first, count)
+        } else {
+            self.len += usize::from(count);
+            Call::Extend(first, count)
+        }
+    }
+
+    /// A call that changes the other container, or goes on with it.
+    fn beside(&mut self) -> Call {
+        if self.len.max(self.other_len) > LONG {
+            return Call::Len;
+        }
+        if self.is_vec && self.random.once_in(2) {
+            self.other_len = self.len;
+            // The clone is compared, as it is or after a write.
+            let compared = self.compared();
+            self.pending.push(compared);
+            if self.random.once_in(2) {
+                let new = self.value();
+                let write = self.item(ItemCall::GetMut(new));
+                self.pending.push(write);
+            }
+            Call::Clone
+        } else {
+            (self.len, self.other_len) = (self.other_len, self.len);
+            Call::Exchange
+        }
+    }
+
+    /// A call that compares this container with the other one, or goes over all its items.
+    fn compared(&mut self) -> Call {
+        if self.len > LONG {
+            return Call::Eq;
+        }
+        match self.random.below(if self.is_vec { 5 } else { 1 }) {
+            0 => Call::Eq,
+            1 => Call::PartialCmp,
+            2 => Call::Cmp,
+            _ => Call::Hash,
+        }
+    }
+
     /// All items, or those of a bucket. Mostly something shorter where there are many.
     fn content(&mut self) -> Call {
         if self.len > SHORT && !self.random.once_in(self.len / SHORT * 4) {
             return Call::Len;
         }
-        match self.random.below(2) {
+        match self.random.below(4) {
             0 => Call::For,
+            1 => Call::Debug,
+            2 => Call::Slices(self.steps()),
             _ => Call::Bucket(self.bucket()),
         }
     }

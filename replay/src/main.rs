@@ -126,7 +126,7 @@ fn print_row(container: &str, seed: u64, calls: usize, comparison: &Comparison) 
             "line {}, `{}`: port `{}`, Rust crate `{}`",
             first.line, first.call, first.port, first.rust_crate
         ),
-        None => String::new(),
+        None => "none".to_owned(),
     };
     println!(
         "| `{container}` | {seed} | {calls} | {} | {} | {first} |",

@@ -15,6 +15,10 @@ use Made::{By, Never};
 const TO_COME: &str = "the port has none yet (docs/DIFFERENCES.md, 'Still to come')";
 const CUT: &str = "the port has none (docs/DIFFERENCES.md, 'What was cut')";
 
+const OTHER_TEXT: &str =
+    "the port's text is another (docs/DIFFERENCES.md, '`Debug` of `StableArena`'); the driver \
+    makes that from the keys and the items";
+
 /// The calls of a type, and of its iterators.
 type Calls = &'static [(&'static str, Made)];
 
@@ -29,11 +33,15 @@ pub const STABLE_VEC: Calls = &[
     ("`get_disjoint_mut`", By(&["swap"])),
     ("`iter`, its `next`, `next_back` and `len`", By(&["iter"])),
     ("`for` over `&`", By(&["for"])),
+    ("`extend`", By(&["extend"])),
+    ("`from_iter`", By(&["from_iter"])),
+    ("`clone`", By(&["clone"])),
+    ("`==`", By(&["eq"])),
+    ("`partial_cmp`", By(&["partial_cmp"])),
+    ("`cmp`", By(&["cmp"])),
+    ("`hash`", By(&["hash"])),
+    ("`Debug`", By(&["debug"])),
     ("`iter_mut`, `for` over `&mut`", Never(TO_COME)),
-    ("`extend`, `from_iter`", Never(TO_COME)),
-    ("`clone`", Never(TO_COME)),
-    ("`==`, `partial_cmp`, `cmp`, `hash`", Never(TO_COME)),
-    ("`Debug`", Never(TO_COME)),
     ("`default`", Never(CUT)),
     ("`get_mut_ptr`", Never(CUT)),
     ("`size_hint` and `Debug` of the iterator", Never(CUT)),
@@ -52,14 +60,14 @@ pub const STABLE_ARENA: Calls = &[
     ("`arena[key] = item`", By(&["index_mut"])),
     ("`iter`, its `next`, `next_back` and `len`", By(&["iter"])),
     ("`for` over `&`", By(&["for"])),
+    ("`==`", By(&["eq"])),
     ("`into_usize`, `from_usize` of a key", By(&["alloc", "get"])),
     ("`Display` of an error", By(&["get", "swap"])),
     ("`alloc_many`", Never(TO_COME)),
     ("`iter_mut`, `for` over `&mut`", Never(TO_COME)),
     ("`from_iter`", Never(TO_COME)),
-    ("`==`", Never(TO_COME)),
-    ("`Debug`", Never(TO_COME)),
     ("`default`", Never(CUT)),
+    ("`Debug`", Never(OTHER_TEXT)),
     ("`get_mut_ptr`", Never(CUT)),
     ("`size_hint` and `Debug` of the iterator", Never(CUT)),
     ("`Send`, `Sync`", Never(CUT)),

@@ -1,6 +1,6 @@
 //! The lines of the output.
 
-use std::fmt::Display;
+use std::fmt::{Debug, Display};
 use std::io;
 use std::io::{ErrorKind, Write};
 use wasmi_arena::ArenaError;
@@ -8,6 +8,11 @@ use wasmi_arena::ArenaError;
 /// Writes what a call returned.
 pub fn value<W: Write, V: Display + Drop>(out: &mut W, value: V) -> io::Result<()> {
     writeln!(out, "{value}")
+}
+
+/// Writes the text that `Debug` gives.
+pub fn debug<W: Write, V: Debug>(out: &mut W, value: &V) -> io::Result<()> {
+    writeln!(out, "{value:?}")
 }
 
 /// Writes the value, or `none`.

@@ -12,8 +12,23 @@ pub enum Call<'a> {
     /// A call on the item at an index, or under the key of that number.
     Item(usize, ItemCall),
     Swap(usize, usize),
+    /// So many numbers, from the first one on.
+    Extend(i64, u16),
+    FromIter(i64, u16),
+    /// A clone, in the place of the other container.
+    Clone,
+    /// Go on with the other container.
+    Exchange,
+    /// `==`, with the other container.
+    Eq,
+    PartialCmp,
+    Cmp,
+    Hash,
+    Debug,
     /// Take items from an iterator: an `f` from the front, a `b` from the back.
     Iter(&'a str),
+    /// Take buckets from an iterator of slices, likewise.
+    Slices(&'a str),
     /// All items, by a `for` over a reference.
     For,
     NextKey,
@@ -65,6 +80,16 @@ impl<'a> Call<'a> {
             "index" => Call::Item(number(words)?, ItemCall::Index),
             "index_mut" => Call::Item(number(words)?, ItemCall::IndexMut(number(words)?)),
             "swap" => Call::Swap(number(words)?, number(words)?),
+            "extend" => Call::Extend(number(words)?, number(words)?),
+            "from_iter" => Call::FromIter(number(words)?, number(words)?),
+            "clone" => Call::Clone,
+            "exchange" => Call::Exchange,
+            "eq" => Call::Eq,
+            "partial_cmp" => Call::PartialCmp,
+            "cmp" => Call::Cmp,
+            "hash" => Call::Hash,
+            "debug" => Call::Debug,
+            "slices" => Call::Slices(steps(words)?),
             "iter" => Call::Iter(steps(words)?),
             "for" => Call::For,
             "next_key" => Call::NextKey,

@@ -7,7 +7,7 @@ use std::marker::Model;
 use wasmi_arena::ArenaKey;
 
 /// A key that is a number from 0 to 99.
-#[derive(Clone, Copy)]
+#[derive(Clone, Copy, Debug)]
 pub struct FewKeys(u8);
 
 impl Model for FewKeys {

@@ -3,6 +3,7 @@
 
 mod answers;
 mod call;
+mod counted;
 mod few_keys;
 mod lines;
 mod replay;

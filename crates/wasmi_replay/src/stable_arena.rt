@@ -1,24 +1,27 @@
 //! Calls on a `StableArena`.
 
-use crate::answers::{bad, result, value};
+use crate::answers::{bad, debug, result, value};
 use crate::call::{Call, ItemCall};
 use crate::replay::Container;
-use crate::stable_vec::{bucket, place, size_of_bucket_at};
+use crate::stable_vec::{bucket, place, size_of_bucket_at, slices};
 use std::alloc::Global;
+use std::fmt::Debug;
 use std::io::Write;
 use std::{io, mem};
 use wasmi_arena::{ArenaError, ArenaKey, StableArena};
 
-/// An arena of numbers at work. A line names a key by its number.
+/// An arena of numbers at work, and another one beside it. A line names a key by its number.
 #[derive(Drop)]
 pub struct ArenaReplay<Key: ArenaKey> {
     arena: StableArena<Key, i64>,
+    other: StableArena<Key, i64>,
 }
 
 impl<Key: ArenaKey> ArenaReplay<Key> {
     pub fn new(alloc: Global) -> Self {
         ArenaReplay {
             arena: StableArena::new(alloc),
+            other: StableArena::new(alloc),
         }
     }
 
@@ -55,7 +58,7 @@ impl<Key: ArenaKey> ArenaReplay<Key> {
     }
 }
 
-impl<Key: ArenaKey> Container for ArenaReplay<Key> {
+impl<Key: ArenaKey + Debug> Container for ArenaReplay<Key> {
     fn answer<W: Write>(&mut self, call: Call<'_>, out: &mut W) -> io::Result<()> {
         match call {
             Call::Len => value(out, self.arena.len()),
@@ -66,6 +69,13 @@ impl<Key: ArenaKey> Container for ArenaReplay<Key> {
                 None => value(out, "no key"),
             },
             Call::Swap(first, second) => self.swap(first, second, out),
+            Call::Exchange => {
+                mem::swap(&mut self.arena, &mut self.other);
+                value(out, "done")
+            }
+            Call::Eq => value(out, self.arena == self.other),
+            Call::Debug => debug(out, &self.arena),
+            Call::Slices(steps) => slices(self.arena.items(), steps, out),
             Call::Iter(steps) => iter(&self.arena, steps, out),
             Call::For => all(&self.arena, out),
             Call::NextKey => result(out, self.arena.next_key().map(|key| key.into_usize())),
@@ -75,7 +85,13 @@ impl<Key: ArenaKey> Container for ArenaReplay<Key> {
             Call::Bucket(number) => bucket(self.arena.items(), number, out),
             Call::Place(index) => place(index, out),
             Call::SizeOfBucketAt(number) => size_of_bucket_at(number, out),
-            Call::Push(_) => bad(out),
+            Call::Push(_)
+            | Call::Extend(_, _)
+            | Call::FromIter(_, _)
+            | Call::Clone
+            | Call::PartialCmp
+            | Call::Cmp
+            | Call::Hash => bad(out),
         }
     }
 }

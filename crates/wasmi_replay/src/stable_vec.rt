@@ -1,23 +1,29 @@
 //! Calls on a `StableVec`.
 
-use crate::answers::{bad, option, result, value};
+use crate::answers::{bad, debug, option, result, value};
 use crate::call::{Call, ItemCall};
+use crate::counted::Counted;
 use crate::replay::Container;
 use std::alloc::Global;
+use std::hash::{DefaultHasher, Hash, Hasher};
 use std::io::Write;
 use std::{io, mem};
-use wasmi_arena::{MAX_LEN, StableVec};
+use wasmi_arena::{ArenaError, MAX_LEN, StableVec};
 
-/// A vector of numbers at work.
+/// A vector of numbers at work, and another one beside it.
 #[derive(Drop)]
 pub struct VecReplay {
     vec: StableVec<i64>,
+    other: StableVec<i64>,
+    alloc: Global,
 }
 
 impl VecReplay {
     pub fn new(alloc: Global) -> Self {
         VecReplay {
             vec: StableVec::new(alloc),
+            other: StableVec::new(alloc),
+            alloc,
         }
     }
 
@@ -25,6 +31,18 @@ impl VecReplay {
     fn write(&mut self, index: usize, new: i64) -> Option<i64> {
         let item = self.vec.get_mut(index)?;
         Some(mem::replace(item, new))
+    }
+
+    // Begins anew, with these items.
+    fn collect(&mut self, items: Counted) -> Result<(), ArenaError> {
+        self.vec = StableVec::from_iter(self.alloc, items)?;
+        Ok(())
+    }
+
+    // Puts a clone in the place of the other vector.
+    fn clone(&mut self) -> Result<(), ArenaError> {
+        self.other = self.vec.clone()?;
+        Ok(())
     }
 }
 
@@ -39,6 +57,26 @@ impl Container for VecReplay {
             Call::Swap(first, second) => {
                 result(out, self.vec.swap(first, second).map(|()| "done"))
             }
+            Call::Extend(next, left) => {
+                result(
+                    out,
+                    self.vec.extend(Counted { next, left }).map(|()| "done"),
+                )
+            }
+            Call::FromIter(next, left) => {
+                result(out, self.collect(Counted { next, left }).map(|()| "done"))
+            }
+            Call::Clone => result(out, self.clone().map(|()| "done")),
+            Call::Exchange => {
+                mem::swap(&mut self.vec, &mut self.other);
+                value(out, "done")
+            }
+            Call::Eq => value(out, self.vec == self.other),
+            Call::PartialCmp => debug(out, &self.vec.partial_cmp(&self.other)),
+            Call::Cmp => debug(out, &self.vec.cmp(&self.other)),
+            Call::Hash => value(out, hash_of(&self.vec)),
+            Call::Debug => debug(out, &self.vec),
+            Call::Slices(steps) => slices(&self.vec, steps, out),
             Call::Iter(steps) => iter(&self.vec, steps, out),
             Call::For => all(&self.vec, out),
             Call::Room => value(out, self.vec.room()),
@@ -50,6 +88,13 @@ impl Container for VecReplay {
             Call::Alloc(_) | Call::Item(_, _) | Call::NextKey => bad(out),
         }
     }
+}
+
+// What the standard library's hasher makes of a vector.
+fn hash_of(vec: &StableVec<i64>) -> u64 {
+    let mut hasher = DefaultHasher::new();
+    vec.hash(&mut hasher);
+    hasher.finish()
 }
 
 // Takes items from an iterator, and then asks it how many are left.
@@ -67,6 +112,23 @@ fn iter<W: Write>(vec: &StableVec<i64>, steps: &str, out: &mut W) -> io::Result<
         }
     }
     writeln!(out, "left {}", items.len())
+}
+
+/// Takes buckets from an iterator of slices, and then asks it how many are left.
+pub fn slices<W: Write>(vec: &StableVec<i64>, steps: &str, out: &mut W) -> io::Result<()> {
+    let mut parts = vec.slices();
+    for step in steps.bytes() {
+        let part = if step == b'f' {
+            parts.next()
+        } else {
+            parts.next_back()
+        };
+        match part {
+            Some(part) => write!(out, "{part:?} ")?,
+            None => write!(out, "none ")?,
+        }
+    }
+    writeln!(out, "left {}", parts.len())
 }
 
 // Writes how many items there are, and each of them.

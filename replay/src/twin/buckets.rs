@@ -1,6 +1,7 @@
 //! Where items lie, which the Rust crate keeps private: computed from a length and from `get`, by a walk over the
 //! buckets.
 
+use std::collections::VecDeque;
 use std::io::{self, Write};
 
 /// How many buckets there can be.
@@ -60,6 +61,31 @@ pub fn write_bucket<'a>(
         write!(out, " {item}")?;
     }
     writeln!(out)
+}
+
+/// Takes buckets from both ends, each as the slice of its items, and then writes how many are left.
+pub fn write_slices<'a>(
+    len: usize,
+    steps: &str,
+    get: impl Fn(usize) -> Option<&'a i64>,
+    out: &mut impl Write,
+) -> io::Result<()> {
+    let mut parts: VecDeque<_> = open(len).collect();
+    for step in steps.chars() {
+        let part = if step == 'f' {
+            parts.pop_front()
+        } else {
+            parts.pop_back()
+        };
+        match part {
+            Some((start, size)) => {
+                let items: Vec<_> = (start..start + size).map_while(&get).collect();
+                write!(out, "{items:?} ")?;
+            }
+            None => write!(out, "none ")?,
+        }
+    }
+    writeln!(out, "left {}", parts.len())
 }
 
 /// Writes the bucket and the slot of an index, or `none` if no vector is so long.

@@ -3,7 +3,7 @@
 use wasmi_collections::arena::ArenaKey;
 
 /// A key that is a number from 0 to 99.
-#[derive(Clone, Copy)]
+#[derive(Clone, Copy, Debug)]
 pub struct FewKeys(u8);
 
 impl ArenaKey for FewKeys {

@@ -3,6 +3,7 @@
 use crate::call::{Call, ItemCall};
 use crate::twin::answers::{bad, option, result};
 use crate::twin::{buckets, Container};
+use std::fmt::{self, Debug};
 use std::io::{self, Write};
 use std::mem;
 use std::panic::{self, AssertUnwindSafe};
@@ -11,12 +12,14 @@ use wasmi_collections::arena::{ArenaError, ArenaKey, StableArena};
 /// An arena of numbers. A line names a key by its number.
 pub struct ArenaTwin<Key> {
     arena: StableArena<Key, i64>,
+    other: StableArena<Key, i64>,
 }
 
 impl<Key: ArenaKey> ArenaTwin<Key> {
     pub fn new() -> Self {
         ArenaTwin {
             arena: StableArena::new(),
+            other: StableArena::new(),
         }
     }
 
@@ -65,7 +68,7 @@ impl<Key: ArenaKey> ArenaTwin<Key> {
     }
 }
 
-impl<Key: ArenaKey> Container for ArenaTwin<Key> {
+impl<Key: ArenaKey + Debug> Container for ArenaTwin<Key> {
     fn answer(&mut self, call: Call, out: &mut impl Write) -> io::Result<()> {
         let len = self.arena.len();
         match call {
@@ -82,6 +85,16 @@ impl<Key: ArenaKey> Container for ArenaTwin<Key> {
                 }
                 _ => writeln!(out, "no key"),
             },
+            Call::Exchange => {
+                mem::swap(&mut self.arena, &mut self.other);
+                writeln!(out, "done")
+            }
+            Call::Eq => writeln!(out, "{}", self.arena == self.other),
+            Call::Debug => writeln!(out, "{:?}", AsMap(&self.arena)),
+            Call::Slices(steps) => {
+                let get = |index| self.arena.get(Key::from_usize(index)?).ok();
+                buckets::write_slices(len, &steps, get, out)
+            }
             Call::Iter(steps) => iter(&self.arena, &steps, out),
             Call::For => all(&self.arena, out),
             Call::NextKey => result(out, self.next_key().map(Key::into_usize)),
@@ -94,8 +107,24 @@ impl<Key: ArenaKey> Container for ArenaTwin<Key> {
             }
             Call::Place(index) => buckets::write_place(index, out),
             Call::SizeOfBucketAt(bucket) => option(out, buckets::size_of_bucket_at(bucket)),
-            Call::Push(_) => bad(out),
+            Call::Push(_)
+            | Call::Extend(..)
+            | Call::FromIter(..)
+            | Call::Clone
+            | Call::PartialCmp
+            | Call::Cmp
+            | Call::Hash => bad(out),
         }
+    }
+}
+
+/// The text of an arena. By docs/DIFFERENCES.md, '`Debug` of `StableArena`', the Rust crate shows the private fields,
+/// and the port a map from keys to items.
+struct AsMap<'a, Key>(&'a StableArena<Key, i64>);
+
+impl<Key: ArenaKey + Debug> Debug for AsMap<'_, Key> {
+    fn fmt(&self, f: &mut fmt::Formatter<'_>) -> fmt::Result {
+        f.debug_map().entries(self.0).finish()
     }
 }
 

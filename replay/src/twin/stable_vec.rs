@@ -1,20 +1,23 @@
 //! Calls on the Rust crate's `StableVec`.
 
 use crate::call::{Call, ItemCall};
-use crate::twin::answers::{bad, option, result};
+use crate::twin::answers::{bad, counted, option, result};
 use crate::twin::{buckets, Container};
+use std::hash::{DefaultHasher, Hash, Hasher};
 use std::io::{self, Write};
 use std::mem;
 use wasmi_collections::arena::{ArenaError, StableVec};
 
 pub struct VecTwin {
     vec: StableVec<i64>,
+    other: StableVec<i64>,
 }
 
 impl VecTwin {
     pub fn new() -> Self {
         VecTwin {
             vec: StableVec::new(),
+            other: StableVec::new(),
         }
     }
 
@@ -43,6 +46,30 @@ impl Container for VecTwin {
                 let outcome = self.swap(first, second);
                 result(out, outcome.map(|()| "done"))
             }
+            Call::Extend(first, count) => {
+                vec.extend(counted(first, count));
+                writeln!(out, "done")
+            }
+            Call::FromIter(first, count) => {
+                *vec = counted(first, count).collect();
+                writeln!(out, "done")
+            }
+            Call::Clone => {
+                self.other = vec.clone();
+                writeln!(out, "done")
+            }
+            Call::Exchange => {
+                mem::swap(vec, &mut self.other);
+                writeln!(out, "done")
+            }
+            Call::Eq => writeln!(out, "{}", *vec == self.other),
+            Call::PartialCmp => writeln!(out, "{:?}", (*vec).partial_cmp(&self.other)),
+            Call::Cmp => writeln!(out, "{:?}", (*vec).cmp(&self.other)),
+            Call::Hash => writeln!(out, "{}", hash_of(vec)),
+            Call::Debug => writeln!(out, "{vec:?}"),
+            Call::Slices(steps) => {
+                buckets::write_slices(vec.len(), &steps, |index| vec.get(index), out)
+            }
             Call::Iter(steps) => iter(vec, &steps, out),
             Call::For => all(vec, out),
             Call::Room => writeln!(out, "{}", buckets::room(vec.len())),
@@ -56,6 +83,13 @@ impl Container for VecTwin {
             Call::Alloc(_) | Call::Item(..) | Call::NextKey => bad(out),
         }
     }
+}
+
+/// What the standard library's hasher makes of a vector.
+fn hash_of(vec: &StableVec<i64>) -> u64 {
+    let mut hasher = DefaultHasher::new();
+    vec.hash(&mut hasher);
+    hasher.finish()
 }
 
 fn iter(vec: &StableVec<i64>, steps: &str, out: &mut impl Write) -> io::Result<()> {
