@@ -1,8 +1,13 @@
 -- Facts on lists that grow item after item.
-use Rattle.std.proofs.Common.{◌≡◌, ℕ, ◌<◌, ◌≤◌, List, [], ◌∷◌, ◌++◌, length, drop, refl, sym, ◌∙◌, ap, subst, arith, length-append, append-nil, append_assoc}
+use Rattle.std.proofs.Common.{◌≡◌, ℕ, ◌+◌, ◌<◌, ◌≤◌, List, [], ◌∷◌, ◌++◌, length, drop, refl, sym, ◌∙◌, ap, subst, arith, length-append, append-nil, append_assoc, Result, Ok, Err, IsOk, OnOk, IsErrOf, ◌↔◌, ◌⊎◌, inl, inr}
 use Rattle.std.proofs.Math.Seq.{drop-append_seam}
-use Rattle.std.proofs.lemmas.List.Elements.{AllZip-push, All-drop, length_all_zip}
+use Rattle.std.proofs.lemmas.List.Elements.{AllZip-push, All-nil, All-cons, All-append, All-drop, length_all_zip}
 use Rattle.std.specs.List.{All, AllZip}
+use Rattle.std.proofs.lemmas.Bool.{cases_lt}
+use Rattle.wasmi_arena.specs.Geometry.{room}
+use Rattle.wasmi_arena.specs.declared.error.ArenaError.{ArenaError}
+use Rattle.wasmi_arena.specs.declared.error.ArenaError.TheVariants.{OutOfSystemMemory, NotEnoughKeys}
+use Rattle.wasmi_arena.specs.Growth.{RefusesOneMore, AppendsMany}
 
 module _ {T : Type 0} (is_clone : T → T → Type 0) where
   -- the first of these items have their clones, and these are left
@@ -29,3 +34,39 @@ module _ {T : Type 0} (is_clone : T → T → Type 0) where
   cloned_at P items left made x so_far all =
       let rest : drop (length so_far.0) items ≡ x ∷ left = ap (drop (length so_far.0)) so_far.1 ∙ drop-append_seam so_far.0 (x ∷ left) in
       subst (All P) rest (All-drop P (length so_far.0) items all) 0 x (omega arith)
+
+-- so many items went in, and one more does
+module _ {T : Type 0} (P : T → Type 0) where
+  pub many_none : (old : List T) → AppendsMany P 0 old old
+  many_none old = ([], sym (append-nil old), refl, All-nil P)
+
+  pub many_next : (amount : ℕ) (old new : List T) (x : T) → AppendsMany P amount old new → P x → AppendsMany P (amount + 1) old (new ++ x ∷ [])
+  many_next amount old new x so_far holds = (
+    so_far.0 ++ x ∷ [],
+    rw so_far.1 (append_assoc old so_far.0 (x ∷ [])),
+    omega (arith, so_far.2, length-append so_far.0 (x ∷ [])),
+    All-append P so_far.0 (x ∷ []) so_far.3 (All-cons P x [] holds (All-nil P)),
+  )
+
+  -- as long as fewer than wanted are in
+  pub many_below : (amount wanted : ℕ) (old new : List T) → AppendsMany P amount old new → amount < wanted → length new < length old + wanted
+  many_below amount wanted old new so_far fewer = omega (arith, ap length so_far.1, so_far.2, length-append old so_far.0)
+
+pub length_push : {T : Type 0} (xs : List T) (x : T) → length (xs ++ x ∷ []) ≡ length xs + 1
+length_push xs x = length-append xs (x ∷ [])
+
+-- what holds where a call succeeds, where it does
+pub done : {T E P : Type 0} (r : Result T E) → IsOk r → OnOk r P → P
+done (Ok x) is p = p
+done (Err e) is p = cc
+
+-- why one more item is refused, by the clauses of the call that adds it
+pub refuses_one_more : {R : Type 0} (limit n : ℕ) (error : ArenaError) → (error ≡ NotEnoughKeys) ⊎ (error ≡ OutOfSystemMemory) → IsErrOf {T = R} (Err error) NotEnoughKeys ↔ (limit ≤ n)
+    → (IsErrOf {T = R} (Err error) OutOfSystemMemory → room n ≡ 0) → RefusesOneMore limit n error
+refuses_one_more limit n error errors full memory = elim errors [
+  | inl keys ↦ rw keys (full.0 (ap Err keys))
+  | inr none ↦ rw none (elim (cases_lt n limit) [
+    | inl below ↦ (below, memory (ap Err none))
+    | inr above ↦ let is = full.1 above in cc
+  ])
+]

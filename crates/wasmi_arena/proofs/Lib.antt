@@ -6,6 +6,7 @@ pub mod Entries
 pub mod FilledParts
 pub mod Compared
 pub mod Growth
+pub mod Apart
 pub mod SlotRuns
 pub mod Frame
 pub mod Sharing

@@ -1,5 +1,5 @@
 -- The steps of an arena, and its runs: what each command may be replied to, and what it leaves.
-use Rattle.std.specs.Prelude.{◌≡◌, ◌≢◌, ℕ, ◌+◌, ◌<◌, ◌≤◌, ◌↔◌, ◌⊎◌, List, [], ◌∷◌, ◌++◌, length, slice_get, slice_set, Some, IsTrue, min}
+use Rattle.std.specs.Prelude.{◌≡◌, ◌≢◌, ℕ, ◌+◌, ◌<◌, ◌≤◌, ◌↔◌, ◌⊎◌, List, [], ◌∷◌, ◌++◌, length, slice_get, slice_set, Some, IsTrue, Bool, true, false, min}
 use Rattle.std.specs.List.{swap}
 use Rattle.wasmi_arena.specs.Keys.{Keys}
 use Rattle.wasmi_arena.specs.Geometry.{max_len, room}
@@ -15,21 +15,30 @@ pub record ArenaState (T : Type 0) : Type 0 where
   pub items : List T
   pub room : ℕ
 
--- how many items a stable arena can hold: as many as there are keys, and at most `max_len`
+-- how many items an arena can hold: as many as there are keys, and at most `max_len` if it is bounded
+abbrev pub arena_limit : {K : Type 0} → Keys K → Bool → ℕ
+arena_limit keys true = min keys.count max_len
+arena_limit keys false = keys.count
+
+-- how many a stable arena can hold
 abbrev pub stable_limit : {K : Type 0} → Keys K → ℕ
-stable_limit keys = min keys.count max_len
+stable_limit keys = arena_limit keys true
 
 -- a stable arena of these items: its room follows from their number
 abbrev pub stable_state : {T : Type 0} → List T → ArenaState T
 stable_state items = record { items = items; room = room (length items) }
 
--- a stable arena may be in this state
-abbrev pub IsStableState : {T : Type 0} → ArenaState T → Type 0
-IsStableState state = state.room ≡ room (length state.items)
-
 -- the same items, and no less room
 abbrev pub ArenaUnchanged : {T : Type 0} → ArenaState T → ArenaState T → Type 0
 ArenaUnchanged old new = (new.items ≡ old.items) × (old.room ≤ new.room)
+
+-- how many of these commands put an item at the end
+abbrev pub allocs_in : {K T : Type 0} → List (ArenaCommand K T) → ℕ
+allocs_in [] = 0
+allocs_in (Alloc item ∷ commands) = allocs_in commands + 1
+allocs_in (Has key ∷ commands) = allocs_in commands
+allocs_in (Put key item ∷ commands) = allocs_in commands
+allocs_in (Swap first second ∷ commands) = allocs_in commands
 
 -- An arena has one type of keys, and holds at most `limit` items.
 module _ {K T : Type 0} (keys : Keys K) (limit : ℕ) where
@@ -100,13 +109,13 @@ module _ {K T : Type 0} (keys : Keys K) (limit : ℕ) where
   ArenaStep old (Swap first second) (HasReply found) new = ⊥
   ArenaStep old (Swap first second) (Old there) new = ⊥
 
-  -- the arena may give these replies to these commands, one step after another. Before, between and
-  -- after them it is in a state in which it may be: one of `IsState`.
-  abbrev pub ArenaRun : (ArenaState T → Type 0)
-      → ArenaState T → List (ArenaCommand K T) → List (ArenaReply K T) → ArenaState T → Type 0
-  ArenaRun IsState old [] [] new = IsState old × (new ≡ old)
-  ArenaRun IsState old (command ∷ commands) (reply ∷ replies) new =
-      IsState old × ((next : ArenaState T) × ArenaStep old command reply next
-      × ArenaRun IsState next commands replies new)
-  ArenaRun IsState old [] (reply ∷ replies) new = ⊥
-  ArenaRun IsState old (command ∷ commands) [] new = ⊥
+  -- an arena may give these replies to these commands, one step after another, from old to new.
+  -- Before, between and after them it is an arena, whose items and room `state` tells.
+  abbrev pub ArenaRun : {V : Type 0} → (V → ArenaState T)
+      → V → List (ArenaCommand K T) → List (ArenaReply K T) → V → Type 0
+  ArenaRun state old [] [] new = new ≡ old
+  ArenaRun {V} state old (command ∷ commands) (reply ∷ replies) new =
+      (next : V) × ArenaStep (state old) command reply (state next)
+      × ArenaRun state next commands replies new
+  ArenaRun state old [] (reply ∷ replies) new = ⊥
+  ArenaRun state old (command ∷ commands) [] new = ⊥

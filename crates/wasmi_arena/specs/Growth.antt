@@ -1,5 +1,6 @@
 -- What contracts say of calls that add several items, one by one.
 use Rattle.std.specs.Prelude.{◌≡◌, ℕ, ◌<◌, ◌≤◌, List, ◌++◌, length, Option, Some}
+use Rattle.std.specs.List.{All}
 use Rattle.std.specs.Iterator.{Drains, YieldsThen}
 use Rattle.wasmi_arena.specs.Geometry.{room}
 use Rattle.wasmi_arena.specs.declared.error.ArenaError.{ArenaError}
@@ -24,3 +25,7 @@ module _ {U S T : Type 0} (becomes : U → S → Type 0) (steps : S → Option T
   TakesUntilRefused limit iter old new error =
       (it : S) × (xs : List T) × (x : T) × (rest : S) × becomes iter it × YieldsThen steps it xs (Some x) rest
       × (new ≡ old ++ xs) × RefusesOneMore limit (length new) error
+
+-- so many items went in at the end, and `P` holds of each
+abbrev pub AppendsMany : {T : Type 0} → (T → Type 0) → ℕ → List T → List T → Type 0
+AppendsMany {T} P amount old new = (made : List T) × (new ≡ old ++ made) × (length made ≡ amount) × All P made

@@ -16,3 +16,4 @@ pub mod Arena
 pub mod ArenaLend
 pub mod Entries
 pub mod Growth
+pub mod Apart

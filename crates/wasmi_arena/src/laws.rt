@@ -1,10 +1,12 @@
 //! Laws: what the definitions of `specs/` tell, and what derived calls do, as contracts of functions.
-ghost use Rattle.std.specs.Prelude.{◌≡◌, ℕ, ◌+◌, ◌*◌, ◌<◌, ◌≤◌, [], ◌∷◌, List, length, map, slice_get, IsSomeAnd, IsTrue, ◌↔◌, Ok};
+ghost use Rattle.std.specs.Prelude.{◌≡◌, ℕ, ◌+◌, ◌*◌, ◌<◌, ◌≤◌, [], ◌∷◌, List, length, map, slice_get, IsSomeAnd, IsTrue, ◌↔◌, Ok, ◌≢◌, take, Some};
 ghost use Rattle.std.specs.List.{flat_map};
 ghost use Rattle.wasmi_arena.specs.Geometry.{size, start, max_len, IsPlace, IsFewest, fewest, slots, room, bucket_of, slot_of};
 ghost use Rattle.wasmi_arena.specs.StableVec.{bucket_at, filled_parts};
+ghost use Rattle.wasmi_arena.specs.Arena.{arena_limit, allocs_in, ArenaRun};
+ghost use Rattle.wasmi_arena.specs.declared.run.ArenaCommand.{ArenaCommand};
 
-use crate::{ArenaError, ArenaKey, ArenaReply, StableArena, StableVec};
+use crate::{AnyArena, ArenaError, ArenaKey, ArenaReply, StableArena, StableVec};
 use std::alloc::AllocError;
 
 /// The 27 buckets, each with its number of slots and its first index.
@@ -85,6 +87,14 @@ pub fn item_is_in_its_slot<T>()
 pub fn slices_are_the_items<T>()
     ensures { (items : List T) → length items ≤ max_len
         → flat_map (λ part. part) (filled_parts items) ≡ items }
+{}
+
+/// An arena with room r refuses none of the first r `Alloc` commands of a run for memory.
+pub fn first_allocs_have_room<Key: ArenaKey, T, S: AnyArena<Key, T>>()
+    ensures { (old : S) (commands : List (ArenaCommand Key T)) (replies : List (ArenaReply Key T)) (new : S)
+        → ArenaRun Key.keys (arena_limit Key.keys S.BOUNDED) S.state old commands replies new
+        → (i : ℕ) → allocs_in (take i commands) < (S.state old).room
+        → slice_get replies i ≢ Some (ArenaReply.Refused ArenaError.OutOfSystemMemory) }
 {}
 
 /// Two refusals are equal where they are the same.

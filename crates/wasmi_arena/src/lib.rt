@@ -2,6 +2,7 @@
 //! arena over it.
 #![tactic(auto)]
 
+mod any_arena;
 mod block;
 mod bucket;
 mod bucket_table;
@@ -14,6 +15,7 @@ mod stable_vec;
 #[cfg(test)]
 mod tests;
 
+pub use any_arena::AnyArena;
 pub use bucket::Bucket;
 // A crate above can name a bucket in a contract only if it reaches the types of its fields.
 #[doc(hidden)]

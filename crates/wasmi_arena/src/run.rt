@@ -1,8 +1,8 @@
 //! Commands to an arena, and their replies.
 ghost use Rattle.std.specs.Prelude.{◌≡◌, [], IfOk, IsOk, IsOkUnless, OnErr};
-ghost use Rattle.wasmi_arena.specs.Arena.{stable_limit, stable_state, IsStableState, ArenaStep, ArenaRun};
+ghost use Rattle.wasmi_arena.specs.Arena.{arena_limit, ArenaStep, ArenaRun};
 
-use crate::{ArenaError, ArenaKey, StableArena};
+use crate::{AnyArena, ArenaError, ArenaKey};
 use std::alloc::Allocator;
 
 /// What an arena is asked to do.
@@ -34,12 +34,12 @@ pub enum ArenaReply<Key, T> {
 }
 
 // Makes one command's call.
-fn perform<Key: ArenaKey, T: Drop, A: Allocator + Clone>(
-    arena: &mut StableArena<Key, T, A>,
+fn perform<Key: ArenaKey, T: Drop, S: AnyArena<Key, T>>(
+    arena: &mut S,
     command: ArenaCommand<Key, T>,
 ) -> ArenaReply<Key, T>
-    ensures { ArenaStep Key.keys (stable_limit Key.keys)
-        (stable_state arena.old) command result (stable_state arena.new) }
+    ensures { ArenaStep Key.keys (arena_limit Key.keys S.BOUNDED)
+        (S.state arena.old) command result (S.state arena.new) }
 {
     match command {
         ArenaCommand::Alloc(item) => match arena.alloc(item) {
@@ -63,13 +63,13 @@ fn perform<Key: ArenaKey, T: Drop, A: Allocator + Clone>(
 /// A refused command is replied to as `Refused`, and the run goes on. Memory for all replies is asked
 /// of `alloc` before the first command. Where it gives none the run fails with `OutOfSystemMemory`:
 /// no command ran, and the commands are dropped.
-pub fn run_arena<Key: ArenaKey, T: Drop, A: Allocator + Clone, B: Allocator>(
+pub fn run_arena<Key: ArenaKey, T: Drop, S: AnyArena<Key, T>, B: Allocator>(
     alloc: B,
-    arena: &mut StableArena<Key, T, A>,
+    arena: &mut S,
     commands: Vec<ArenaCommand<Key, T>, B>,
 ) -> Result<Vec<ArenaReply<Key, T>, B>, ArenaError>
-    ensures run { IfOk result (λ replies. ArenaRun Key.keys (stable_limit Key.keys) IsStableState
-        (stable_state arena.old) commands.items replies.items (stable_state arena.new)) }
+    ensures run { IfOk result (λ replies. ArenaRun Key.keys (arena_limit Key.keys S.BOUNDED) S.state
+        arena.old commands.items replies.items arena.new) }
     ensures errors { IsOkUnless result ArenaError.OutOfSystemMemory }
     ensures err { OnErr result (arena.new ≡ arena.old) }
     ensures empty { commands.items ≡ [] → IsOk result }

@@ -6,7 +6,9 @@ ghost use Rattle.wasmi_arena.specs.Geometry.{max_len, room};
 ghost use Rattle.wasmi_arena.specs.Arena.{stable_limit};
 ghost use Rattle.wasmi_arena.specs.Entries.{entries};
 
+mod any;
 mod compared;
+mod grow;
 mod iter;
 
 use crate::{ArenaError, ArenaKey, MAX_LEN, StableVec};

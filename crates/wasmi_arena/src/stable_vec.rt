@@ -9,6 +9,7 @@ ghost use Rattle.wasmi_arena.specs.StableVec.{bucket_at, filled_parts};
 ghost use Rattle.wasmi_arena.specs.Table.{items_in, bucket_with};
 
 mod compared;
+mod defaults;
 mod grow;
 mod iter;
 mod pairs;

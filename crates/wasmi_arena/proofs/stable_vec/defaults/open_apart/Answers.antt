@@ -1,0 +1,14 @@
+use Rattle.std.proofs.Common.{arith}
+use Rattle.wasmi_arena.proofs.Apart.{apart_none, apart_open, apart_part}
+use Rattle.wasmi_arena.proofs.stable_vec.defaults.open_apart.Goals as goal
+
+pub loop-bucket-init : goal.loop-bucket-init
+loop-bucket-init g c = apart_none _ _ c.requires.in_table
+
+pub loop-bucket-preserved : goal.loop-bucket-preserved
+loop-bucket-preserved g c =
+    let below = c.loop-bucket-test.true in let exist = c.requires.exist in
+    rw (c.in_ok-open.ensures.items, c.size_of_bucket_at-capacity.ensures) (apart_open _ _ _ c.loop-bucket.invariant (omega arith))
+
+pub returns-clause-open : goal.returns-clause-open
+returns-clause-open g c = apart_part _ _ _ _ _ c.loop-bucket.invariant (omega arith) c.loop-bucket-test.false

@@ -1,0 +1,107 @@
+//! Calls that add several items to a stable arena, or make one of them.
+ghost use Rattle.std.specs.Prelude.{◌≡◌, ◌+◌, ◌<◌, ◌≤◌, ◌↔◌, ◌⊎◌, List, [], length, IsOk, IfOk, OnOk, IfErr, OnErr, IsErrOf, IsOkUnless};
+ghost use Rattle.std.specs.List.{All, AllZip};
+ghost use Rattle.std.specs.Mem.{type_size};
+ghost use Rattle.std.specs.Iterator.{IsFiniteIterable};
+ghost use Rattle.wasmi_arena.specs.Geometry.{max_len, room};
+ghost use Rattle.wasmi_arena.specs.Arena.{stable_limit};
+ghost use Rattle.wasmi_arena.specs.Growth.{TakesAll, TakesUntilRefused, AppendsMany};
+
+use crate::{ArenaError, ArenaKey, MAX_LEN, StableArena};
+use std::alloc::Allocator;
+use std::marker::PhantomData;
+use std::ops::Range;
+
+impl<Key: ArenaKey, T: Drop, A: Allocator + Clone> StableArena<Key, T, A> {
+    /// Puts so many values of `T::default()` at the end, and returns their keys: those from the old
+    /// length to before the new one.
+    ///
+    /// Fails with `NotEnoughKeys` if the new length has no key or is above
+    /// [`MAX_LEN`](crate::MAX_LEN), and then with `OutOfSystemMemory` if buckets must be opened, which
+    /// is only where `amount` is above [`room`](StableArena::room), and there is no memory for them.
+    /// After an error the arena is as before: the buckets are opened before a value is added, and those
+    /// that were opened are closed.
+    pub fn alloc_many(&mut self, amount: usize) -> Result<Range<Key>, ArenaError>
+    where
+        T: Default,
+        ensures keys { IfOk result (λ keys. (keys.start ≡ Key.keys.key (length self.old))
+            × (keys.end ≡ Key.keys.key (length self.old + amount))) }
+        ensures ok { OnOk result (AppendsMany T.is_default amount self.old self.new) }
+        ensures no_key { IsErrOf result ArenaError.NotEnoughKeys
+            ↔ ((Key.keys.count ≤ length self.old + amount) ⊎ (max_len < length self.old + amount)) }
+        ensures memory { IsErrOf result ArenaError.OutOfSystemMemory → room (length self.old) < amount }
+        ensures errors { IfErr result (λ error. (error ≡ ArenaError.NotEnoughKeys)
+            ⊎ (error ≡ ArenaError.OutOfSystemMemory)) }
+        ensures with_room { length self.old + amount < Key.keys.count → amount ≤ room (length self.old)
+            → IsOk result }
+        ensures without_size { length self.old + amount < Key.keys.count → length self.old + amount ≤ max_len
+            → type_size T.row ≡ 0 → ((a : A) → A.is_infallible a) → IsOk result }
+        ensures err { OnErr result (self.new ≡ self.old) }
+    {
+        let len = self.len();
+        if amount > MAX_LEN - len {
+            return Err(ArenaError::NotEnoughKeys);
+        }
+        let start = Key::from_usize(len).ok_or(ArenaError::NotEnoughKeys)?;
+        let end = Key::from_usize(len + amount).ok_or(ArenaError::NotEnoughKeys)?;
+        self.items.push_defaults(amount)?;
+        Ok(start..end)
+    }
+
+    /// The items, put one by one into an empty arena.
+    ///
+    /// Fails as the first [`alloc`](StableArena::alloc) that fails, and then drops all items.
+    pub fn from_iter<U: IntoIterator<Item = T>>(alloc: A, iter: U) -> Result<Self, ArenaError>
+        requires { IsFiniteIterable U.into_iter_gives U.IntoIter.can_next U.IntoIter.remaining iter }
+        ensures ok { IfOk result (TakesAll U.into_iter_gives U.IntoIter.next_gives iter []) }
+        ensures err { IfErr result (λ error. (held : List T) × TakesUntilRefused U.into_iter_gives
+            U.IntoIter.next_gives (stable_limit Key.keys) iter [] held error) }
+        ensures without_size { type_size T.row ≡ 0 → ((a : A) → A.is_infallible a)
+            → IsOkUnless result ArenaError.NotEnoughKeys }
+    {
+        let mut arena = StableArena::new(alloc);
+        for item in iter {
+            arena.alloc(item)?;
+        }
+        Ok(arena)
+    }
+}
+
+impl<Key: ArenaKey, T: Clone, A: Allocator> StableArena<Key, T, A> {
+    /// A clone of each item, under its key, in an arena over a clone of the allocator.
+    ///
+    /// Fails with `OutOfSystemMemory` if there is no memory for a bucket, or the clone of an item or of
+    /// the allocator fails.
+    pub fn clone(&self) -> Result<Self, ArenaError>
+    where
+        A: Clone,
+        ensures items { IfOk result (AllZip T.is_clone self.now) }
+        ensures errors { IsOkUnless result ArenaError.OutOfSystemMemory }
+        ensures without_size { type_size T.row ≡ 0 → All T.is_infallible self.now
+            → ((a : A) → A.is_infallible a) → IsOk result }
+    {
+        Ok(StableArena {
+            items: self.items.clone()?,
+            keys: PhantomData,
+        })
+    }
+
+    /// A clone of each item, under its key, in an arena over `alloc`.
+    ///
+    /// Fails with `OutOfSystemMemory` if there is no memory for a bucket, or the clone of an item or of
+    /// the allocator fails.
+    pub fn clone_in<B: Allocator + Clone>(
+        &self,
+        alloc: B,
+    ) -> Result<StableArena<Key, T, B>, ArenaError>
+        ensures items { IfOk result (AllZip T.is_clone self.now) }
+        ensures errors { IsOkUnless result ArenaError.OutOfSystemMemory }
+        ensures without_size { type_size T.row ≡ 0 → All T.is_infallible self.now
+            → ((b : B) → B.is_infallible b) → IsOk result }
+    {
+        Ok(StableArena {
+            items: self.items.clone_in(alloc)?,
+            keys: PhantomData,
+        })
+    }
+}
