@@ -10,6 +10,7 @@ pub enum Call {
     IsEmpty,
     Push(i64),
     Alloc(i64),
+    AllocMany(u16),
     /// A call on the item at an index, or under the key of that number.
     Item(usize, ItemCall),
     Swap(usize, usize),
@@ -18,6 +19,8 @@ pub enum Call {
     FromIter(i64, u16),
     /// A clone, in the place of the other container.
     Clone,
+    /// The same, by the call that takes the allocator.
+    CloneIn,
     /// Go on with the other container.
     Exchange,
     /// `==`, with the other container.
@@ -70,6 +73,7 @@ impl Call {
             "is_empty" => Call::IsEmpty,
             "push" => Call::Push(number(words)?),
             "alloc" => Call::Alloc(number(words)?),
+            "alloc_many" => Call::AllocMany(number(words)?),
             "get" => Call::Item(number(words)?, ItemCall::Get),
             "get_mut" => Call::Item(number(words)?, ItemCall::GetMut(number(words)?)),
             "put" => Call::Item(number(words)?, ItemCall::Put(number(words)?)),
@@ -80,6 +84,7 @@ impl Call {
             "extend" => Call::Extend(number(words)?, number(words)?),
             "from_iter" => Call::FromIter(number(words)?, number(words)?),
             "clone" => Call::Clone,
+            "clone_in" => Call::CloneIn,
             "exchange" => Call::Exchange,
             "eq" => Call::Eq,
             "partial_cmp" => Call::PartialCmp,
@@ -119,6 +124,7 @@ impl fmt::Display for Call {
             Call::IsEmpty => write!(f, "is_empty"),
             Call::Push(item) => write!(f, "push {item}"),
             Call::Alloc(item) => write!(f, "alloc {item}"),
+            Call::AllocMany(count) => write!(f, "alloc_many {count}"),
             Call::Item(at, ItemCall::Get) => write!(f, "get {at}"),
             Call::Item(at, ItemCall::GetMut(item)) => write!(f, "get_mut {at} {item}"),
             Call::Item(at, ItemCall::Put(item)) => write!(f, "put {at} {item}"),
@@ -129,6 +135,7 @@ impl fmt::Display for Call {
             Call::Extend(first, count) => write!(f, "extend {first} {count}"),
             Call::FromIter(first, count) => write!(f, "from_iter {first} {count}"),
             Call::Clone => write!(f, "clone"),
+            Call::CloneIn => write!(f, "clone_in"),
             Call::Exchange => write!(f, "exchange"),
             Call::Eq => write!(f, "eq"),
             Call::PartialCmp => write!(f, "partial_cmp"),

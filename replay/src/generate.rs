@@ -59,6 +59,11 @@ const CONTENT_EVERY: usize = 10_000;
 
 /// So many lines of calls on a container, the first of which names it.
 pub fn generate(container: &str, seed: u64, calls: usize) -> String {
+    // Another run for each container.
+    let place = CONTAINERS.iter().position(|name| *name == container);
+    let seed = seed
+        .wrapping_mul(1000)
+        .wrapping_add(place.unwrap_or(CONTAINERS.len()) as u64);
     let mut generator = Generator {
         random: Random::new(seed),
         is_vec: container == "stable_vec",
@@ -69,7 +74,6 @@ pub fn generate(container: &str, seed: u64, calls: usize) -> String {
         },
         len: 0,
         other_len: 0,
-        is_mirrored: false,
         pending: Vec::new(),
         input: String::new(),
     };
@@ -97,8 +101,6 @@ struct Generator {
     len: usize,
     /// How many items the other container has.
     other_len: usize,
-    /// Whether what is added to one container is added to the other one too.
-    is_mirrored: bool,
     /// The calls that come before another one is drawn, the last one first.
     pending: Vec<Call>,
     input: String,
@@ -112,8 +114,8 @@ impl Generator {
             0 => self.random.below(1000),
             _ => self.random.one_of(&EDGES),
         };
+        let target = target.min(self.most);
         (self.len, self.other_len) = (0, 0);
-        self.is_mirrored = !self.is_vec && !is_long && self.random.once_in(4);
         self.pending.clear();
         self.line(format_args!("on {container}"));
         for done in 1..calls {
@@ -146,24 +148,11 @@ impl Generator {
         match self.random.below(24) {
             0 => Call::Len,
             1 => Call::IsEmpty,
-            2..=3 => self.item(ItemCall::Get),
-            4..=5 => {
-                let new = self.value();
-                self.item(ItemCall::GetMut(new))
-            }
-            6 => {
-                let new = self.value();
-                self.item(ItemCall::Put(new))
-            }
-            7 => self.item(ItemCall::Has),
-            8 => self.item(ItemCall::Index),
-            9 => {
-                let new = self.value();
-                self.item(ItemCall::IndexMut(new))
-            }
+            2..=9 => self.item(),
             10..=11 => self.swap(),
             12..=13 => Call::Iter(self.steps()),
             14 => self.content(),
+            15 if self.is_vec => Call::Len,
             15 => Call::NextKey,
             16 => Call::Room,
             17 => Call::OpenBuckets,
@@ -180,16 +169,22 @@ impl Generator {
         let item = self.value();
         self.len = (self.len + 1).min(self.most);
         if self.is_vec {
-            return Call::Push(item);
+            Call::Push(item)
+        } else {
+            Call::Alloc(item)
         }
-        if self.is_mirrored {
-            self.other_len = (self.other_len + 1).min(self.most);
-            self.pending = vec![Call::Eq, Call::Exchange, Call::Alloc(item), Call::Exchange];
-        }
-        Call::Alloc(item)
     }
 
-    fn item(&mut self, call: ItemCall) -> Call {
+    fn item(&mut self) -> Call {
+        let new = self.value();
+        let call = match self.random.below(if self.is_vec { 4 } else { 8 }) {
+            0..=1 => ItemCall::Get,
+            2..=3 => ItemCall::GetMut(new),
+            4 => ItemCall::Put(new),
+            5 => ItemCall::Has,
+            6 => ItemCall::Index,
+            _ => ItemCall::IndexMut(new),
+        };
         Call::Item(self.index(), call)
     }
 
@@ -212,16 +207,25 @@ impl Generator {
         };
         let is_new = self.random.once_in(4);
         let grows = self.len < target || self.random.once_in(10);
-        if !self.is_vec || (is_new && self.len > LONG) || !(is_new || grows) {
+        if (is_new && self.len > LONG) || !(is_new || grows) {
             return Call::Len;
         }
-        let count = count as u16;
+        let items = count as u16;
         if is_new {
-            self.len = count.into();
-            Call::FromIter(first, count)
+            // After an error the items are as before.
+            if count <= self.most {
+                self.len = count;
+            }
+            Call::FromIter(first, items)
+        } else if self.is_vec {
+            self.len += count;
+            Call::Extend(first, items)
         } else {
-            self.len += usize::from(count);
-            Call::Extend(first, count)
+            // The key after the last item must be one, too.
+            if self.len + count < self.most {
+                self.len += count;
+            }
+            Call::AllocMany(items)
         }
     }
 
@@ -230,17 +234,16 @@ impl Generator {
         if self.len.max(self.other_len) > LONG {
             return Call::Len;
         }
-        if self.is_vec && self.random.once_in(2) {
+        if self.random.once_in(2) {
             self.other_len = self.len;
             // The clone is compared, as it is or after a write.
             let compared = self.compared();
             self.pending.push(compared);
             if self.random.once_in(2) {
-                let new = self.value();
-                let write = self.item(ItemCall::GetMut(new));
+                let write = Call::Item(self.index(), ItemCall::GetMut(self.value()));
                 self.pending.push(write);
             }
-            Call::Clone
+            self.random.one_of(&[Call::Clone, Call::CloneIn])
         } else {
             (self.len, self.other_len) = (self.other_len, self.len);
             Call::Exchange

@@ -30,8 +30,15 @@ pub fn result<W: Write, V: Display + Drop>(
 ) -> io::Result<()> {
     match outcome {
         Ok(found) => value(out, found),
-        Err(ArenaError::OutOfSystemMemory) => Err(ErrorKind::OutOfMemory.into()),
-        Err(error) => writeln!(out, "error {error}"),
+        Err(error) => refusal(out, error),
+    }
+}
+
+/// Writes `error` and the text of the error. Running out of memory ends the replay.
+pub fn refusal<W: Write>(out: &mut W, error: ArenaError) -> io::Result<()> {
+    match error {
+        ArenaError::OutOfSystemMemory => Err(ErrorKind::OutOfMemory.into()),
+        error => writeln!(out, "error {error}"),
     }
 }
 

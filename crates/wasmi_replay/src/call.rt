@@ -9,6 +9,7 @@ pub enum Call<'a> {
     IsEmpty,
     Push(i64),
     Alloc(i64),
+    AllocMany(u16),
     /// A call on the item at an index, or under the key of that number.
     Item(usize, ItemCall),
     Swap(usize, usize),
@@ -17,6 +18,8 @@ pub enum Call<'a> {
     FromIter(i64, u16),
     /// A clone, in the place of the other container.
     Clone,
+    /// The same, by the call that takes the allocator.
+    CloneIn,
     /// Go on with the other container.
     Exchange,
     /// `==`, with the other container.
@@ -73,6 +76,7 @@ impl<'a> Call<'a> {
             "is_empty" => Call::IsEmpty,
             "push" => Call::Push(number(words)?),
             "alloc" => Call::Alloc(number(words)?),
+            "alloc_many" => Call::AllocMany(number(words)?),
             "get" => Call::Item(number(words)?, ItemCall::Get),
             "get_mut" => Call::Item(number(words)?, ItemCall::GetMut(number(words)?)),
             "put" => Call::Item(number(words)?, ItemCall::Put(number(words)?)),
@@ -83,6 +87,7 @@ impl<'a> Call<'a> {
             "extend" => Call::Extend(number(words)?, number(words)?),
             "from_iter" => Call::FromIter(number(words)?, number(words)?),
             "clone" => Call::Clone,
+            "clone_in" => Call::CloneIn,
             "exchange" => Call::Exchange,
             "eq" => Call::Eq,
             "partial_cmp" => Call::PartialCmp,

@@ -20,7 +20,7 @@ pub trait Container {
 /// Makes the calls of the input on the containers that it names, and writes one line for each of its
 /// lines.
 ///
-/// Fails where a read or a write fails, or memory runs out. It holds one container and the longest line.
+/// Fails where a read or a write fails, or memory runs out. It holds two containers and the longest line.
 pub fn run<R: Read + Drop, W: Write + Drop>(alloc: Global, reader: R, writer: W) -> io::Result<()> {
     let mut lines = Lines::new(alloc, reader)?;
     let mut out = BufWriter::new(alloc, writer)?;

@@ -1,12 +1,14 @@
 //! Calls on a `StableArena`.
 
-use crate::answers::{bad, debug, result, value};
+use crate::answers::{bad, debug, refusal, result, value};
 use crate::call::{Call, ItemCall};
+use crate::counted::Counted;
 use crate::replay::Container;
 use crate::stable_vec::{bucket, place, size_of_bucket_at, slices};
 use std::alloc::Global;
 use std::fmt::Debug;
 use std::io::Write;
+use std::ops::Range;
 use std::{io, mem};
 use wasmi_arena::{ArenaError, ArenaKey, StableArena};
 
@@ -15,6 +17,7 @@ use wasmi_arena::{ArenaError, ArenaKey, StableArena};
 pub struct ArenaReplay<Key: ArenaKey> {
     arena: StableArena<Key, i64>,
     other: StableArena<Key, i64>,
+    alloc: Global,
 }
 
 impl<Key: ArenaKey> ArenaReplay<Key> {
@@ -22,6 +25,7 @@ impl<Key: ArenaKey> ArenaReplay<Key> {
         ArenaReplay {
             arena: StableArena::new(alloc),
             other: StableArena::new(alloc),
+            alloc,
         }
     }
 
@@ -29,6 +33,24 @@ impl<Key: ArenaKey> ArenaReplay<Key> {
     fn write(&mut self, key: Key, new: i64) -> Result<i64, ArenaError> {
         let item = self.arena.get_mut(key)?;
         Ok(mem::replace(item, new))
+    }
+
+    // Begins anew, with these items.
+    fn collect(&mut self, items: Counted) -> Result<(), ArenaError> {
+        self.arena = StableArena::from_iter(self.alloc, items)?;
+        Ok(())
+    }
+
+    // Puts a clone in the place of the other arena.
+    fn keep_clone(&mut self) -> Result<(), ArenaError> {
+        self.other = self.arena.clone()?;
+        Ok(())
+    }
+
+    // The same, by the call that takes the allocator.
+    fn keep_clone_in(&mut self) -> Result<(), ArenaError> {
+        self.other = self.arena.clone_in(self.alloc)?;
+        Ok(())
     }
 
     // Makes a call on the item under a key.
@@ -64,6 +86,17 @@ impl<Key: ArenaKey + Debug> Container for ArenaReplay<Key> {
             Call::Len => value(out, self.arena.len()),
             Call::IsEmpty => value(out, self.arena.is_empty()),
             Call::Alloc(item) => { result(out, self.arena.alloc(item).map(|key| key.into_usize())) }
+            Call::AllocMany(count) => match self.arena.alloc_many(usize::from(count)) {
+                Ok(Range { start, end }) => {
+                    writeln!(out, "{} {}", start.into_usize(), end.into_usize())
+                }
+                Err(error) => refusal(out, error),
+            },
+            Call::FromIter(next, left) => {
+                result(out, self.collect(Counted { next, left }).map(|()| "done"))
+            }
+            Call::Clone => result(out, self.keep_clone().map(|()| "done")),
+            Call::CloneIn => result(out, self.keep_clone_in().map(|()| "done")),
             Call::Item(number, call) => match Key::from_usize(number) {
                 Some(key) => self.answer_item(key, call, out),
                 None => value(out, "no key"),
@@ -85,13 +118,9 @@ impl<Key: ArenaKey + Debug> Container for ArenaReplay<Key> {
             Call::Bucket(number) => bucket(self.arena.items(), number, out),
             Call::Place(index) => place(index, out),
             Call::SizeOfBucketAt(number) => size_of_bucket_at(number, out),
-            Call::Push(_)
-            | Call::Extend(_, _)
-            | Call::FromIter(_, _)
-            | Call::Clone
-            | Call::PartialCmp
-            | Call::Cmp
-            | Call::Hash => bad(out),
+            Call::Push(_) | Call::Extend(_, _) | Call::PartialCmp | Call::Cmp | Call::Hash => bad(
+                out,
+            ),
         }
     }
 }

@@ -40,8 +40,14 @@ impl VecReplay {
     }
 
     // Puts a clone in the place of the other vector.
-    fn clone(&mut self) -> Result<(), ArenaError> {
+    fn keep_clone(&mut self) -> Result<(), ArenaError> {
         self.other = self.vec.clone()?;
+        Ok(())
+    }
+
+    // The same, by the call that takes the allocator.
+    fn keep_clone_in(&mut self) -> Result<(), ArenaError> {
+        self.other = self.vec.clone_in(self.alloc)?;
         Ok(())
     }
 }
@@ -66,7 +72,8 @@ impl Container for VecReplay {
             Call::FromIter(next, left) => {
                 result(out, self.collect(Counted { next, left }).map(|()| "done"))
             }
-            Call::Clone => result(out, self.clone().map(|()| "done")),
+            Call::Clone => result(out, self.keep_clone().map(|()| "done")),
+            Call::CloneIn => result(out, self.keep_clone_in().map(|()| "done")),
             Call::Exchange => {
                 mem::swap(&mut self.vec, &mut self.other);
                 value(out, "done")
@@ -85,7 +92,7 @@ impl Container for VecReplay {
             Call::Bucket(number) => bucket(&self.vec, number, out),
             Call::Place(index) => place(index, out),
             Call::SizeOfBucketAt(number) => size_of_bucket_at(number, out),
-            Call::Alloc(_) | Call::Item(_, _) | Call::NextKey => bad(out),
+            Call::Alloc(_) | Call::AllocMany(_) | Call::Item(_, _) | Call::NextKey => bad(out),
         }
     }
 }

@@ -21,7 +21,7 @@ pub fn result(out: &mut impl Write, outcome: Result<impl Display, ArenaError>) -
 }
 
 /// The items of a call that takes several: so many numbers, each one more than the one before.
-pub fn counted(first: i64, count: u16) -> impl Iterator<Item = i64> {
+pub fn counted(first: i64, count: u16) -> impl ExactSizeIterator<Item = i64> {
     (0..count).map(move |step| first.wrapping_add(step.into()))
 }
 

@@ -1,11 +1,12 @@
 //! Calls on the Rust crate's `StableArena`.
 
 use crate::call::{Call, ItemCall};
-use crate::twin::answers::{bad, option, result};
+use crate::twin::answers::{bad, counted, option, result};
 use crate::twin::{buckets, Container};
 use std::fmt::{self, Debug};
 use std::io::{self, Write};
 use std::mem;
+use std::ops::Range;
 use std::panic::{self, AssertUnwindSafe};
 use wasmi_collections::arena::{ArenaError, ArenaKey, StableArena};
 
@@ -50,6 +51,27 @@ impl<Key: ArenaKey> ArenaTwin<Key> {
         Ok(())
     }
 
+    /// By docs/DIFFERENCES.md, `StableArena::alloc_many`: after an error the port's arena is as before. Here the items
+    /// are in, so the arena is made anew from those before them.
+    fn alloc_many(&mut self, amount: usize) -> Result<Range<Key>, ArenaError> {
+        let len = self.arena.len();
+        let outcome = self.arena.alloc_many(amount);
+        if outcome.is_err() {
+            self.arena = items(&self.arena).take(len).collect();
+        }
+        outcome
+    }
+
+    /// By docs/DIFFERENCES.md, `StableArena::from_iter`: the port fails where an item gets no key. Here no key is
+    /// asked for.
+    fn collect(&mut self, items: impl ExactSizeIterator<Item = i64>) -> Result<(), ArenaError> {
+        if let Some(last) = items.len().checked_sub(1) {
+            Key::from_usize(last).ok_or(ArenaError::NotEnoughKeys)?;
+        }
+        self.arena = items.collect();
+        Ok(())
+    }
+
     fn answer_item(&mut self, key: Key, call: ItemCall, out: &mut impl Write) -> io::Result<()> {
         match call {
             ItemCall::Get => result(out, self.arena.get(key)),
@@ -75,6 +97,21 @@ impl<Key: ArenaKey + Debug> Container for ArenaTwin<Key> {
             Call::Len => writeln!(out, "{len}"),
             Call::IsEmpty => writeln!(out, "{}", self.arena.is_empty()),
             Call::Alloc(item) => result(out, self.arena.alloc(item).map(Key::into_usize)),
+            Call::AllocMany(count) => {
+                let keys = self.alloc_many(count.into());
+                let numbers = |Range { start, end }: Range<Key>| {
+                    format!("{} {}", start.into_usize(), end.into_usize())
+                };
+                result(out, keys.map(numbers))
+            }
+            Call::FromIter(first, count) => {
+                result(out, self.collect(counted(first, count)).map(|()| "done"))
+            }
+            // The port alone has these calls.
+            Call::Clone | Call::CloneIn => {
+                self.other = items(&self.arena).collect();
+                writeln!(out, "done")
+            }
             Call::Item(number, call) => match Key::from_usize(number) {
                 Some(key) => self.answer_item(key, call, out),
                 None => writeln!(out, "no key"),
@@ -107,15 +144,15 @@ impl<Key: ArenaKey + Debug> Container for ArenaTwin<Key> {
             }
             Call::Place(index) => buckets::write_place(index, out),
             Call::SizeOfBucketAt(bucket) => option(out, buckets::size_of_bucket_at(bucket)),
-            Call::Push(_)
-            | Call::Extend(..)
-            | Call::FromIter(..)
-            | Call::Clone
-            | Call::PartialCmp
-            | Call::Cmp
-            | Call::Hash => bad(out),
+            Call::Push(_) | Call::Extend(..) | Call::PartialCmp | Call::Cmp | Call::Hash => {
+                bad(out)
+            }
         }
     }
+}
+
+fn items<Key: ArenaKey>(arena: &StableArena<Key, i64>) -> impl Iterator<Item = i64> + '_ {
+    arena.iter().map(|(_, item)| *item)
 }
 
 /// The text of an arena. By docs/DIFFERENCES.md, '`Debug` of `StableArena`', the Rust crate shows the private fields,

@@ -54,7 +54,8 @@ impl Container for VecTwin {
                 *vec = counted(first, count).collect();
                 writeln!(out, "done")
             }
-            Call::Clone => {
+            // The port alone has the second one.
+            Call::Clone | Call::CloneIn => {
                 self.other = vec.clone();
                 writeln!(out, "done")
             }
@@ -80,7 +81,7 @@ impl Container for VecTwin {
             }
             Call::Place(index) => buckets::write_place(index, out),
             Call::SizeOfBucketAt(bucket) => option(out, buckets::size_of_bucket_at(bucket)),
-            Call::Alloc(_) | Call::Item(..) | Call::NextKey => bad(out),
+            Call::Alloc(_) | Call::AllocMany(_) | Call::Item(..) | Call::NextKey => bad(out),
         }
     }
 }
