@@ -1,6 +1,7 @@
 -- What the fields of a stable vector tell, once they agree.
 use Rattle.std.proofs.Common.{◌≡◌, ◌≢◌, ℕ, ◌+◌, ◌-◌, ◌*◌, ◌^◌, ◌<◌, ◌≤◌, List, [], ◌∷◌, ◌++◌, length, take, drop, get_or, set, Option, Some, None, cond, refl, sym, ◌∙◌, ap, subst, inl, inr, arith, lit<, length-append, append-nil, length-drop, slice_get, IsSome, IsSomeAnd}
 use Rattle.std.proofs.lemmas.Bool.{cases_lt, lt-ltb, le-ltb}
+use Rattle.std.proofs.Math.Nat.{lt_of_lt_of_le}
 use Rattle.std.proofs.Math.ListN.{length-set, drop_of_length-le}
 use Rattle.std.proofs.lemmas.List.{set_comm, get_or_default, take_all, length-take, get_or-take, get_or-drop}
 use Rattle.std.proofs.lemmas.Option.{slice_get-get_or, slice_get_cases, get_or_from_slice_get}
@@ -91,6 +92,22 @@ module _ {T : Type 0} where
 
     pub slots-le_max : slots ≤ max_len
     slots-le_max = rw v.slots_counted (start_mono open_buckets 27 open-le_27)
+
+    pub len-fits : len + 1 < 2 ^ 64
+    len-fits = let few = v.few_items in omega arith
+
+    pub open-fits : open_buckets + 1 < 2 ^ 64
+    open-fits = let few = open-le_27 in omega arith
+
+    -- a vector with a free slot isn't full
+    pub free-lt_max : len < slots → length (items_of buckets) < max_len
+    free-lt_max free = rw (← v.items_counted) (lt_of_lt_of_le free slots-le_max)
+
+    pub other-lt_max : len ≢ max_len → length (items_of buckets) < max_len
+    other-lt_max other = let few = v.few_items in omega (arith, v.items_counted)
+
+    pub max-le_length : len ≡ max_len → max_len ≤ length (items_of buckets)
+    max-le_length full = omega (arith, v.items_counted)
 
     -- the open buckets
     pub IsTable-open : IsTable 32 (items_of buckets) (take (fewest len) buckets)
@@ -207,6 +224,9 @@ module _ {T : Type 0} where
     module _ (full : slots ≤ len) where
       pub room-full : room (length (items_of buckets)) ≡ 0
       room-full = omega (arith, v.items_counted, v.slots_counted, ap start open-fewest)
+
+      pub no_room : 0 < room (length (items_of buckets)) → ⊥
+      no_room some = let none = room-full in omega arith
 
       -- so the next item goes to the first slot of the next bucket
       module _ (other : len ≢ max_len) where

@@ -7,6 +7,7 @@ pub mod FilledParts
 pub mod Compared
 pub mod Growth
 pub mod Apart
+pub mod Passed
 pub mod SlotRuns
 pub mod Frame
 pub mod Sharing

@@ -5,9 +5,9 @@ use Rattle.std.proofs.Math.ListN.{drop_of_length-le}
 use Rattle.std.proofs.Math.Seq.{drop-nil, take-set-lt}
 use Rattle.std.proofs.lemmas.Nat.{pow_pos}
 use Rattle.std.proofs.lemmas.List.{nil_from_length, take_all, take-append-drop, take-append-le, drop-append-le, drop-drop, length-take, length-set, take-set-le, drop-set-lt, drop-set-add, get_or_append_left, get_or-append_right, get_or-set_same, set-append_left, set-append_right, set-set}
-use Rattle.std.specs.Iterator.{YieldsLastRef, MakesProgress, item_count}
+use Rattle.std.specs.Iterator.{YieldsFirstRef, YieldsLastRef, MakesProgress, item_count}
 use Rattle.std.specs.Borrow.{Bor}
-use Rattle.std.specs.Slice.Iter.{iter_rest, iter_steps_back}
+use Rattle.std.specs.Slice.Iter.{iter_rest, iter_steps, iter_steps_back}
 use Rattle.std.specs.declared.slice.Iter.{Iter}
 use Rattle.wasmi_arena.specs.Bucket.{Bucket}
 use Rattle.wasmi_arena.specs.Table.{items_of, bucket_with, with_item, write, bucket_from, IsTable, AreFilled, IsAhead}
@@ -193,6 +193,53 @@ module _ {T : Type 0} where
       pub last_yields : length back ≡ 0 → YieldsLastRef (λ (xs : List T). xs) (front ++ items_of buckets ++ back) r (front ++ items_of rest ++ iter_rest t)
       last_yields none = yields_by r steps none
 
+  -- what is ahead of an iterator, where nothing is left of the first bucket and the next one is entered
+  module _ (front back : List T) (buckets rest : List (Option (Bucket T))) (found : Option (Bucket T)) (bucket : Bucket T) (between : ℕ) (it : IsAhead front buckets back between) (first : buckets ≡ found ∷ rest) (is : Some bucket ≡ found) where
+    entered : buckets ≡ Some bucket ∷ rest
+    entered = first ∙ ap (λ (b : Option (Bucket T)). b ∷ rest) (sym is)
+
+    first_filled : (0 < length bucket.items) × AreFilled rest
+    first_filled = rw entered at it.filled
+
+    pub first_counted : between ≡ length bucket.items + length (items_of rest)
+    first_counted = it.counted ∙ (ap (λ (bs : List (Option (Bucket T))). length (items_of bs)) entered ∙ length-append bucket.items (items_of rest))
+
+    pub first_ahead : (left : List T) (count : ℕ) → count ≡ length bucket.items → length left ≤ count → IsAhead left rest back (between - count)
+    first_ahead left count counted few = let c = first_counted in let most = it.few in record { filled = first_filled.1; counted = omega arith; few = omega arith }
+
+    first_items : length front ≡ 0 → (left : List T) (x : T) → bucket.items ≡ x ∷ left → front ++ items_of buckets ++ back ≡ x ∷ (left ++ items_of rest ++ back)
+    first_items none left x are = rw (nil_from_length front none) (ap (λ (xs : List T). xs ++ back) (ap items_of entered ∙ ap (λ (xs : List T). xs ++ items_of rest) are))
+
+    -- the bucket is entered and called from the front
+    module _ (s t : Iter T) (r : Option (Bor T)) (whole : iter_rest s ≡ bucket.items) (steps : iter_steps s r t) where
+      enters_by : (r : Option (Bor T)) → iter_steps s r t → length front ≡ 0 → YieldsFirstRef (λ (xs : List T). xs) (front ++ items_of buckets ++ back) r (iter_rest t ++ items_of rest ++ back)
+      enters_by None ended none = absurd (let some = first_filled.0 in let short = ended.0 in omega (arith, ap length whole))
+      enters_by (Some x) at none = first_items none (iter_rest t) x.now (sym whole ∙ at)
+
+      pub first_yields : length front ≡ 0 → YieldsFirstRef (λ (xs : List T). xs) (front ++ items_of buckets ++ back) r (iter_rest t ++ items_of rest ++ back)
+      first_yields none = enters_by r steps none
+
+  -- where no bucket is left, the last one is called
+  pub rest_yields : (front : List T) (buckets : List (Option (Bucket T))) (s t : Iter T) (r : Option (Bor T)) → length front ≡ 0 → length buckets ≡ 0 → iter_steps s r t
+      → YieldsFirstRef (λ (xs : List T). xs) (front ++ items_of buckets ++ iter_rest s) r (front ++ items_of buckets ++ iter_rest t)
+  rest_yields front buckets s t None no_front no_buckets ended = rw (nil_from_length front no_front, nil_from_length buckets no_buckets) (nil_from_length (iter_rest s) ended.0, ap iter_rest ended.1 ∙ nil_from_length (iter_rest s) ended.0)
+  rest_yields front buckets s t (Some x) no_front no_buckets at = rw (nil_from_length front no_front, nil_from_length buckets no_buckets) at
+
+  pub rest_yields_last : (back : List T) (buckets : List (Option (Bucket T))) (s t : Iter T) (r : Option (Bor T)) → length back ≡ 0 → length buckets ≡ 0 → iter_steps_back s r t
+      → YieldsLastRef (λ (xs : List T). xs) (iter_rest s ++ items_of buckets ++ back) r (iter_rest t ++ items_of buckets ++ back)
+  rest_yields_last back buckets s t None no_back no_buckets ended =
+      rw (nil_from_length back no_back, nil_from_length buckets no_buckets) (simp append-nil (nil_from_length (iter_rest s) ended.0, ap iter_rest ended.1 ∙ nil_from_length (iter_rest s) ended.0))
+  rest_yields_last back buckets s t (Some x) no_back no_buckets at = rw (nil_from_length back no_back, nil_from_length buckets no_buckets) (simp append-nil at)
+
+  -- and where something is left of it, that is called
+  pub back_yields : (front back left : List T) (buckets : List (Option (Bucket T))) (x : T) → back ≡ left ++ x ∷ [] → front ++ items_of buckets ++ back ≡ front ++ items_of buckets ++ left ++ x ∷ []
+  back_yields front back left buckets x at = ap (λ (xs : List T). front ++ items_of buckets ++ xs) at ∙ sym (append_assoc (front ++ items_of buckets) left (x ∷ []))
+
+  -- a call from the front leaves no more than there was
+  pub length-steps : (s t : Iter T) (r : Option (Bor T)) → iter_steps s r t → length (iter_rest t) ≤ length (iter_rest s)
+  length-steps s t None ended = omega (arith, ap (λ (u : Iter T). length (iter_rest u)) ended.1)
+  length-steps s t (Some x) at = omega (arith, ap length at)
+
   -- a call from the back leaves no more than there was
   pub length-steps_back : (s t : Iter T) (r : Option (Bor T)) → iter_steps_back s r t → length (iter_rest t) ≤ length (iter_rest s)
   length-steps_back s t None ended = omega (arith, ap (λ (u : Iter T). length (iter_rest u)) ended.1)
@@ -202,3 +249,8 @@ module _ {T : Type 0} where
   pub progress-yields_last : (can : List T → Type 0) → ((xs : List T) → can xs) → (old new : List T) (r : Option (Bor T)) → YieldsLastRef (λ (xs : List T). xs) old r new → MakesProgress can (item_count (λ (xs : List T). xs)) old r new
   progress-yields_last can all old new None ended = record { on = λ _. tt; keeps = tt; rests = λ _. tt }
   progress-yields_last can all old new (Some x) at = record { on = λ _. (all new, tt, omega (arith, ap length at, length-append new (x.now ∷ []))); keeps = all new; rests = λ _. tt }
+
+  -- and so does one that yields the first
+  pub progress-yields_first : (can : List T → Type 0) → ((xs : List T) → can xs) → (old new : List T) (r : Option (Bor T)) → YieldsFirstRef (λ (xs : List T). xs) old r new → MakesProgress can (item_count (λ (xs : List T). xs)) old r new
+  progress-yields_first can all old new None ended = record { on = λ _. tt; keeps = tt; rests = λ _. tt }
+  progress-yields_first can all old new (Some x) at = record { on = λ _. (all new, tt, omega (arith, ap length at)); keeps = all new; rests = λ _. tt }

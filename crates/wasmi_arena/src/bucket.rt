@@ -65,9 +65,9 @@ impl<T, A: Allocator> Bucket<T, A> {
         })
     }
 
-    // Fills the first free slot, which is `slot`. Constant time, no allocation.
+    // Puts an item into the first free slot, which is `slot`. Constant time, no allocation.
     #[inline]
-    pub(crate) fn fill(&mut self, slot: usize, item: T)
+    pub(crate) fn push(&mut self, slot: usize, item: T)
         requires slot { slot ≡ length self.old.items }
         requires free { length self.old.items < self.old.capacity }
         ensures { self.new ≡ bucket (self.old.items ++ item ∷ []) self.old.capacity }

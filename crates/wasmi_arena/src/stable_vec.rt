@@ -92,7 +92,7 @@ fn fill_at<T, A: Allocator>(buckets: &mut [Option<Bucket<T, A>>], place: (usize,
         (bucket_with (size place.0) (slice_index_or buckets.old place.0 None) value) }
 {
     match &mut buckets[place.0] {
-        Some(open) => open.fill(place.1, value),
+        Some(open) => open.push(place.1, value),
         None => unreachable!(),
     }
 }
@@ -116,7 +116,7 @@ fn open_with<T: Drop, A: Allocator + Clone>(
 {
     let capacity = StableVec::<T>::size_of_bucket_at(bucket);
     let mut opened = Bucket::open(alloc.clone()?, capacity)?;
-    opened.fill(0, value);
+    opened.push(0, value);
     buckets[bucket] = Some(opened);
     Ok(())
 }

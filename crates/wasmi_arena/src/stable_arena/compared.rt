@@ -3,7 +3,7 @@ ghost use Rattle.std.specs.Cmp.Lexicographic.{pointwise, lists_per, lists_equiv}
 
 use crate::{ArenaKey, StableArena};
 use std::alloc::Allocator;
-use std::fmt;
+use std::fmt::{self, Debug, Formatter, Write};
 
 impl<Key: ArenaKey, T: PartialEq, A: Allocator> PartialEq for StableArena<Key, T, A> {
     ghost eq = { pointwise T.eq };
@@ -20,9 +20,8 @@ impl<Key: ArenaKey, T: Eq, A: Allocator> Eq for StableArena<Key, T, A> {
 }
 
 /// A map from keys to items.
-impl<Key: ArenaKey + fmt::Debug, T: fmt::Debug, A: Allocator> fmt::Debug
-    for StableArena<Key, T, A> {
-    fn fmt<W: fmt::Write>(&self, f: &mut fmt::Formatter<W>) -> fmt::Result {
+impl<Key: ArenaKey + Debug, T: Debug, A: Allocator> Debug for StableArena<Key, T, A> {
+    fn fmt<W: Write>(&self, f: &mut Formatter<W>) -> fmt::Result {
         f.debug_map().entries(self).finish()
     }
 }

@@ -65,7 +65,7 @@ impl<T: Drop, A: Allocator + Clone> StableVec<T, A> {
         requires next { next ≡ bucket [] (size (fewest (length self.old))) }
         ensures { self.new ≡ self.old ++ value ∷ [] }
     {
-        next.fill(0, value);
+        next.push(0, value);
         let place = self.table.bucket_mut(self.open_buckets);
         *place = Some(next);
         self.open_buckets += 1;

@@ -71,7 +71,7 @@ impl<'a, T, A: Allocator> Iterator for StableVecIter<'a, T, A> {
 impl<'a, T, A: Allocator> DoubleEndedIterator for StableVecIter<'a, T, A> {
     ghost next_back_gives = { YieldsLastRef (λ items. items) };
 
-    #[tactic(auto, using(crate::proofs::Table::items_of_last, crate::proofs::Table::filled_last, crate::proofs::Table::filled_last_open))]
+    #[tactic(auto, using(crate::proofs::Table::filled_last_open))]
     fn next_back(&mut self) -> Option<&'a T> {
         if let Some(item) = self.back.next_back() {
             return Some(item);

@@ -16,7 +16,7 @@ start_of-self-inside-requires g c =
 
 pub invariant_of-self : goal.invariant_of-self
 invariant_of-self g c =
-    rw (c.fill.ensures, c.requires.next, c.start_of-self-inside.ensures) (IsLaidOut-next _ _ _ _ c.self.invariant _ c.self.view_is c.requires.below c.requires.full c.args.value)
+    rw (c.push.ensures, c.requires.next, c.start_of-self-inside.ensures) (IsLaidOut-next _ _ _ _ c.self.invariant _ c.self.view_is c.requires.below c.requires.full c.args.value)
 
 pub returns : goal.returns
-returns g c = rw (c.fill.ensures, c.requires.next) (items_of-next _ _ _ _ c.self.invariant _ c.self.view_is c.requires.below c.requires.full c.args.value)
+returns g c = rw (c.push.ensures, c.requires.next) (items_of-next _ _ _ _ c.self.invariant _ c.self.view_is c.requires.below c.requires.full c.args.value)
