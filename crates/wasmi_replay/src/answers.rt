@@ -1,0 +1,48 @@
+//! The lines of the output.
+
+use std::fmt::{Debug, Display};
+use std::io;
+use std::io::{ErrorKind, Write};
+use wasmi_arena::ArenaError;
+
+/// Writes what a call returned.
+pub fn value<W: Write, V: Display + Drop>(out: &mut W, value: V) -> io::Result<()> {
+    writeln!(out, "{value}")
+}
+
+/// Writes the text that `Debug` gives.
+pub fn debug<W: Write, V: Debug>(out: &mut W, value: &V) -> io::Result<()> {
+    writeln!(out, "{value:?}")
+}
+
+/// Writes the value, or `none`.
+pub fn option<W: Write, V: Display + Drop>(out: &mut W, found: Option<V>) -> io::Result<()> {
+    match found {
+        Some(found) => value(out, found),
+        None => value(out, "none"),
+    }
+}
+
+/// Writes the value, or `error` and the text of the error. Running out of memory ends the replay.
+pub fn result<W: Write, V: Display + Drop>(
+    out: &mut W,
+    outcome: Result<V, ArenaError>,
+) -> io::Result<()> {
+    match outcome {
+        Ok(found) => value(out, found),
+        Err(error) => refusal(out, error),
+    }
+}
+
+/// Writes `error` and the text of the error. Running out of memory ends the replay.
+pub fn refusal<W: Write>(out: &mut W, error: ArenaError) -> io::Result<()> {
+    match error {
+        ArenaError::OutOfSystemMemory => Err(ErrorKind::OutOfMemory.into()),
+        error => writeln!(out, "error {error}"),
+    }
+}
+
+/// Writes that a line names no call of the container.
+pub fn bad<W: Write>(out: &mut W) -> io::Result<()> {
+    value(out, "bad line")
+}

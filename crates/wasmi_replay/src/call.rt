@@ -1,0 +1,129 @@
+//! What a line asks for.
+
+use std::str::{FromStr, Split};
+
+/// A call on a container, named as the method is.
+#[derive(Clone, Copy, Debug, PartialEq, Eq)]
+pub enum Call<'a> {
+    Len,
+    IsEmpty,
+    Push(i64),
+    Alloc(i64),
+    AllocMany(u16),
+    /// A call on the item at an index, or under the key of that number.
+    Item(usize, ItemCall),
+    Swap(usize, usize),
+    /// So many numbers, from the first one on.
+    Extend(i64, u16),
+    FromIter(i64, u16),
+    /// A clone, in the place of the other container.
+    Clone,
+    /// The same, by the call that takes the allocator.
+    CloneIn,
+    /// Go on with the other container.
+    Exchange,
+    /// `==`, with the other container.
+    Eq,
+    PartialCmp,
+    Cmp,
+    Hash,
+    Debug,
+    /// Take items from an iterator: an `f` from the front, a `b` from the back.
+    Iter(&'a str),
+    /// Take buckets from an iterator of slices, likewise.
+    Slices(&'a str),
+    /// All items, by a `for` over a reference.
+    For,
+    NextKey,
+    Room,
+    OpenBuckets,
+    Slots,
+    Bucket(usize),
+    Place(usize),
+    SizeOfBucketAt(usize),
+}
+
+/// A call on one item.
+#[derive(Clone, Copy, Debug, PartialEq, Eq)]
+pub enum ItemCall {
+    Get,
+    /// Write through `get_mut`.
+    GetMut(i64),
+    Put(i64),
+    Has,
+    /// Read by `container[key]`.
+    Index,
+    /// Write by `container[key] = item`.
+    IndexMut(i64),
+}
+
+impl<'a> Call<'a> {
+    /// Reads a line, given without its line feed. `None` if it names no call, or not with its numbers.
+    pub fn parse(line: &'a str) -> Option<Call<'a>> {
+        let mut words = line.split(' ');
+        let name = words.next()?;
+        let call = Call::named(name, &mut words)?;
+        match words.next() {
+            None => Some(call),
+            Some(_) => None,
+        }
+    }
+
+    // The call of a name, with its numbers.
+    fn named(name: &str, words: &mut Split<'a, char>) -> Option<Call<'a>> {
+        let call = match name {
+            "len" => Call::Len,
+            "is_empty" => Call::IsEmpty,
+            "push" => Call::Push(number(words)?),
+            "alloc" => Call::Alloc(number(words)?),
+            "alloc_many" => Call::AllocMany(number(words)?),
+            "get" => Call::Item(number(words)?, ItemCall::Get),
+            "get_mut" => Call::Item(number(words)?, ItemCall::GetMut(number(words)?)),
+            "put" => Call::Item(number(words)?, ItemCall::Put(number(words)?)),
+            "has" => Call::Item(number(words)?, ItemCall::Has),
+            "index" => Call::Item(number(words)?, ItemCall::Index),
+            "index_mut" => Call::Item(number(words)?, ItemCall::IndexMut(number(words)?)),
+            "swap" => Call::Swap(number(words)?, number(words)?),
+            "extend" => Call::Extend(number(words)?, number(words)?),
+            "from_iter" => Call::FromIter(number(words)?, number(words)?),
+            "clone" => Call::Clone,
+            "clone_in" => Call::CloneIn,
+            "exchange" => Call::Exchange,
+            "eq" => Call::Eq,
+            "partial_cmp" => Call::PartialCmp,
+            "cmp" => Call::Cmp,
+            "hash" => Call::Hash,
+            "debug" => Call::Debug,
+            "slices" => Call::Slices(steps(words)?),
+            "iter" => Call::Iter(steps(words)?),
+            "for" => Call::For,
+            "next_key" => Call::NextKey,
+            "room" => Call::Room,
+            "open_buckets" => Call::OpenBuckets,
+            "slots" => Call::Slots,
+            "bucket" => Call::Bucket(number(words)?),
+            "place" => Call::Place(number(words)?),
+            "size_of_bucket_at" => Call::SizeOfBucketAt(number(words)?),
+            _ => return None,
+        };
+        Some(call)
+    }
+}
+
+// The number that the next word is.
+fn number<N: FromStr>(words: &mut Split<'_, char>) -> Option<N>
+where
+    N::Err: Drop,
+{
+    words.next()?.parse().ok()
+}
+
+// The next word, where it has no letter but `f` and `b`.
+fn steps<'a>(words: &mut Split<'a, char>) -> Option<&'a str> {
+    let word = words.next()?;
+    if word.bytes().all(|step| step == b'f' || step == b'b') {
+        Some(word)
+    } else {
+        None
+    }
+}

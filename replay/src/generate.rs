@@ -1,0 +1,329 @@
+//! The calls of a run: drawn so that repeats, bounds, edges of buckets, empty containers and writes under a key come
+//! often.
+
+use crate::call::{Call, ItemCall};
+use crate::random::Random;
+use std::fmt::Write;
+
+/// What a line `on ..` names.
+pub const CONTAINERS: [&str; 6] = [
+    "stable_vec",
+    "stable_arena u32",
+    "stable_arena usize",
+    "stable_arena non_zero_u32",
+    "stable_arena non_zero_usize",
+    "stable_arena few",
+];
+
+/// Lengths about the edges of buckets, and about the 100 keys of `few`.
+const EDGES: [usize; 15] = [0, 1, 2, 31, 32, 33, 95, 96, 97, 99, 100, 101, 223, 224, 225];
+
+/// Numbers about the ends of the keys' types and of a vector.
+const FAR: [usize; 10] = [
+    255,
+    256,
+    4_294_967_263,
+    4_294_967_264,
+    4_294_967_294,
+    4_294_967_295,
+    4_294_967_296,
+    usize::MAX / 2,
+    usize::MAX - 1,
+    usize::MAX,
+];
+
+/// Lines that name no call, or not with its numbers.
+const BAD: [&str; 12] = [
+    "",
+    " ",
+    "Len",
+    "len 0",
+    " len",
+    "get",
+    "get -1",
+    "get 1 2",
+    "get 18446744073709551616",
+    "get_mut 0 9223372036854775808",
+    "iter fxb",
+    "for ",
+];
+
+/// The most items of which all are written often.
+const SHORT: usize = 40;
+
+/// The most items at which a call that goes over all of them is made.
+const LONG: usize = 1000;
+
+/// After so many calls all items are written, however many there are.
+const CONTENT_EVERY: usize = 10_000;
+
+/// So many lines of calls on a container, the first of which names it.
+pub fn generate(container: &str, seed: u64, calls: usize) -> String {
+    // Another run for each container.
+    let place = CONTAINERS.iter().position(|name| *name == container);
+    let seed = seed
+        .wrapping_mul(1000)
+        .wrapping_add(place.unwrap_or(CONTAINERS.len()) as u64);
+    let mut generator = Generator {
+        random: Random::new(seed),
+        is_vec: container == "stable_vec",
+        most: if container.ends_with(" few") {
+            100
+        } else {
+            usize::MAX
+        },
+        len: 0,
+        other_len: 0,
+        pending: Vec::new(),
+        input: String::new(),
+    };
+    let mut left = calls;
+    while left > 0 {
+        // One container grows long, in the middle of the run.
+        let is_long = left <= calls / 2 && left > calls / 2 - calls / 8;
+        let phase = if is_long {
+            left.min(calls / 4)
+        } else {
+            left.min(10 + generator.random.below(1000))
+        };
+        generator.phase(container, phase, is_long);
+        left -= phase;
+    }
+    generator.input
+}
+
+struct Generator {
+    random: Random,
+    is_vec: bool,
+    /// How many items there can be.
+    most: usize,
+    /// How many items there are.
+    len: usize,
+    /// How many items the other container has.
+    other_len: usize,
+    /// The calls that come before another one is drawn, the last one first.
+    pending: Vec<Call>,
+    input: String,
+}
+
+impl Generator {
+    /// Writes so many lines: one that begins with an empty container, and calls that fill it up to a length.
+    fn phase(&mut self, container: &str, calls: usize, is_long: bool) {
+        let target = match self.random.below(8) {
+            _ if is_long => calls,
+            0 => self.random.below(1000),
+            _ => self.random.one_of(&EDGES),
+        };
+        let target = target.min(self.most);
+        (self.len, self.other_len) = (0, 0);
+        self.pending.clear();
+        self.line(format_args!("on {container}"));
+        for done in 1..calls {
+            if done % CONTENT_EVERY == 0 {
+                self.line(Call::For);
+            } else if self.random.once_in(500) {
+                let bad = self.random.one_of(&BAD);
+                self.line(bad);
+            } else {
+                let call = self.call(target);
+                self.line(call);
+            }
+        }
+    }
+
+    fn line(&mut self, line: impl std::fmt::Display) {
+        // A `String` takes whatever is written.
+        let _ = writeln!(self.input, "{line}");
+    }
+
+    /// The next call. Up to the target about every second one adds an item, and few do after it.
+    fn call(&mut self, target: usize) -> Call {
+        if let Some(call) = self.pending.pop() {
+            return call;
+        }
+        let times = if self.len < target { 2 } else { 40 };
+        if self.random.once_in(times) {
+            return self.add();
+        }
+        match self.random.below(24) {
+            0 => Call::Len,
+            1 => Call::IsEmpty,
+            2..=9 => self.item(),
+            10..=11 => self.swap(),
+            12..=13 => Call::Iter(self.steps()),
+            14 => self.content(),
+            15 if self.is_vec => Call::Len,
+            15 => Call::NextKey,
+            16 => Call::Room,
+            17 => Call::OpenBuckets,
+            18 => Call::Slots,
+            19 => Call::Place(self.index()),
+            20 => Call::SizeOfBucketAt(self.bucket()),
+            21 => self.several(target),
+            22 => self.beside(),
+            _ => self.compared(),
+        }
+    }
+
+    fn add(&mut self) -> Call {
+        let item = self.value();
+        self.len = (self.len + 1).min(self.most);
+        if self.is_vec {
+            Call::Push(item)
+        } else {
+            Call::Alloc(item)
+        }
+    }
+
+    fn item(&mut self) -> Call {
+        let new = self.value();
+        let call = match self.random.below(if self.is_vec { 4 } else { 8 }) {
+            0..=1 => ItemCall::Get,
+            2..=3 => ItemCall::GetMut(new),
+            4 => ItemCall::Put(new),
+            5 => ItemCall::Has,
+            6 => ItemCall::Index,
+            _ => ItemCall::IndexMut(new),
+        };
+        Call::Item(self.index(), call)
+    }
+
+    fn swap(&mut self) -> Call {
+        let first = self.index();
+        let second = if self.random.once_in(8) {
+            first
+        } else {
+            self.index()
+        };
+        Call::Swap(first, second)
+    }
+
+    /// A call that takes several items, or that begins anew with them. Rarely many, and few add any after the target.
+    fn several(&mut self, target: usize) -> Call {
+        let first = self.value();
+        let count = match self.random.below(4) {
+            0 => self.random.one_of(&EDGES),
+            _ => self.random.below(9),
+        };
+        let is_new = self.random.once_in(4);
+        let grows = self.len < target || self.random.once_in(10);
+        if (is_new && self.len > LONG) || !(is_new || grows) {
+            return Call::Len;
+        }
+        let items = count as u16;
+        if is_new {
+            // After an error the items are as before.
+            if count <= self.most {
+                self.len = count;
+            }
+            Call::FromIter(first, items)
+        } else if self.is_vec {
+            self.len += count;
+            Call::Extend(first, items)
+        } else {
+            // The key after the last item must be one, too.
+            if self.len + count < self.most {
+                self.len += count;
+            }
+            Call::AllocMany(items)
+        }
+    }
+
+    /// A call that changes the other container, or goes on with it.
+    fn beside(&mut self) -> Call {
+        if self.len.max(self.other_len) > LONG {
+            return Call::Len;
+        }
+        if self.random.once_in(2) {
+            self.other_len = self.len;
+            // The clone is compared, as it is or after a write.
+            let compared = self.compared();
+            self.pending.push(compared);
+            if self.random.once_in(2) {
+                let write = Call::Item(self.index(), ItemCall::GetMut(self.value()));
+                self.pending.push(write);
+            }
+            self.random.one_of(&[Call::Clone, Call::CloneIn])
+        } else {
+            (self.len, self.other_len) = (self.other_len, self.len);
+            Call::Exchange
+        }
+    }
+
+    /// A call that compares this container with the other one, or goes over all its items.
+    fn compared(&mut self) -> Call {
+        if self.len > LONG {
+            return Call::Eq;
+        }
+        match self.random.below(if self.is_vec { 5 } else { 1 }) {
+            0 => Call::Eq,
+            1 => Call::PartialCmp,
+            2 => Call::Cmp,
+            _ => Call::Hash,
+        }
+    }
+
+    /// All items, or those of a bucket. Mostly something shorter where there are many.
+    fn content(&mut self) -> Call {
+        if self.len > SHORT && !self.random.once_in(self.len / SHORT * 4) {
+            return Call::Len;
+        }
+        match self.random.below(4) {
+            0 => Call::For,
+            1 => Call::Debug,
+            2 => Call::Slices(self.steps()),
+            _ => Call::Bucket(self.bucket()),
+        }
+    }
+
+    /// Few steps, or about as many as there are items.
+    fn steps(&mut self) -> String {
+        let many = self.len <= SHORT && self.random.once_in(4);
+        let count = if many {
+            self.len + self.random.below(3)
+        } else {
+            self.random.below(9)
+        };
+        match self.random.below(4) {
+            0 => "f".repeat(count),
+            1 => "b".repeat(count),
+            _ => (0..count)
+                .map(|_| self.random.one_of(&['f', 'b']))
+                .collect(),
+        }
+    }
+
+    fn bucket(&mut self) -> usize {
+        match self.random.below(16) {
+            0 => usize::MAX,
+            1..=5 => self.random.below(30),
+            _ => self.random.below(4),
+        }
+    }
+
+    /// An index or the number of a key: mostly of an item.
+    fn index(&mut self) -> usize {
+        match self.random.below(16) {
+            0 => self.random.one_of(&FAR),
+            1 => self.random.next() as usize,
+            2 => self.random.below(1 << 33),
+            3 => self.random.one_of(&EDGES),
+            4 => 0,
+            5 => self.len,
+            6 => self.len + 1,
+            7 | 8 => self.len.saturating_sub(1),
+            _ => self.random.below(self.len.max(1)),
+        }
+    }
+
+    /// An item: mostly of few values.
+    fn value(&mut self) -> i64 {
+        match self.random.below(16) {
+            0 => i64::MIN,
+            1 => i64::MAX,
+            2 => self.random.next() as i64,
+            3..=9 => self.random.below(1000) as i64,
+            _ => self.random.below(5) as i64 - 2,
+        }
+    }
+}

@@ -1,0 +1,135 @@
+//! Makes the same calls on the port and on the Rust crate, and compares the answers.
+//!
+//! `wasmi_replay_driver PORT FOLDER CALLS SEED..` runs the port's program PORT on so many calls of each container and
+//! seed, keeps what differs in FOLDER, and prints a table. `wasmi_replay_driver` alone answers standard input.
+
+mod call;
+mod compare;
+mod generate;
+mod public_calls;
+mod random;
+mod twin;
+
+use compare::{compare, Comparison};
+use generate::{generate, CONTAINERS};
+use public_calls::{Counts, STABLE_ARENA, STABLE_VEC};
+use std::env;
+use std::error::Error;
+use std::fs::{self, File};
+use std::io::{self, Read, Write};
+use std::path::{Path, PathBuf};
+use std::process::{Command, ExitCode};
+
+type Outcome<T> = Result<T, Box<dyn Error>>;
+
+fn main() -> Outcome<ExitCode> {
+    let words: Vec<String> = env::args().skip(1).collect();
+    match words.as_slice() {
+        [] => {
+            answer_stdin()?;
+            Ok(ExitCode::SUCCESS)
+        }
+        [port, folder, calls, seeds @ ..] => {
+            let run = Run {
+                port: port.into(),
+                folder: folder.into(),
+                calls: calls.parse()?,
+            };
+            let seeds = seeds.iter().map(|seed| seed.parse());
+            let equal = run.all(&seeds.collect::<Result<Vec<u64>, _>>()?)?;
+            Ok(if equal {
+                ExitCode::SUCCESS
+            } else {
+                ExitCode::FAILURE
+            })
+        }
+        _ => Err("give the port's program, a folder, a number of calls, and seeds".into()),
+    }
+}
+
+fn answer_stdin() -> Outcome<()> {
+    let mut input = String::new();
+    io::stdin().read_to_string(&mut input)?;
+    let mut output = Vec::new();
+    twin::answer(&input, &mut output)?;
+    io::stdout().write_all(&output)?;
+    Ok(())
+}
+
+struct Run {
+    port: PathBuf,
+    folder: PathBuf,
+    calls: usize,
+}
+
+impl Run {
+    /// Compares each container at each seed, and prints the tables. True if nothing differs.
+    fn all(&self, seeds: &[u64]) -> Outcome<bool> {
+        let (mut vec_counts, mut arena_counts) = (Counts::default(), Counts::default());
+        let mut equal = true;
+        println!("| Container | Seed | Calls | Answers compared | Differences | The first |");
+        println!("|---|---|---|---|---|---|");
+        for container in CONTAINERS {
+            for seed in seeds {
+                let input = generate(container, *seed, self.calls);
+                if container == "stable_vec" {
+                    vec_counts.add(&input);
+                } else {
+                    arena_counts.add(&input);
+                }
+                let comparison = self.one(container, *seed, &input)?;
+                equal &= comparison.differences == 0;
+                print_row(container, *seed, self.calls, &comparison);
+            }
+        }
+        let vec_made = public_calls::print("StableVec", STABLE_VEC, &vec_counts);
+        let arena_made = public_calls::print("StableArena", STABLE_ARENA, &arena_counts);
+        if !(vec_made && arena_made) {
+            eprintln!("A call in the tables was never made: give more calls.");
+        }
+        Ok(equal && vec_made && arena_made)
+    }
+
+    /// Answers the input on both sides. What differs is kept.
+    fn one(&self, container: &str, seed: u64, input: &str) -> Outcome<Comparison> {
+        let name = format!("{}-{seed}", container.replace(' ', "-"));
+        let (calls, answers) = (self.file(&name, "calls"), self.file(&name, "port"));
+        fs::write(&calls, input)?;
+        let status = Command::new(&self.port)
+            .stdin(File::open(&calls)?)
+            .stdout(File::create(&answers)?)
+            .status()?;
+        if !status.success() {
+            return Err(format!("{} on {}: {status}", self.port.display(), calls.display()).into());
+        }
+        let port = fs::read(&answers)?;
+        let mut rust_crate = Vec::new();
+        twin::answer(input, &mut rust_crate)?;
+        let comparison = compare(input, &port, &rust_crate);
+        if comparison.differences == 0 {
+            fs::remove_file(&calls)?;
+            fs::remove_file(&answers)?;
+        } else {
+            fs::write(self.file(&name, "rust"), rust_crate)?;
+        }
+        Ok(comparison)
+    }
+
+    fn file(&self, name: &str, kind: &str) -> PathBuf {
+        Path::new(&self.folder).join(format!("{name}.{kind}"))
+    }
+}
+
+fn print_row(container: &str, seed: u64, calls: usize, comparison: &Comparison) {
+    let first = match &comparison.first {
+        Some(first) => format!(
+            "line {}, `{}`: port `{}`, Rust crate `{}`",
+            first.line, first.call, first.port, first.rust_crate
+        ),
+        None => "none".to_owned(),
+    };
+    println!(
+        "| `{container}` | {seed} | {calls} | {} | {} | {first} |",
+        comparison.compared, comparison.differences
+    );
+}

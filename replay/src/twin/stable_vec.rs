@@ -1,0 +1,118 @@
+//! Calls on the Rust crate's `StableVec`.
+
+use crate::call::{Call, ItemCall};
+use crate::twin::answers::{bad, counted, option, result};
+use crate::twin::{buckets, Container};
+use std::hash::{DefaultHasher, Hash, Hasher};
+use std::io::{self, Write};
+use std::mem;
+use wasmi_collections::arena::{ArenaError, StableVec};
+
+pub struct VecTwin {
+    vec: StableVec<i64>,
+    other: StableVec<i64>,
+}
+
+impl VecTwin {
+    pub fn new() -> Self {
+        VecTwin {
+            vec: StableVec::new(),
+            other: StableVec::new(),
+        }
+    }
+
+    /// The port alone has this call.
+    fn swap(&mut self, first: usize, second: usize) -> Result<(), ArenaError> {
+        let [one, other] = self.vec.get_disjoint_mut([first, second])?;
+        mem::swap(one, other);
+        Ok(())
+    }
+}
+
+impl Container for VecTwin {
+    fn answer(&mut self, call: Call, out: &mut impl Write) -> io::Result<()> {
+        let vec = &mut self.vec;
+        match call {
+            Call::Len => writeln!(out, "{}", vec.len()),
+            Call::IsEmpty => writeln!(out, "{}", vec.is_empty()),
+            // By docs/DIFFERENCES.md, `StableVec::push`: no error here, but a panic past 2^32 - 32 items, which no run
+            // has.
+            Call::Push(item) => writeln!(out, "{}", vec.push(item)),
+            Call::Item(index, ItemCall::Get) => option(out, vec.get(index)),
+            Call::Item(index, ItemCall::GetMut(item)) => {
+                option(out, vec.get_mut(index).map(|old| mem::replace(old, item)))
+            }
+            Call::Swap(first, second) => {
+                let outcome = self.swap(first, second);
+                result(out, outcome.map(|()| "done"))
+            }
+            Call::Extend(first, count) => {
+                vec.extend(counted(first, count));
+                writeln!(out, "done")
+            }
+            Call::FromIter(first, count) => {
+                *vec = counted(first, count).collect();
+                writeln!(out, "done")
+            }
+            // The port alone has the second one.
+            Call::Clone | Call::CloneIn => {
+                self.other = vec.clone();
+                writeln!(out, "done")
+            }
+            Call::Exchange => {
+                mem::swap(vec, &mut self.other);
+                writeln!(out, "done")
+            }
+            Call::Eq => writeln!(out, "{}", *vec == self.other),
+            Call::PartialCmp => writeln!(out, "{:?}", (*vec).partial_cmp(&self.other)),
+            Call::Cmp => writeln!(out, "{:?}", (*vec).cmp(&self.other)),
+            Call::Hash => writeln!(out, "{}", hash_of(vec)),
+            Call::Debug => writeln!(out, "{vec:?}"),
+            Call::Slices(steps) => {
+                buckets::write_slices(vec.len(), &steps, |index| vec.get(index), out)
+            }
+            Call::Iter(steps) => iter(vec, &steps, out),
+            Call::For => all(vec, out),
+            Call::Room => writeln!(out, "{}", buckets::room(vec.len())),
+            Call::OpenBuckets => writeln!(out, "{}", buckets::open_buckets(vec.len())),
+            Call::Slots => writeln!(out, "{}", buckets::slots(vec.len())),
+            Call::Bucket(bucket) => {
+                buckets::write_bucket(vec.len(), bucket, |index| vec.get(index), out)
+            }
+            Call::Place(index) => buckets::write_place(index, out),
+            Call::SizeOfBucketAt(bucket) => option(out, buckets::size_of_bucket_at(bucket)),
+            Call::Alloc(_) | Call::AllocMany(_) | Call::Item(..) | Call::NextKey => bad(out),
+        }
+    }
+}
+
+/// What the standard library's hasher makes of a vector.
+fn hash_of(vec: &StableVec<i64>) -> u64 {
+    let mut hasher = DefaultHasher::new();
+    vec.hash(&mut hasher);
+    hasher.finish()
+}
+
+fn iter(vec: &StableVec<i64>, steps: &str, out: &mut impl Write) -> io::Result<()> {
+    let mut items = vec.iter();
+    for step in steps.chars() {
+        let item = if step == 'f' {
+            items.next()
+        } else {
+            items.next_back()
+        };
+        match item {
+            Some(item) => write!(out, "{item} ")?,
+            None => write!(out, "none ")?,
+        }
+    }
+    writeln!(out, "left {}", items.len())
+}
+
+fn all(vec: &StableVec<i64>, out: &mut impl Write) -> io::Result<()> {
+    write!(out, "{}:", vec.len())?;
+    for item in vec {
+        write!(out, " {item}")?;
+    }
+    writeln!(out)
+}
