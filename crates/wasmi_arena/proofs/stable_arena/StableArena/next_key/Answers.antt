@@ -1,4 +1,4 @@
-use Rattle.std.proofs.Common.{ℕ, ◌<◌, ◌≤◌, ◌↔◌, Option, Some, None, IfOk, OnOk, IsErrOf, IsOkUnless, ◌≡◌, refl, arith}
+use Rattle.std.proofs.Common.{ℕ, ◌<◌, ◌≤◌, ◌↔◌, Option, Some, None, IfOk, OnOk, IsErrOf, ◌≡◌, refl, arith}
 use Rattle.std.specs.Option.{SomeIff, ok_or}
 use Rattle.wasmi_arena.specs.Arena.{stable_limit}
 use Rattle.wasmi_arena.specs.Geometry.{max_len}
