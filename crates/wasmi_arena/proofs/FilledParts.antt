@@ -2,13 +2,14 @@
 use Rattle.std.proofs.Common.{◌≡◌, ℕ, zero, suc, ◌+◌, ◌*◌, ◌<◌, ◌≤◌, List, [], ◌∷◌, ◌++◌, length, map, take, drop, Option, Some, None, refl, sym, ◌∙◌, ap, arith, length-drop, add-zero, zero-add, add-one, inl, inr}
 use Rattle.std.proofs.lemmas.Bool.{cases_lt}
 use Rattle.std.proofs.Math.ListN.{drop_of_length-le}
-use Rattle.std.proofs.lemmas.List.{take-append-drop, drop-drop}
+use Rattle.std.proofs.lemmas.List.{take_all, take-append-le, take-append-drop, drop-drop}
 use Rattle.std.specs.List.{range_with_len, flat_map}
 use Rattle.wasmi_arena.specs.Geometry.{size, start, max_len, fewest}
 use Rattle.wasmi_arena.specs.Bucket.{Bucket}
 use Rattle.wasmi_arena.specs.StableVec.{filled_part, filled_parts}
-use Rattle.wasmi_arena.specs.Table.{items_of, items_in, IsTable, AreFilled, IsLaidOut}
+use Rattle.wasmi_arena.specs.Table.{items_of, items_in, IsTable, AreFilled, IsLaidOut, HasBuckets}
 use Rattle.wasmi_arena.proofs.Geometry.{size-suc, fewest_is_least}
+use Rattle.wasmi_arena.proofs.Table.{items_of-IsTable}
 use Rattle.wasmi_arena.proofs.LaidOut.{IsTable-open, AreFilled-open}
 
 module _ {T : Type 0} where
@@ -64,6 +65,24 @@ module _ {T : Type 0} where
           AreParts-unique 32 (items_of buckets) (map items_in (take (fewest len) buckets)) (filled_parts (items_of buckets))
               (AreParts-items_in 32 (items_of buckets) (take (fewest len) buckets) open_table filled) (AreParts-filled_parts (items_of buckets) few),
         )
+
+  -- the buckets of a vector, as its fields say them
+  HasBuckets-laid : (items : List T) (buckets : List (Option (Bucket T))) → HasBuckets items buckets → IsLaidOut buckets (fewest (length items)) (start (fewest (length items))) (length items)
+  HasBuckets-laid items buckets has = let are = items_of-IsTable 32 items buckets has.table in record {
+    buckets_counted = has.counted;
+    table = rw are has.table;
+    items_counted = rw are refl;
+    few_items = has.few_items;
+    fewest_open = refl;
+    slots_counted = refl;
+  }
+
+  -- the first of them, as many as are open, are filled, and have its parts
+  pub parts_lent : (items : List T) (buckets front back : List (Option (Bucket T))) → HasBuckets items buckets → buckets ≡ front ++ back → length front ≡ fewest (length items) → AreFilled front × (map items_in front ≡ filled_parts items)
+  parts_lent items buckets front back has cut counted =
+      let whole = parts_open buckets (fewest (length items)) (start (fewest (length items))) (length items) (HasBuckets-laid items buckets has) in
+      let first : take (fewest (length items)) buckets ≡ front = rw (cut, ← counted, take-append-le (length front) front back (omega arith)) (take_all (length front) front (omega arith)) in
+      (rw (← first) whole.0, rw (← first) (whole.1 ∙ ap filled_parts (items_of-IsTable 32 items buckets has.table)))
 
   -- one after another, the parts are the items
   flat_map-AreParts : (width : ℕ) (items : List T) (parts : List (List T)) → AreParts width items parts → flat_map (λ part. part) parts ≡ items

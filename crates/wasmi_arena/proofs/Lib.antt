@@ -1,5 +1,6 @@
 pub mod Geometry
 pub mod Table
+pub mod Refilled
 pub mod LaidOut
 pub mod Arena
 pub mod Entries
@@ -14,3 +15,5 @@ pub mod Sharing
 pub mod Lending
 pub mod NewBlock
 pub mod TableMemory
+pub mod VecMemory
+pub mod LoanMemory

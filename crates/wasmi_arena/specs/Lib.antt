@@ -12,6 +12,8 @@ pub mod StableVec
 pub mod VecLend
 pub mod TableLend
 pub mod Table
+pub mod Loan
+pub mod IterMut
 pub mod Arena
 pub mod ArenaLend
 pub mod Entries

@@ -1,6 +1,7 @@
 -- How a stable vector lays out its items: in a table of buckets, each open or not. No public clause
 -- cites this module.
 use Rattle.std.specs.Prelude.{◌≡◌, ℕ, ◌+◌, ◌*◌, ◌<◌, ◌≤◌, List, [], ◌∷◌, ◌++◌, length, take, drop, slice_set, slice_index_or, Option, Some, None}
+use Rattle.std.specs.List.{refill}
 use Rattle.wasmi_arena.specs.Geometry.{start, max_len, fewest}
 use Rattle.wasmi_arena.specs.Bucket.{Bucket}
 
@@ -31,6 +32,18 @@ module _ {T : Type 0} where
   abbrev pub write : List (Option (Bucket T)) → ℕ → ℕ → T → List (Option (Bucket T))
   write buckets b slot item = slice_set buckets b (with_item (slice_index_or buckets b None) slot item)
 
+  -- a bucket with these items in its filled slots, and its own where they are too few
+  abbrev pub with_items : Option (Bucket T) → List T → Option (Bucket T)
+  with_items None items = None
+  with_items (Some bucket) items =
+      Some record { items = refill (length bucket.items) bucket.items items; capacity = bucket.capacity }
+
+  -- the same buckets with these items in their filled slots, from the first to the last
+  abbrev pub refilled : List (Option (Bucket T)) → List T → List (Option (Bucket T))
+  refilled [] items = []
+  refilled (bucket ∷ buckets) items =
+      with_items bucket items ∷ refilled buckets (drop (length (items_in bucket)) items)
+
   -- the bucket of `width` slots that holds the first of these items, and isn't open where there are
   -- none
   abbrev pub bucket_from : ℕ → List T → Option (Bucket T)
@@ -57,6 +70,12 @@ module _ {T : Type 0} where
     pub few_items : len ≤ max_len
     pub fewest_open : open_buckets ≡ fewest len
     pub slots_counted : slots ≡ start open_buckets
+
+  -- a stable vector of these items has these buckets
+  pub record HasBuckets (items : List T) (buckets : List (Option (Bucket T))) : Type 0 where
+    pub counted : length buckets ≡ 27
+    pub table : IsTable 32 items buckets
+    pub few_items : length items ≤ max_len
 
   -- an iterator has these items of a first bucket left, then these buckets, which hold `between`, and
   -- then these items of a last bucket

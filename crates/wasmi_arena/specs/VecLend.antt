@@ -1,6 +1,7 @@
 -- What a stable vector is once a `&mut` to an item of it has ended.
-use Rattle.std.specs.Prelude.{ℕ, List, slice_set, Option}
-use Rattle.std.specs.Borrow.{Fml, RattleType, MutBor, Lends, LendsIf}
+use Rattle.std.specs.Prelude.{ℕ, List, length, slice_set, Option}
+use Rattle.std.specs.Borrow.{Fml, GName, RattleType, MutBor, Lends, LendsIf, follows}
+use Rattle.std.specs.List.{refill}
 use Rattle.std.specs.declared.alloc.Allocator.{Ghosts}
 use Rattle.wasmi_arena.specs.contracts.stable_vec.StableVec.{the_row}
 
@@ -12,3 +13,7 @@ module _ (R A : RattleType) (alloc : Ghosts A.Denot) where
   -- the same where there is such an item, and else nothing changes
   abbrev pub lends_get : MutBor (List R.Denot) → ℕ → Option (MutBor R.Denot) → Fml
   lends_get vec index item = LendsIf (the_row R A alloc) R vec item (λ last. slice_set vec.now index last) vec.now
+
+  -- each item is what was written last through the loan of that name, and there are as many
+  abbrev pub lends_items : MutBor (List R.Denot) → GName → Fml
+  lends_items vec loan = follows (the_row R A alloc) (the_row R A alloc) vec.ghost_name loan (refill (length vec.now) vec.now)

@@ -3,7 +3,10 @@ ghost use Rattle.std.specs.Prelude.{◌≡◌, ◌<◌, slice_index_or, None};
 ghost use Rattle.std.specs.Borrow.{sem};
 ghost use Rattle.wasmi_arena.specs.TableLend.{lends_bucket};
 
+mod loan;
+
 use crate::Bucket;
+pub use loan::ItemsLoan;
 use std::alloc::Allocator;
 
 /// `N` buckets, each open or not, in the value itself.

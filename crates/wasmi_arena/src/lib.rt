@@ -21,9 +21,9 @@ pub use bucket::Bucket;
 #[doc(hidden)]
 pub use block::{BlockPtr, DeallocRight, Slots};
 #[doc(hidden)]
-pub use bucket_table::BucketTable;
+pub use bucket_table::{BucketTable, ItemsLoan};
 pub use error::ArenaError;
 pub use key::ArenaKey;
 pub use run::{ArenaCommand, ArenaReply, run_arena};
 pub use stable_arena::{StableArena, StableArenaIter};
-pub use stable_vec::{MAX_LEN, StableVec, StableVecIter, StableVecSlices};
+pub use stable_vec::{MAX_LEN, StableVec, StableVecIter, StableVecSlices, StableVecSlicesMut};

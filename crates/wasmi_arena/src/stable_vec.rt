@@ -6,7 +6,7 @@ ghost use Rattle.std.specs.Option.{ForSome, option_copied_mut};
 ghost use Rattle.wasmi_arena.specs.Geometry.{size, start, max_len, IsPlace, IsFewest, fewest, slots, room, bucket_of, slot_of};
 ghost use Rattle.wasmi_arena.specs.TableLend.{lends_slot};
 ghost use Rattle.wasmi_arena.specs.StableVec.{bucket_at, filled_parts};
-ghost use Rattle.wasmi_arena.specs.Table.{items_in, bucket_with};
+ghost use Rattle.wasmi_arena.specs.Table.{items_in, bucket_with, HasBuckets};
 
 mod compared;
 mod defaults;
@@ -14,13 +14,15 @@ mod grow;
 mod iter;
 mod pairs;
 mod slices;
+mod slices_mut;
 
-use crate::{ArenaError, Bucket, BucketTable};
+use crate::{ArenaError, Bucket, BucketTable, ItemsLoan};
 pub use iter::StableVecIter;
 pub use slices::StableVecSlices;
+pub use slices_mut::StableVecSlicesMut;
 use std::alloc::{Allocator, Global};
 use std::array;
-use std::marker::Model;
+use std::marker::{Model, PhantomData};
 
 // How many buckets a vector has at the most.
 const BUCKETS: usize = 27;
@@ -157,7 +159,8 @@ impl<T> StableVec<T> {
 }
 
 impl<T, A: Allocator> StableVec<T, A> {
-    ghost use Rattle.wasmi_arena.specs.VecLend.{lends_index, lends_get};
+    ghost use Rattle.wasmi_arena.specs.IterMut.{left, loan_of};
+    ghost use Rattle.wasmi_arena.specs.VecLend.{lends_index, lends_get, lends_items};
 
     /// An empty vector, which asks `alloc` for memory when a bucket is opened.
     pub fn new(alloc: A) -> Self
@@ -284,6 +287,34 @@ impl<T, A: Allocator> StableVec<T, A> {
         let open = &buckets[..self.open_buckets];
         StableVecSlices {
             buckets: open.iter(),
+        }
+    }
+
+    // All items, to write to.
+    pub(crate) fn lend<'a>(&'a mut self) -> ItemsLoan<'a, T, A>
+        ensures* writes_back { sem 𝓛 (lends_items T.row A.row A.Allocator self.entry result.whole) }
+        ensures buckets { HasBuckets self.old result.buckets }
+    {
+        ItemsLoan {
+            first: &raw mut self.table.buckets as *mut Option<Bucket<T, A>>,
+            marker: PhantomData,
+        }
+    }
+
+    /// The items of each open bucket as a `&mut` slice, in order.
+    ///
+    /// The vector keeps its length and its buckets, also where the iterator is left early.
+    pub fn slices_mut(&mut self) -> StableVecSlicesMut<'_, T, A>
+        ensures* writes_back { sem 𝓛 (lends_items T.row A.row A.Allocator self.entry (loan_of result)) }
+        ensures parts { left result ≡ filled_parts self.old }
+        ensures bound { length self.old ≤ max_len }
+    {
+        let len = self.open_buckets;
+        let all = self.lend();
+        let (open, _) = all.cut(len);
+        StableVecSlicesMut {
+            loan: Some(open),
+            len,
         }
     }
 
