@@ -1,12 +1,13 @@
 -- Facts on the items of a vector bucket by bucket.
-use Rattle.std.proofs.Common.{◌≡◌, ℕ, zero, suc, ◌+◌, ◌*◌, ◌<◌, ◌≤◌, List, [], ◌∷◌, ◌++◌, length, map, take, drop, Option, Some, None, refl, sym, ◌∙◌, ap, arith, length-drop, add-zero, zero-add, add-one, inl, inr}
+use Rattle.std.proofs.Common.{◌≡◌, ℕ, zero, suc, ◌+◌, ◌*◌, ◌<◌, ◌≤◌, List, [], ◌∷◌, ◌++◌, length, map, take, drop, Option, Some, None, refl, sym, ◌∙◌, ap, arith, length-drop, add-zero, zero-add, add-one, append-nil, inl, inr}
 use Rattle.std.proofs.lemmas.Bool.{cases_lt}
 use Rattle.std.proofs.Math.ListN.{drop_of_length-le}
-use Rattle.std.proofs.lemmas.List.{take_all, take-append-le, take-append-drop, drop-drop}
+use Rattle.std.proofs.lemmas.List.{take_all, length-take, take-append-le, take-append-drop, drop-drop}
 use Rattle.std.specs.List.{range_with_len, flat_map}
 use Rattle.wasmi_arena.specs.Geometry.{size, start, max_len, fewest}
 use Rattle.wasmi_arena.specs.Bucket.{Bucket}
 use Rattle.wasmi_arena.specs.StableVec.{filled_part, filled_parts}
+use Rattle.wasmi_arena.specs.Ahead.{joined, AreSome, HasAhead}
 use Rattle.wasmi_arena.specs.Table.{items_of, items_in, IsTable, AreFilled, IsLaidOut, HasBuckets}
 use Rattle.wasmi_arena.proofs.Geometry.{size-suc, fewest_is_least}
 use Rattle.wasmi_arena.proofs.Table.{items_of-IsTable}
@@ -91,3 +92,16 @@ module _ {T : Type 0} where
 
   pub flat_map-filled_parts : (items : List T) → length items ≤ max_len → flat_map (λ part. part) (filled_parts items) ≡ items
   flat_map-filled_parts items few = flat_map-AreParts 32 items (filled_parts items) (AreParts-filled_parts items few)
+
+  AreSome-AreParts : (width : ℕ) (items : List T) (parts : List (List T)) → 0 < width → AreParts width items parts → AreSome parts
+  AreSome-AreParts width items [] pos are = tt
+  AreSome-AreParts width items (part ∷ parts) pos are =
+      (let some = are.0 in omega (arith, ap length are.1, length-take width items), AreSome-AreParts (2 * width) (drop width items) parts (omega arith) are.2)
+
+  -- an iterator that is at its start has all parts ahead
+  pub parts_ahead : (items front back : List T) (len : ℕ) → length items ≤ max_len → len ≡ length items → front ≡ [] → back ≡ [] → HasAhead front (filled_parts items) back len × (front ++ joined (filled_parts items) ++ back ≡ items)
+  parts_ahead items front back len few counted no_front no_back =
+      let are = flat_map-filled_parts items few in (
+        record { filled = AreSome-AreParts 32 items (filled_parts items) (omega arith) (AreParts-filled_parts items few); counted = counted ∙ ap length (sym are); few = omega (arith, ap length no_front, ap length no_back) },
+        rw (no_front, no_back, append-nil (joined (filled_parts items))) are,
+      )

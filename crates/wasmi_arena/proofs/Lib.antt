@@ -5,6 +5,8 @@ pub mod LaidOut
 pub mod Arena
 pub mod Entries
 pub mod FilledParts
+pub mod Loans
+pub mod Ahead
 pub mod Compared
 pub mod Growth
 pub mod Apart

@@ -14,6 +14,7 @@ pub mod TableLend
 pub mod Table
 pub mod Loan
 pub mod IterMut
+pub mod Ahead
 pub mod Arena
 pub mod ArenaLend
 pub mod Entries

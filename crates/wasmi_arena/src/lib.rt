@@ -26,4 +26,6 @@ pub use error::ArenaError;
 pub use key::ArenaKey;
 pub use run::{ArenaCommand, ArenaReply, run_arena};
 pub use stable_arena::{StableArena, StableArenaIter};
-pub use stable_vec::{MAX_LEN, StableVec, StableVecIter, StableVecSlices, StableVecSlicesMut};
+pub use stable_vec::{
+    MAX_LEN, StableVec, StableVecIter, StableVecIterMut, StableVecSlices, StableVecSlicesMut,
+};

@@ -12,12 +12,14 @@ mod compared;
 mod defaults;
 mod grow;
 mod iter;
+mod iter_mut;
 mod pairs;
 mod slices;
 mod slices_mut;
 
 use crate::{ArenaError, Bucket, BucketTable, ItemsLoan};
 pub use iter::StableVecIter;
+pub use iter_mut::StableVecIterMut;
 pub use slices::StableVecSlices;
 pub use slices_mut::StableVecSlicesMut;
 use std::alloc::{Allocator, Global};
@@ -315,6 +317,26 @@ impl<T, A: Allocator> StableVec<T, A> {
         StableVecSlicesMut {
             loan: Some(open),
             len,
+        }
+    }
+
+    /// The items, each to write, in order.
+    ///
+    /// The vector keeps its length and its buckets, also where the iterator is left early.
+    pub fn iter_mut(&mut self) -> StableVecIterMut<'_, T, A>
+        ensures* writes_back { sem 𝓛 (lends_items T.row A.row A.Allocator self.entry (loan_of result)) }
+        ensures items { left result ≡ self.old }
+        ensures bound { length self.old ≤ max_len }
+    {
+        let between = self.len;
+        let slices = self.slices_mut();
+        let nothing: &mut [T] = &mut [];
+        let also_nothing: &mut [T] = &mut [];
+        StableVecIterMut {
+            front: nothing.iter_mut(),
+            slices,
+            back: also_nothing.iter_mut(),
+            between,
         }
     }
 

@@ -1,0 +1,78 @@
+-- Facts on what an iterator has ahead of it, part by part.
+use Rattle.std.proofs.Common.{◌≡◌, ℕ, ◌+◌, ◌-◌, ◌<◌, ◌≤◌, List, [], ◌∷◌, ◌++◌, length, Option, Some, None, refl, sym, ◌∙◌, ap, arith, length-append, append_assoc, append-nil}
+use Rattle.std.proofs.lemmas.List.{nil_from_length}
+use Rattle.std.specs.Option.{MatchOption}
+use Rattle.std.specs.Iterator.{YieldsFirstBy, YieldsLastBy, MakesProgress, item_count}
+use Rattle.wasmi_arena.specs.Ahead.{joined, AreSome, HasAhead}
+
+module _ {T : Type 0} where
+  joined-append : (parts : List (List T)) (part : List T) → joined (parts ++ part ∷ []) ≡ joined parts ++ part
+  joined-append [] part = append-nil part
+  joined-append (first ∷ parts) part = ap (λ (xs : List T). first ++ xs) (joined-append parts part) ∙ sym (append_assoc first (joined parts) part)
+
+  AreSome-last : (parts : List (List T)) (part : List T) → AreSome (parts ++ part ∷ []) → (0 < length part) × AreSome parts
+  AreSome-last [] part some = (some.0, tt)
+  AreSome-last (first ∷ parts) part some = let rest = AreSome-last parts part some.1 in (rest.0, (some.0, rest.1))
+
+  module _ (front back : List T) (parts rest : List (List T)) (part : List T) (between : ℕ) (it : HasAhead front parts back between) where
+    -- the first part is entered
+    module _ (first : parts ≡ part ∷ rest) where
+      first_some : (0 < length part) × AreSome rest
+      first_some = rw first at it.filled
+
+      pub first_counted : between ≡ length part + length (joined rest)
+      first_counted = it.counted ∙ (ap (λ (ps : List (List T)). length (joined ps)) first ∙ length-append part (joined rest))
+
+      pub first_ahead : (left : List T) (count : ℕ) → count ≡ length part → length left ≤ count → HasAhead left rest back (between - count)
+      first_ahead left count counted fewer = let c = first_counted in let most = it.few in record { filled = first_some.1; counted = omega arith; few = omega arith }
+
+      pub first_yields : {B : Type 0} (now : B → T) (r : Option B) (left : List T) → length front ≡ 0 → MatchOption r ((length part ≡ 0) × (length left ≡ 0)) (λ x. part ≡ now x ∷ left)
+          → YieldsFirstBy now (λ (xs : List T). xs) (front ++ joined parts ++ back) r (left ++ joined rest ++ back)
+      first_yields now None left none ended = absurd (let some = first_some.0 in let short = ended.0 in omega arith)
+      first_yields now (Some x) left none at = rw (nil_from_length front none) (ap (λ (xs : List T). xs ++ back) (ap joined first ∙ ap (λ (xs : List T). xs ++ joined rest) at))
+
+    -- the last part is entered
+    module _ (last : parts ≡ rest ++ part ∷ []) where
+      last_some : (0 < length part) × AreSome rest
+      last_some = AreSome-last rest part (rw last at it.filled)
+
+      pub last_counted : between ≡ length (joined rest) + length part
+      last_counted = it.counted ∙ (ap (λ (ps : List (List T)). length (joined ps)) last ∙ (ap length (joined-append rest part) ∙ length-append (joined rest) part))
+
+      pub last_ahead : (left : List T) (count : ℕ) → count ≡ length part → length left ≤ count → HasAhead front rest left (between - count)
+      last_ahead left count counted fewer = let c = last_counted in let most = it.few in record { filled = last_some.1; counted = omega arith; few = omega arith }
+
+      pub last_yields : {B : Type 0} (now : B → T) (r : Option B) (left : List T) → length back ≡ 0 → MatchOption r ((length part ≡ 0) × (length left ≡ 0)) (λ x. part ≡ left ++ now x ∷ [])
+          → YieldsLastBy now (λ (xs : List T). xs) (front ++ joined parts ++ back) r (front ++ joined rest ++ left)
+      last_yields now None left none ended = absurd (let some = last_some.0 in let short = ended.0 in omega arith)
+      last_yields now (Some x) left none at =
+          rw (nil_from_length back none, append-nil (front ++ joined parts)) (ap (λ (ps : List (List T)). front ++ joined ps) last ∙ (ap (λ (xs : List T). front ++ xs) (joined-append rest part ∙ ap (λ (xs : List T). joined rest ++ xs) at)
+          ∙ (sym (append_assoc front (joined rest) (left ++ now x ∷ [])) ∙ sym (append_assoc (front ++ joined rest) left (now x ∷ [])))))
+
+  -- where no part is left, the other end is called
+  pub ends_yield : {B : Type 0} (now : B → T) (front back left : List T) (parts : List (List T)) (r : Option B) → length front ≡ 0 → parts ≡ [] → MatchOption r ((length back ≡ 0) × (length left ≡ 0)) (λ x. back ≡ now x ∷ left)
+      → YieldsFirstBy now (λ (xs : List T). xs) (front ++ joined parts ++ back) r (front ++ joined parts ++ left)
+  ends_yield now front back left parts None no_front no_parts ended = rw (nil_from_length front no_front, no_parts) (nil_from_length back ended.0, nil_from_length left ended.1)
+  ends_yield now front back left parts (Some x) no_front no_parts at = rw (nil_from_length front no_front, no_parts) at
+
+  pub ends_yield_last : {B : Type 0} (now : B → T) (front back left : List T) (parts : List (List T)) (r : Option B) → length back ≡ 0 → parts ≡ [] → MatchOption r ((length front ≡ 0) × (length left ≡ 0)) (λ x. front ≡ left ++ now x ∷ [])
+      → YieldsLastBy now (λ (xs : List T). xs) (front ++ joined parts ++ back) r (left ++ joined parts ++ back)
+  ends_yield_last now front back left parts None no_back no_parts ended = rw (nil_from_length back no_back, no_parts) (simp append-nil (nil_from_length front ended.0, nil_from_length left ended.1))
+  ends_yield_last now front back left parts (Some x) no_back no_parts at = rw (nil_from_length back no_back, no_parts) (simp append-nil at)
+
+  -- and where something is left of the first or of the last part, that is called
+  pub front_yields : (front back left : List T) (parts : List (List T)) (x : T) → front ≡ x ∷ left → front ++ joined parts ++ back ≡ x ∷ (left ++ joined parts ++ back)
+  front_yields front back left parts x at = ap (λ (xs : List T). xs ++ joined parts ++ back) at
+
+  pub back_yields : (front back left : List T) (parts : List (List T)) (x : T) → back ≡ left ++ x ∷ [] → front ++ joined parts ++ back ≡ front ++ joined parts ++ left ++ x ∷ []
+  back_yields front back left parts x at = ap (λ (xs : List T). front ++ joined parts ++ xs) at ∙ sym (append_assoc (front ++ joined parts) left (x ∷ []))
+
+  -- no more is left than there was
+  pub fewer_last : {B : Type 0} (now : B → T) (part left : List T) (r : Option B) → MatchOption r ((length part ≡ 0) × (length left ≡ 0)) (λ x. part ≡ left ++ now x ∷ []) → length left ≤ length part
+  fewer_last now part left None ended = let none = ended.1 in omega arith
+  fewer_last now part left (Some x) at = omega (arith, ap length at, length-append left (now x ∷ []))
+
+-- a call that yields the last item brings the end nearer
+pub progress_last : {S B T : Type 0} (now : B → T) (rest : S → List T) (can : S → Type 0) → ((s : S) → can s) → (s t : S) (r : Option B) → YieldsLastBy now rest s r t → MakesProgress can (item_count rest) s r t
+progress_last now rest can all s t None ended = record { on = λ _. tt; keeps = tt; rests = λ _. tt }
+progress_last now rest can all s t (Some x) at = record { on = λ _. (all t, tt, omega (arith, ap length at, length-append (rest t) (now x ∷ []))); keeps = all t; rests = λ _. tt }

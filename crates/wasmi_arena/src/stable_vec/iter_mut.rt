@@ -1,0 +1,91 @@
+//! The iterator over a stable vector, whose items can be written.
+ghost use Rattle.std.specs.Prelude.{◌≡◌, length};
+ghost use Rattle.std.specs.Iterator.{YieldsFirstMut, YieldsLastMut, item_count};
+ghost use Rattle.wasmi_arena.specs.IterMut.{left};
+
+use super::StableVecSlicesMut;
+use std::alloc::{Allocator, Global};
+use std::marker::Model;
+use std::slice;
+
+/// The items of a [`StableVec`](crate::StableVec) that are left to visit, each to write, in order, from
+/// both ends.
+///
+/// It goes bucket by bucket, so an item costs what a slice's item costs.
+#[derive(Drop)]
+pub struct StableVecIterMut<'a, T, A: Allocator = Global> {
+    // What is left of the bucket that is visited from the front.
+    pub(super) front: slice::IterMut<'a, T>,
+    // The buckets that neither end has come to.
+    pub(super) slices: StableVecSlicesMut<'a, T, A>,
+    // What is left of the bucket that is visited from the back.
+    pub(super) back: slice::IterMut<'a, T>,
+    // How many items `slices` have.
+    pub(super) between: usize,
+}
+
+impl<'a, T, A: Allocator> Model for StableVecIterMut<'a, T, A> {
+    ghost use base.Fml.{GName};
+    ghost use Rattle.std.specs.Prelude.{List, ◌++◌};
+    ghost use Rattle.std.specs.Slice.Iter.{iter_mut_rest};
+
+    ghost Value = { List T × GName };
+
+    ghost use Rattle.wasmi_arena.specs.IterMut.{left, loan_of};
+    ghost use Rattle.wasmi_arena.specs.Ahead.{joined, HasAhead};
+
+    ghost view = { λ it. (iter_mut_rest it.front ++ joined (left it.slices) ++ iter_mut_rest it.back,
+        loan_of it.slices) };
+
+    ghost invariant = { λ it. HasAhead (iter_mut_rest it.front) (left it.slices) (iter_mut_rest it.back)
+        it.between };
+}
+
+impl<'a, T, A: Allocator> StableVecIterMut<'a, T, A> {
+    /// How many items are left. Constant time.
+    pub fn len(&self) -> usize
+        ensures { result ≡ length (left self.now) }
+    {
+        self.front.len() + self.between + self.back.len()
+    }
+}
+
+impl<'a, T, A: Allocator> Iterator for StableVecIterMut<'a, T, A> {
+    type Item = &'a mut T;
+
+    ghost next_gives = { YieldsFirstMut left };
+
+    ghost remaining = { item_count left };
+
+    fn next(&mut self) -> Option<&'a mut T> {
+        if let Some(item) = self.front.next() {
+            return Some(item);
+        }
+        match self.slices.next() {
+            Some(items) => {
+                self.between -= items.len();
+                self.front = items.iter_mut();
+                self.front.next()
+            }
+            None => self.back.next(),
+        }
+    }
+}
+
+impl<'a, T, A: Allocator> DoubleEndedIterator for StableVecIterMut<'a, T, A> {
+    ghost next_back_gives = { YieldsLastMut left };
+
+    fn next_back(&mut self) -> Option<&'a mut T> {
+        if let Some(item) = self.back.next_back() {
+            return Some(item);
+        }
+        match self.slices.next_back() {
+            Some(items) => {
+                self.between -= items.len();
+                self.back = items.iter_mut();
+                self.back.next_back()
+            }
+            None => self.front.next_back(),
+        }
+    }
+}
