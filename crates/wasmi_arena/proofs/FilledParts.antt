@@ -11,7 +11,7 @@ use Rattle.wasmi_arena.specs.Ahead.{joined, AreSome, HasAhead}
 use Rattle.wasmi_arena.specs.Table.{items_of, items_in, IsTable, AreFilled, IsLaidOut, HasBuckets}
 use Rattle.wasmi_arena.proofs.Geometry.{size-suc, fewest_is_least}
 use Rattle.wasmi_arena.proofs.Table.{items_of-IsTable}
-use Rattle.wasmi_arena.proofs.LaidOut.{IsTable-open, AreFilled-open}
+use Rattle.wasmi_arena.proofs.LaidOut.{IsTable-open, AreFilled-open, open-le_27}
 
 module _ {T : Type 0} where
   -- these are the parts of the items: each has some, the first `width` of them, each next one twice as
@@ -77,6 +77,15 @@ module _ {T : Type 0} where
     fewest_open = refl;
     slots_counted = refl;
   }
+
+  pub HasBuckets-items : (items : List T) (buckets : List (Option (Bucket T))) → HasBuckets items buckets → items_of buckets ≡ items
+  HasBuckets-items items buckets has = items_of-IsTable 32 items buckets has.table
+
+  pub HasBuckets-own : (items : List T) (buckets : List (Option (Bucket T))) → HasBuckets items buckets → HasBuckets (items_of buckets) buckets
+  HasBuckets-own items buckets has = rw (HasBuckets-items items buckets has) has
+
+  pub HasBuckets-open : (items : List T) (buckets : List (Option (Bucket T))) → HasBuckets items buckets → fewest (length items) ≤ length buckets
+  HasBuckets-open items buckets has = let few = open-le_27 buckets _ _ _ (HasBuckets-laid items buckets has) in omega (arith, few, has.counted)
 
   -- the first of them, as many as are open, are filled, and have its parts
   pub parts_lent : (items : List T) (buckets front back : List (Option (Bucket T))) → HasBuckets items buckets → buckets ≡ front ++ back → length front ≡ fewest (length items) → AreFilled front × (map items_in front ≡ filled_parts items)

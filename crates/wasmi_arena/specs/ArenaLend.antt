@@ -1,6 +1,7 @@
 -- What a stable arena is once a `&mut` to an item of it has ended.
-use Rattle.std.specs.Prelude.{List, Result, slice_set}
-use Rattle.std.specs.Borrow.{Fml, RattleType, MutBor, Lends, LendsIfOk}
+use Rattle.std.specs.Prelude.{List, Result, length, slice_set}
+use Rattle.std.specs.List.{refill}
+use Rattle.std.specs.Borrow.{Fml, GName, RattleType, MutBor, Lends, LendsIfOk, follows}
 use Rattle.std.specs.declared.alloc.Allocator as alloc
 use Rattle.wasmi_arena.specs.declared.error.ArenaError.{ArenaError}
 use Rattle.wasmi_arena.specs.declared.key.ArenaKey as key
@@ -15,3 +16,7 @@ module _ (K R A : RattleType) (keys : key.Ghosts K.Denot) (heap : alloc.Ghosts A
   -- the same of a key that reads an item
   abbrev pub lends_item : MutBor (List R.Denot) → K.Denot → MutBor R.Denot → Fml
   lends_item arena k item = Lends (the_row K R A keys heap) R arena item (λ last. slice_set arena.now (keys.keys.number k) last)
+
+  -- each item is what was written last through the loan of that name, and there are as many
+  abbrev pub lends_items : MutBor (List R.Denot) → GName → Fml
+  lends_items arena loan = follows (the_row K R A keys heap) (the_row K R A keys heap) arena.ghost_name loan (refill (length arena.now) arena.now)

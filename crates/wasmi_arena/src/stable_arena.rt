@@ -10,9 +10,11 @@ mod any;
 mod compared;
 mod grow;
 mod iter;
+mod iter_mut;
 
-use crate::{ArenaError, ArenaKey, MAX_LEN, StableVec};
+use crate::{ArenaError, ArenaKey, Bucket, ItemsLoan, MAX_LEN, StableVec, StableVecIterMut};
 pub use iter::StableArenaIter;
+pub use iter_mut::StableArenaIterMut;
 use std::alloc::{Allocator, Global};
 use std::marker::{Model, PhantomData};
 use std::mem;
@@ -43,7 +45,9 @@ impl<Key: ArenaKey, T, A: Allocator> Model for StableArena<Key, T, A> {
 
 impl<Key: ArenaKey, T, A: Allocator> StableArena<Key, T, A> {
     ghost use Rattle.std.specs.Borrow.{sem};
-    ghost use Rattle.wasmi_arena.specs.ArenaLend.{lends_get};
+    ghost use Rattle.wasmi_arena.specs.ArenaLend.{lends_get, lends_items};
+    ghost use Rattle.wasmi_arena.specs.IterMut.{left, loan_of};
+    ghost use Rattle.wasmi_arena.specs.Table.{HasBuckets};
 
     /// An empty arena, which asks `alloc` for memory when a bucket is opened.
     pub fn new(alloc: A) -> Self
@@ -215,6 +219,35 @@ impl<Key: ArenaKey, T, A: Allocator> StableArena<Key, T, A> {
             keys: PhantomData,
         }
     }
+
+    // All items, to write to.
+    fn lend<'a>(&'a mut self) -> ItemsLoan<'a, T, A>
+        ensures* writes_back { sem 𝓛 (lends_items Key.row T.row A.row Key.ArenaKey A.Allocator self.entry result.whole) }
+        ensures buckets { HasBuckets self.old result.buckets }
+    {
+        ItemsLoan {
+            first: &raw mut self.items.table.buckets as *mut Option<Bucket<T, A>>,
+            marker: PhantomData,
+        }
+    }
+
+    /// Each key with its item to write, in order.
+    ///
+    /// The arena keeps its length and its buckets, also where the iterator is left early.
+    pub fn iter_mut(&mut self) -> StableArenaIterMut<'_, Key, T, A>
+        ensures* writes_back { sem 𝓛 (lends_items Key.row T.row A.row Key.ArenaKey A.Allocator self.entry (loan_of result)) }
+        ensures entries { left result ≡ entries Key.keys self.old }
+        ensures len { length (left result) ≡ length self.old }
+        ensures bound { length self.old ≤ max_len }
+    {
+        let (open_buckets, len) = (self.items.open_buckets(), self.items.len());
+        let all = self.lend();
+        StableArenaIterMut {
+            items: StableVecIterMut::of_whole(all, open_buckets, len),
+            next: 0,
+            keys: PhantomData,
+        }
+    }
 }
 
 impl<Key: ArenaKey, T, A: Allocator> Index<Key> for StableArena<Key, T, A> {
@@ -257,5 +290,24 @@ impl<'a, Key: ArenaKey, T, A: Allocator> IntoIterator for &'a StableArena<Key, T
 
     fn into_iter(self) -> StableArenaIter<'a, Key, T, A> {
         self.iter()
+    }
+}
+
+impl<'a, Key: ArenaKey, T, A: Allocator> IntoIterator for &'a mut StableArena<Key, T, A> {
+    ghost use Rattle.std.specs.Borrow.{sem};
+    ghost use Rattle.wasmi_arena.specs.ArenaLend.{lends_items};
+    ghost use Rattle.wasmi_arena.specs.IterMut.{left, loan_of};
+
+    type Item = (Key, &'a mut T);
+
+    type IntoIter = StableArenaIterMut<'a, Key, T, A>;
+
+    ghost into_iter_gives = { λ arena it. left it ≡ entries Key.keys arena.now };
+
+    fn into_iter(self) -> StableArenaIterMut<'a, Key, T, A>
+        ensures* writes_back { sem 𝓛 (lends_items Key.row T.row A.row Key.ArenaKey A.Allocator self.entry (loan_of result)) }
+        ensures into_iter_gives { left result ≡ entries Key.keys self.old }
+    {
+        self.iter_mut()
     }
 }

@@ -4,7 +4,9 @@ ghost use Rattle.std.specs.Borrow.{sem};
 ghost use Rattle.std.specs.Mem.{type_size};
 ghost use Rattle.std.specs.Option.{ForSome, option_copied_mut};
 ghost use Rattle.wasmi_arena.specs.Geometry.{size, start, max_len, IsPlace, IsFewest, fewest, slots, room, bucket_of, slot_of};
+ghost use Rattle.wasmi_arena.specs.IterMut.{left, loan_of};
 ghost use Rattle.wasmi_arena.specs.TableLend.{lends_slot};
+ghost use Rattle.wasmi_arena.specs.VecLend.{lends_items};
 ghost use Rattle.wasmi_arena.specs.StableVec.{bucket_at, filled_parts};
 ghost use Rattle.wasmi_arena.specs.Table.{items_in, bucket_with, HasBuckets};
 
@@ -40,7 +42,7 @@ pub const MAX_LEN: usize = 4_294_967_264;
 /// [`place`](StableVec::place) gives, whatever the length.
 #[derive(Drop)]
 pub struct StableVec<T, A: Allocator = Global> {
-    table: BucketTable<T, A, BUCKETS>,
+    pub(crate) table: BucketTable<T, A, BUCKETS>,
     open_buckets: usize,
     // How many slots these have.
     slots: usize,
@@ -161,8 +163,7 @@ impl<T> StableVec<T> {
 }
 
 impl<T, A: Allocator> StableVec<T, A> {
-    ghost use Rattle.wasmi_arena.specs.IterMut.{left, loan_of};
-    ghost use Rattle.wasmi_arena.specs.VecLend.{lends_index, lends_get, lends_items};
+    ghost use Rattle.wasmi_arena.specs.VecLend.{lends_index, lends_get};
 
     /// An empty vector, which asks `alloc` for memory when a bucket is opened.
     pub fn new(alloc: A) -> Self
@@ -311,13 +312,9 @@ impl<T, A: Allocator> StableVec<T, A> {
         ensures parts { left result ≡ filled_parts self.old }
         ensures bound { length self.old ≤ max_len }
     {
-        let len = self.open_buckets;
+        let open_buckets = self.open_buckets;
         let all = self.lend();
-        let (open, _) = all.cut(len);
-        StableVecSlicesMut {
-            loan: Some(open),
-            len,
-        }
+        StableVecSlicesMut::of_open(all, open_buckets)
     }
 
     /// The items, each to write, in order.
@@ -328,16 +325,9 @@ impl<T, A: Allocator> StableVec<T, A> {
         ensures items { left result ≡ self.old }
         ensures bound { length self.old ≤ max_len }
     {
-        let between = self.len;
-        let slices = self.slices_mut();
-        let nothing: &mut [T] = &mut [];
-        let also_nothing: &mut [T] = &mut [];
-        StableVecIterMut {
-            front: nothing.iter_mut(),
-            slices,
-            back: also_nothing.iter_mut(),
-            between,
-        }
+        let (open_buckets, len) = (self.open_buckets, self.len);
+        let all = self.lend();
+        StableVecIterMut::of_whole(all, open_buckets, len)
     }
 
     /// Puts an item at the end, and returns its index.
@@ -394,5 +384,20 @@ impl<'a, T, A: Allocator> IntoIterator for &'a StableVec<T, A> {
 
     fn into_iter(self) -> StableVecIter<'a, T, A> {
         self.iter()
+    }
+}
+
+impl<'a, T, A: Allocator> IntoIterator for &'a mut StableVec<T, A> {
+    type Item = &'a mut T;
+
+    type IntoIter = StableVecIterMut<'a, T, A>;
+
+    ghost into_iter_gives = { λ vec it. left it ≡ vec.now };
+
+    fn into_iter(self) -> StableVecIterMut<'a, T, A>
+        ensures* writes_back { sem 𝓛 (lends_items T.row A.row A.Allocator self.entry (loan_of result)) }
+        ensures into_iter_gives { left result ≡ self.old }
+    {
+        self.iter_mut()
     }
 }

@@ -1,9 +1,12 @@
 //! The iterator over a stable vector, whose items can be written.
 ghost use Rattle.std.specs.Prelude.{◌≡◌, length};
 ghost use Rattle.std.specs.Iterator.{YieldsFirstMut, YieldsLastMut, item_count};
-ghost use Rattle.wasmi_arena.specs.IterMut.{left};
+ghost use Rattle.wasmi_arena.specs.Geometry.{fewest};
+ghost use Rattle.wasmi_arena.specs.IterMut.{left, loan_of};
+ghost use Rattle.wasmi_arena.specs.Table.{items_of, HasBuckets};
 
 use super::StableVecSlicesMut;
+use crate::ItemsLoan;
 use std::alloc::{Allocator, Global};
 use std::marker::Model;
 use std::slice;
@@ -42,6 +45,24 @@ impl<'a, T, A: Allocator> Model for StableVecIterMut<'a, T, A> {
 }
 
 impl<'a, T, A: Allocator> StableVecIterMut<'a, T, A> {
+    // All items of a vector that are lent, of which there are `len`.
+    pub(crate) fn of_whole(all: ItemsLoan<'a, T, A>, open_buckets: usize, len: usize) -> Self
+        requires buckets { HasBuckets (items_of all.buckets) all.buckets }
+        requires open { open_buckets ≡ fewest len }
+        requires len { len ≡ length (items_of all.buckets) }
+        ensures items { left result ≡ items_of all.entry.buckets }
+        ensures loan { loan_of result ≡ all.entry.whole }
+    {
+        let nothing: &mut [T] = &mut [];
+        let also_nothing: &mut [T] = &mut [];
+        StableVecIterMut {
+            front: nothing.iter_mut(),
+            slices: StableVecSlicesMut::of_open(all, open_buckets),
+            back: also_nothing.iter_mut(),
+            between: len,
+        }
+    }
+
     /// How many items are left. Constant time.
     pub fn len(&self) -> usize
         ensures { result ≡ length (left self.now) }

@@ -1,7 +1,10 @@
 //! The iterator over the buckets of a stable vector, whose items can be written.
 ghost use Rattle.std.specs.Prelude.{◌≡◌, length};
 ghost use Rattle.std.specs.Iterator.{YieldsFirstMut, YieldsLastMut, item_count};
-ghost use Rattle.wasmi_arena.specs.IterMut.{left};
+ghost use Rattle.wasmi_arena.specs.Geometry.{fewest};
+ghost use Rattle.wasmi_arena.specs.IterMut.{left, loan_of};
+ghost use Rattle.wasmi_arena.specs.StableVec.{filled_parts};
+ghost use Rattle.wasmi_arena.specs.Table.{items_of, HasBuckets};
 
 use crate::ItemsLoan;
 use std::alloc::{Allocator, Global};
@@ -33,6 +36,20 @@ impl<'a, T, A: Allocator> Model for StableVecSlicesMut<'a, T, A> {
 }
 
 impl<'a, T, A: Allocator> StableVecSlicesMut<'a, T, A> {
+    // The open buckets of a vector whose items are all lent.
+    pub(crate) fn of_open(all: ItemsLoan<'a, T, A>, open_buckets: usize) -> Self
+        requires buckets { HasBuckets (items_of all.buckets) all.buckets }
+        requires open { open_buckets ≡ fewest (length (items_of all.buckets)) }
+        ensures parts { left result ≡ filled_parts (items_of all.entry.buckets) }
+        ensures loan { loan_of result ≡ all.entry.whole }
+    {
+        let (open, _) = all.cut(open_buckets);
+        StableVecSlicesMut {
+            loan: Some(open),
+            len: open_buckets,
+        }
+    }
+
     /// How many slices are left. Constant time.
     pub fn len(&self) -> usize
         ensures { result ≡ length (left self.now) }

@@ -1,14 +1,14 @@
-use Rattle.std.proofs.Common.{List, length, refl, ◌∙◌, ap, sym}
-use Rattle.wasmi_arena.specs.Ahead.{joined, HasAhead}
-use Rattle.wasmi_arena.proofs.FilledParts.{parts_ahead}
+use Rattle.std.proofs.Common.{length, sym, ◌∙◌, ap, refl}
+use Rattle.wasmi_arena.proofs.FilledParts.{HasBuckets-items, HasBuckets-own}
 use Rattle.wasmi_arena.proofs.stable_vec.StableVec.iter_mut.Goals as goal
 
-pub invariant_of-result : goal.invariant_of-result
-invariant_of-result g c =
-    let start = parts_ahead _ _ _ _ c.slices_mut-slices.ensures.bound (c.self.invariant.items_counted ∙ ap length c.self.view_is) c.iter_mut.ensures.rest c.iter_mut-2.ensures.rest in
-    rw c.slices_mut-slices.ensures.parts start.0
+pub of_whole-requires-clause-buckets : goal.of_whole-requires-clause-buckets
+of_whole-requires-clause-buckets g c = HasBuckets-own _ _ c.lend-all.ensures.buckets
+
+pub of_whole-requires-clause-len : goal.of_whole-requires-clause-len
+of_whole-requires-clause-len g c = let are = HasBuckets-items _ _ c.lend-all.ensures.buckets in c.self.invariant.items_counted ∙ ap length (c.self.view_is ∙ sym are)
 
 pub returns : goal.returns
 returns g c =
-    let start = parts_ahead _ _ _ _ c.slices_mut-slices.ensures.bound (c.self.invariant.items_counted ∙ ap length c.self.view_is) c.iter_mut.ensures.rest c.iter_mut-2.ensures.rest in
-    ((refl, λ w. refl), record { writes_back = tt; items = rw c.slices_mut-slices.ensures.parts start.1; bound = c.slices_mut-slices.ensures.bound })
+    let are = HasBuckets-items _ _ c.lend-all.ensures.buckets in
+    ((sym c.of_whole.ensures.loan, λ w. refl), record { writes_back = tt; items = c.of_whole.ensures.items ∙ are; bound = c.lend-all.ensures.buckets.few_items })

@@ -1,26 +1,17 @@
-use Rattle.std.proofs.Common.{◌≡◌, length, refl, sym, ◌∙◌, ap, arith}
+use Rattle.std.proofs.Common.{length, sym, ◌∙◌, ap, refl}
 use Rattle.wasmi_arena.specs.Geometry.{fewest}
-use Rattle.wasmi_arena.proofs.LaidOut.{open-le_27}
-use Rattle.wasmi_arena.proofs.FilledParts.{parts_lent}
+use Rattle.wasmi_arena.specs.StableVec.{filled_parts}
+use Rattle.wasmi_arena.proofs.FilledParts.{HasBuckets-items, HasBuckets-own}
 use Rattle.wasmi_arena.proofs.stable_vec.StableVec.slices_mut.Goals as goal
 
-pub cut-open-requires : goal.cut-open-requires
-cut-open-requires g c = let few = open-le_27 _ _ _ _ c.self.invariant in omega (arith, few, c.lend-all.ensures.buckets.counted)
+pub of_open-requires-clause-buckets : goal.of_open-requires-clause-buckets
+of_open-requires-clause-buckets g c = HasBuckets-own _ _ c.lend-all.ensures.buckets
 
-pub invariant_of-result : goal.invariant_of-result
-invariant_of-result g c =
-    let v = c.self.invariant in let cut = c.cut-open.ensures in
-    let needed = v.fewest_open ∙ ap fewest (v.items_counted ∙ ap length c.self.view_is) in
-    (cut.counted, (parts_lent _ _ _ _ c.lend-all.ensures.buckets cut.buckets (cut.counted ∙ needed)).0)
+pub of_open-requires-clause-open : goal.of_open-requires-clause-open
+of_open-requires-clause-open g c =
+    let are = HasBuckets-items _ _ c.lend-all.ensures.buckets in c.self.invariant.fewest_open ∙ ap fewest (c.self.invariant.items_counted ∙ ap length (c.self.view_is ∙ sym are))
 
 pub returns : goal.returns
 returns g c =
-    let v = c.self.invariant in let cut = c.cut-open.ensures in
-    let needed = v.fewest_open ∙ ap fewest (v.items_counted ∙ ap length c.self.view_is) in (
-      (sym cut.front_whole, λ w. refl),
-      record {
-        writes_back = tt;
-        parts = (parts_lent _ _ _ _ c.lend-all.ensures.buckets cut.buckets (cut.counted ∙ needed)).1;
-        bound = c.lend-all.ensures.buckets.few_items;
-      },
-    )
+    let are = HasBuckets-items _ _ c.lend-all.ensures.buckets in
+    ((sym c.of_open.ensures.loan, λ w. refl), record { writes_back = tt; parts = c.of_open.ensures.parts ∙ ap filled_parts are; bound = c.lend-all.ensures.buckets.few_items })
