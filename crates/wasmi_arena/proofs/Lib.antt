@@ -18,4 +18,5 @@ pub mod Lending
 pub mod NewBlock
 pub mod TableMemory
 pub mod VecMemory
+pub mod ArenaMemory
 pub mod LoanMemory
