@@ -4,6 +4,7 @@ ghost use Rattle.wasmi_arena.specs.Geometry.{max_len, IsPlace};
 
 mod callers;
 mod compared;
+mod iter_mut;
 mod slices;
 
 use crate::{ArenaCommand, ArenaError, ArenaKey, ArenaReply, StableArena, StableVec, run_arena};

@@ -32,6 +32,9 @@ impl<'a, T, A: Allocator> Model for ItemsLoan<'a, T, A> {
 
 impl<'a, T, A: Allocator> Drop for ItemsLoan<'a, T, A> {
     fn drop(self) {
-        let ItemsLoan { first: _, marker: _ } = self;
+        let ItemsLoan {
+            first: _,
+            marker: _,
+        } = self;
     }
 }

@@ -37,8 +37,10 @@ impl<'a, T, A: Allocator> Model for StableVecIterMut<'a, T, A> {
     ghost use Rattle.wasmi_arena.specs.IterMut.{left, loan_of};
     ghost use Rattle.wasmi_arena.specs.Ahead.{joined, HasAhead};
 
-    ghost view = { λ it. (iter_mut_rest it.front ++ joined (left it.slices) ++ iter_mut_rest it.back,
-        loan_of it.slices) };
+    ghost view = { λ it. (
+      iter_mut_rest it.front ++ joined (left it.slices) ++ iter_mut_rest it.back,
+      loan_of it.slices,
+    ) };
 
     ghost invariant = { λ it. HasAhead (iter_mut_rest it.front) (left it.slices) (iter_mut_rest it.back)
         it.between };
