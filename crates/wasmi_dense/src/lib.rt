@@ -1,0 +1,6 @@
+//! Containers of the Wasmi interpreter that are kept in one vector.
+#![tactic(auto)]
+
+pub mod arena;
+
+pub use arena::Arena;
