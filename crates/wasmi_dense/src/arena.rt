@@ -7,8 +7,10 @@ mod any;
 mod compared;
 mod grow;
 mod iter;
+mod iter_mut;
 
 pub use iter::Iter;
+pub use iter_mut::IterMut;
 use std::alloc::{Allocator, Global};
 use std::marker::{Model, PhantomData};
 use std::mem;
@@ -236,6 +238,19 @@ impl<Key: ArenaKey, T, A: Allocator> Arena<Key, T, A> {
     {
         Iter {
             items: self.items.iter(),
+            next: 0,
+            keys: PhantomData,
+        }
+    }
+
+    /// Each key with its item to write to, in order.
+    pub fn iter_mut(&mut self) -> IterMut<'_, Key, T>
+        ensures entries { result ≡ entries Key.keys self.old.items }
+        ensures len { length result ≡ length self.old.items }
+        ensures bound { length self.old.items < 2 ^ 64 }
+    {
+        IterMut {
+            items: self.items.iter_mut(),
             next: 0,
             keys: PhantomData,
         }
