@@ -43,7 +43,8 @@ impl<Key: ArenaKey, T, A: Allocator> Model for Arena<Key, T, A> {
 
 impl<Key: ArenaKey, T, A: Allocator> Arena<Key, T, A> {
     ghost use Rattle.std.specs.Borrow.{sem};
-    ghost use Rattle.wasmi_dense.specs.ArenaLend.{lends_get};
+    ghost use Rattle.wasmi_dense.specs.ArenaLend.{lends_get, lends_all};
+    ghost use Rattle.wasmi_dense.specs.ArenaLoan.{left_entries, IsKeyed, loan_of};
 
     /// An empty arena, which asks `alloc` for memory when an item comes.
     pub fn new(alloc: A) -> Self
@@ -245,15 +246,12 @@ impl<Key: ArenaKey, T, A: Allocator> Arena<Key, T, A> {
 
     /// Each key with its item to write to, in order.
     pub fn iter_mut(&mut self) -> IterMut<'_, Key, T>
-        ensures entries { result ≡ entries Key.keys self.old.items }
-        ensures len { length result ≡ length self.old.items }
-        ensures bound { length self.old.items < 2 ^ 64 }
+        ensures* writes_back { sem 𝓛 (lends_all Key.row T.row A.row Key.ArenaKey A.Allocator self.entry (loan_of result)) }
+        ensures entries { left_entries Key.keys result ≡ entries Key.keys self.old.items }
+        ensures ready { IsKeyed Key.keys result }
+        ensures len { length (left_entries Key.keys result) ≡ length self.old.items }
     {
-        IterMut {
-            items: self.items.iter_mut(),
-            next: 0,
-            keys: PhantomData,
-        }
+        IterMut::new(self.items.as_mut_slice())
     }
 }
 
@@ -294,5 +292,24 @@ impl<'a, Key: ArenaKey, T, A: Allocator> IntoIterator for &'a Arena<Key, T, A> {
 
     fn into_iter(self) -> Iter<'a, Key, T> {
         self.iter()
+    }
+}
+
+impl<'a, Key: ArenaKey, T, A: Allocator> IntoIterator for &'a mut Arena<Key, T, A> {
+    ghost use Rattle.std.specs.Borrow.{sem};
+    ghost use Rattle.wasmi_dense.specs.ArenaLend.{lends_all};
+    ghost use Rattle.wasmi_dense.specs.ArenaLoan.{left_entries, IsKeyed, loan_of};
+
+    type Item = (Key, &'a mut T);
+
+    type IntoIter = IterMut<'a, Key, T>;
+
+    ghost into_iter_gives = { λ arena it. (left_entries Key.keys it ≡ entries Key.keys arena.now.items) × IsKeyed Key.keys it };
+
+    fn into_iter(self) -> IterMut<'a, Key, T>
+        ensures* writes_back { sem 𝓛 (lends_all Key.row T.row A.row Key.ArenaKey A.Allocator self.entry (loan_of result)) }
+        ensures into_iter_gives { (left_entries Key.keys result ≡ entries Key.keys self.old.items) × IsKeyed Key.keys result }
+    {
+        self.iter_mut()
     }
 }

@@ -1,8 +1,10 @@
 //! The iterator over an arena in one vector that lends its items to be written.
-ghost use Rattle.std.specs.Prelude.{◌≡◌, length};
+ghost use Rattle.std.specs.Prelude.{◌≡◌, ◌<◌, ◌≤◌, ◌^◌, length};
 ghost use Rattle.std.specs.Iterator.{YieldsFirstBy, YieldsLastBy, item_count};
+ghost use Rattle.wasmi_arena.specs.Entries.{entries};
+ghost use Rattle.wasmi_dense.specs.ArenaLoan.{left_entries, IsKeyed, loan_of};
 
-use std::marker::{Model, PhantomData};
+use std::marker::PhantomData;
 use std::slice;
 use wasmi_arena::ArenaKey;
 
@@ -10,31 +12,30 @@ use wasmi_arena::ArenaKey;
 /// each item to write to.
 #[derive(Drop)]
 pub struct IterMut<'a, Key: ArenaKey, T> {
-    pub(super) items: slice::IterMut<'a, T>,
+    items: slice::IterMut<'a, T>,
     // The position of the first of `items`.
-    pub(super) next: usize,
-    pub(super) keys: PhantomData<Key>,
-}
-
-impl<'a, Key: ArenaKey, T> Model for IterMut<'a, Key, T> {
-    ghost use Rattle.std.specs.Prelude.{List, ◌+◌, ◌<◌, ◌≤◌, ◌^◌, length};
-    ghost use Rattle.std.specs.Slice.Iter.{iter_mut_rest};
-
-    ghost Value = { List (Key × T) };
-
-    ghost use Rattle.wasmi_arena.specs.Entries.{entries_from};
-
-    ghost view = { λ it. entries_from Key.keys it.next (iter_mut_rest it.items) };
-
-    // Each position that is left has a key, and the one behind them is a number too.
-    ghost invariant = { λ it. (it.next + length (iter_mut_rest it.items) ≤ Key.keys.count)
-        × (it.next + length (iter_mut_rest it.items) < 2 ^ 64) };
+    next: usize,
+    keys: PhantomData<Key>,
 }
 
 impl<'a, Key: ArenaKey, T> IterMut<'a, Key, T> {
+    // Over the items of an arena.
+    pub(super) fn new(items: &'a mut [T]) -> Self
+        requires { length items.old ≤ Key.keys.count }
+        ensures entries { left_entries Key.keys result ≡ entries Key.keys items.old }
+        ensures ready { IsKeyed Key.keys result }
+        ensures name { loan_of result ≡ items.entry.ghost_name }
+    {
+        IterMut {
+            items: items.iter_mut(),
+            next: 0,
+            keys: PhantomData,
+        }
+    }
+
     /// How many entries are left. Constant time.
     pub fn len(&self) -> usize
-        ensures { result ≡ length self.now }
+        ensures { result ≡ length (left_entries Key.keys self.now) }
     {
         self.items.len()
     }
@@ -43,9 +44,11 @@ impl<'a, Key: ArenaKey, T> IterMut<'a, Key, T> {
 impl<'a, Key: ArenaKey, T> Iterator for IterMut<'a, Key, T> {
     type Item = (Key, &'a mut T);
 
-    ghost next_gives = { YieldsFirstBy (λ entry. (entry.0, entry.1.now)) (λ entries. entries) };
+    ghost can_next = { IsKeyed Key.keys };
 
-    ghost remaining = { item_count (λ entries. entries) };
+    ghost next_gives = { YieldsFirstBy (λ entry. (entry.0, entry.1.now)) (left_entries Key.keys) };
+
+    ghost remaining = { item_count (left_entries Key.keys) };
 
     fn next(&mut self) -> Option<(Key, &'a mut T)> {
         let item = self.items.next()?;
@@ -60,7 +63,9 @@ impl<'a, Key: ArenaKey, T> Iterator for IterMut<'a, Key, T> {
 }
 
 impl<'a, Key: ArenaKey, T> DoubleEndedIterator for IterMut<'a, Key, T> {
-    ghost next_back_gives = { YieldsLastBy (λ entry. (entry.0, entry.1.now)) (λ entries. entries) };
+    ghost can_next_back = { IsKeyed Key.keys };
+
+    ghost next_back_gives = { YieldsLastBy (λ entry. (entry.0, entry.1.now)) (left_entries Key.keys) };
 
     #[tactic(auto, using(wasmi_arena::proofs::Entries::entries_from_last))]
     fn next_back(&mut self) -> Option<(Key, &'a mut T)> {

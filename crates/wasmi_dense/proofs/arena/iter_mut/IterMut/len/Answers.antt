@@ -1,7 +1,6 @@
-use Rattle.std.proofs.Common.{◌∙◌, sym, ap, length}
 use Rattle.std.specs.Slice.Iter.{iter_mut_rest}
 use Rattle.wasmi_arena.proofs.Entries.{length-entries_from}
 use Rattle.wasmi_dense.proofs.arena.iter_mut.IterMut.len.Goals as goal
 
 pub returns : goal.returns
-returns g c = rw (← c.self.view_is, length-entries_from g.Key.ArenaKey.keys c.self.inside.next (iter_mut_rest c.self.inside.items)) c.len.ensures.value
+returns g c = rw (length-entries_from g.Key.ArenaKey.keys c.args.self.now.next (iter_mut_rest c.args.self.now.items)) c.len.ensures.value
