@@ -8,6 +8,7 @@ mod compared;
 mod grow;
 mod iter;
 mod iter_mut;
+mod pairs;
 
 pub use iter::Iter;
 pub use iter_mut::IterMut;
