@@ -4,5 +4,6 @@
 pub mod search;
 pub mod store;
 pub mod symbols;
+pub mod write;
 #[cfg(test)]
 mod tests;
