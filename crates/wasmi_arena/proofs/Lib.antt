@@ -2,6 +2,7 @@ pub mod Geometry
 pub mod Table
 pub mod LaidOut
 pub mod Arena
+pub mod OneAnswer
 pub mod Entries
 pub mod FilledParts
 pub mod Compared
