@@ -1,5 +1,5 @@
 -- What an arena in one vector is once a `&mut` to items of it has ended.
-use Rattle.std.specs.Prelude.{ℕ, List, ◌++◌, length, take, drop, Result, slice_set}
+use Rattle.std.specs.Prelude.{Result, slice_set}
 use Rattle.std.specs.Borrow.{Fml, GName, RattleType, MutBor, Array, Lends, LendsIfOk, follows}
 use Rattle.std.specs.declared.alloc.Allocator as alloc
 use Rattle.wasmi_arena.specs.Arena.{ArenaState}

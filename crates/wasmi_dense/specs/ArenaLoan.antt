@@ -1,5 +1,5 @@
 -- What an iterator that lends the items of an arena is.
-use Rattle.std.specs.Prelude.{ℕ, ◌+◌, ◌<◌, ◌≤◌, ◌^◌, List, ◌++◌, length, take, drop}
+use Rattle.std.specs.Prelude.{◌+◌, ◌<◌, ◌≤◌, ◌^◌, List, ◌++◌, length, take, drop}
 use Rattle.std.specs.Borrow.{GName}
 use Rattle.std.specs.Slice.Iter.{iter_mut_rest, iter_mut_name}
 use Rattle.wasmi_arena.specs.Keys.{Keys}

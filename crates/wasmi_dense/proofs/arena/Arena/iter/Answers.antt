@@ -1,6 +1,5 @@
-use Rattle.std.proofs.Common.{◌∙◌, ap, length}
+use Rattle.std.proofs.Common.{◌∙◌}
 use Rattle.wasmi_arena.proofs.Entries.{length-entries_from}
-use Rattle.wasmi_arena.specs.Arena.{ArenaState}
 use Rattle.std.specs.Slice.Iter.{iter_rest}
 use Rattle.wasmi_dense.proofs.arena.Arena.iter.Goals as goal
 

@@ -1,4 +1,3 @@
-use Rattle.std.proofs.Common.{◌∙◌, sym, ap, length}
 use Rattle.std.specs.Slice.Iter.{iter_rest}
 use Rattle.wasmi_arena.proofs.Entries.{length-entries_from}
 use Rattle.wasmi_dense.proofs.arena.iter.Iter.len.Goals as goal
