@@ -1,5 +1,6 @@
 //! Each caller on its happy path.
 
+use crate::reserve::put_both;
 use crate::search::position_of;
 use crate::store::FuncStore;
 use crate::symbols::{Symbols, intern_both};
@@ -51,7 +52,25 @@ fn a_write_into_either_arena(rt: HostRuntime) -> Result<(), Fail> {
         assert_eq!(rt; put_or_alloc(&mut dense, key, text)?, at, "of {text}");
         assert_eq!(rt; put_or_alloc(&mut stable, key, text)?, at, "of {text}");
     }
-    assert_eq!(rt; (dense.len(), dense.get(0), dense.get(1)), (2, Ok(&"c"), Ok(&"d")));
-    assert_eq!(rt; (stable.len(), stable.get(0), stable.get(1)), (2, Ok(&"c"), Ok(&"d")));
+    assert_eq!(rt;
+        (dense.len(), dense.get(0), dense.get(1)),
+        (2, Ok(&"c"), Ok(&"d"))
+    );
+    assert_eq!(rt;
+        (stable.len(), stable.get(0), stable.get(1)),
+        (2, Ok(&"c"), Ok(&"d"))
+    );
+    Ok(())
+}
+
+#[test]
+fn two_items_go_in_together(rt: HostRuntime) -> Result<(), Fail> {
+    let mut arena: Arena<usize, u64> = Arena::new(rt.alloc());
+    put_both(&mut arena, 1, 2)?;
+    put_both(&mut arena, 3, 4)?;
+    assert_eq!(rt;
+        (arena.len(), arena.get(1), arena.get(2)),
+        (4, Ok(&2), Ok(&3))
+    );
     Ok(())
 }
