@@ -1,4 +1,4 @@
-//! Callers of `wasmi_arena`, as someone would write them, each proved from the public contracts alone.
+//! Callers of `wasmi_arena` and `wasmi_dense`, as someone would write them, each proved from the public contracts alone.
 #![tactic(auto)]
 
 pub mod reserve;
