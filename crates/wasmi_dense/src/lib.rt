@@ -2,5 +2,6 @@
 #![tactic(auto)]
 
 pub mod arena;
+pub mod laws;
 
 pub use arena::Arena;

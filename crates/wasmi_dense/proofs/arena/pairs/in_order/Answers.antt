@@ -1,22 +1,16 @@
-use Rattle.std.proofs.Common.{◌≡◌, ◌<◌, ◌≤◌, ◌-◌, length, slice_set, refl, arith}
-use Rattle.std.proofs.lemmas.List.{get_or_append_left, get_or-append_right, set-append_left, set-append_right, length-set}
-use Rattle.std.proofs.lemmas.Option.{slice_get_read}
+use Rattle.std.proofs.Common.{◌<◌, length, refl, arith}
+use Rattle.wasmi_dense.proofs.ArenaPairs.{slice_set-both, slice_get-front, slice_get-back}
 use Rattle.wasmi_dense.proofs.arena.pairs.in_order.Goals as goal
 
 pub returns : goal.returns
 returns g c =
-    let items = c.args.items.now in let front = c.split_at_mut-front.result.0.now in let back = c.split_at_mut-front.result.1.now in
-    let low = c.args.low in let high = c.args.high in
     let parts = c.split_at_mut-front.ensures in
-    let inside : low < length front = omega (arith, parts.front_len, c.requires.order) in
-    let some : 0 < length back = omega (arith, parts.back_len, c.requires.in_bounds) in
-    let none : high - high ≡ 0 = omega arith in
-    let within : low < length items = omega (arith, c.requires.order, c.requires.in_bounds) in
-    let same : high ≤ high = omega arith in (
-      ((refl, refl), λ x y. rw (parts.value, set-append_left front back low x inside, set-append_right (slice_set front low x) back high high y (rw length-set parts.front_len) same, none) refl),
+    let inside : c.args.low < length c.split_at_mut-front.result.0.now = omega (arith, parts.front_len, c.requires.order) in
+    let some : 0 < length c.split_at_mut-front.result.1.now = omega (arith, parts.back_len, c.requires.in_bounds) in (
+      ((refl, refl), λ x y. slice_set-both _ _ _ parts.value c.args.low c.args.high x y inside parts.front_len),
       record {
         writes_back = tt;
-        first = slice_get_read items (length items) low _ refl within (rw (parts.value, get_or_append_left front back c.index-front-low.result low inside) c.index-front-low.is);
-        second = slice_get_read items (length items) high _ refl c.requires.in_bounds (rw (parts.value, get_or-append_right front back high high c.index-back-0.result parts.front_len same, none) c.index-back-0.is);
+        first = slice_get-front _ _ _ parts.value c.args.low c.index-front-low.result inside c.index-front-low.is;
+        second = slice_get-back _ _ _ parts.value c.args.high c.index-back-0.result parts.front_len some c.index-back-0.is;
       },
     )
