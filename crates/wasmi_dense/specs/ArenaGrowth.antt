@@ -1,6 +1,6 @@
 -- What contracts say of calls that put several items into an arena in one vector, one by one.
-use Rattle.std.specs.Prelude.{◌≡◌, ℕ, ◌<◌, ◌≤◌, List, ◌++◌, length, Option, Some}
-use Rattle.std.specs.Iterator.{YieldsThen}
+use Rattle.std.specs.Prelude.{ℕ, ◌<◌, ◌≤◌, List, length, Option}
+use Rattle.wasmi_arena.specs.Growth.{TakesUpTo}
 use Rattle.wasmi_arena.specs.declared.error.ArenaError.{ArenaError}
 use Rattle.wasmi_arena.specs.declared.error.ArenaError.TheVariants.{OutOfSystemMemory, KeyOutOfBounds, NotEnoughKeys, AliasingPairAccess}
 
@@ -16,6 +16,5 @@ RefusesOneMore limit n AliasingPairAccess = ⊥
 -- order, up to one that was refused
 abbrev pub TakesUntilRefused : {U S T : Type 0} → (U → S → Type 0) → (S → Option T → S → Type 0)
     → ℕ → U → List T → List T → ArenaError → Type 0
-TakesUntilRefused {U} {S} {T} becomes steps limit iter old new error =
-    (it : S) × (xs : List T) × (x : T) × (rest : S) × becomes iter it × YieldsThen steps it xs (Some x) rest
-    × (new ≡ old ++ xs) × RefusesOneMore limit (length new) error
+TakesUntilRefused becomes steps limit iter old new error =
+    TakesUpTo becomes steps iter old new × RefusesOneMore limit (length new) error
