@@ -3,6 +3,7 @@ pub mod Table
 pub mod Refilled
 pub mod LaidOut
 pub mod Arena
+pub mod OneAnswer
 pub mod Entries
 pub mod FilledParts
 pub mod Loans

@@ -1,5 +1,5 @@
 -- The steps of an arena, and its runs: what each command may be replied to, and what it leaves.
-use Rattle.std.specs.Prelude.{◌≡◌, ◌≢◌, ℕ, ◌+◌, ◌<◌, ◌≤◌, ◌↔◌, ◌⊎◌, List, [], ◌∷◌, ◌++◌, length, slice_get, slice_set, Some, IsTrue, Bool, true, false, min}
+use Rattle.std.specs.Prelude.{◌≡◌, ◌≢◌, ℕ, ◌+◌, ◌<◌, ◌≤◌, ◌↔◌, ◌⊎◌, List, [], ◌∷◌, ◌++◌, length, slice_get, slice_set, take, Some, IsTrue, Bool, true, false, min}
 use Rattle.std.specs.List.{swap}
 use Rattle.wasmi_arena.specs.Keys.{Keys}
 use Rattle.wasmi_arena.specs.Geometry.{max_len, room}
@@ -39,6 +39,26 @@ allocs_in (Alloc item ∷ commands) = allocs_in commands + 1
 allocs_in (Has key ∷ commands) = allocs_in commands
 allocs_in (Put key item ∷ commands) = allocs_in commands
 allocs_in (Swap first second ∷ commands) = allocs_in commands
+
+-- how many of these replies tell of an item that went to the end
+abbrev pub keys_in : {K T : Type 0} → List (ArenaReply K T) → ℕ
+keys_in [] = 0
+keys_in (Key key ∷ replies) = keys_in replies + 1
+keys_in (HasReply found ∷ replies) = keys_in replies
+keys_in (Old there ∷ replies) = keys_in replies
+keys_in (Done ∷ replies) = keys_in replies
+keys_in (Refused error ∷ replies) = keys_in replies
+
+-- no reply tells that there was no memory
+abbrev pub NoneLacksMemory : {K T : Type 0} → List (ArenaReply K T) → Type 0
+NoneLacksMemory replies = (i : ℕ) → slice_get replies i ≢ Some (Refused OutOfSystemMemory)
+
+-- a command that exchanges an item with itself finds it: there are n items at first, and the replies
+-- tell how many came before that command
+abbrev pub EqualKeysRead : {K T : Type 0} → Keys K → ℕ → List (ArenaCommand K T) → List (ArenaReply K T) → Type 0
+EqualKeysRead {K} keys n commands replies =
+    (i : ℕ) (first second : K) → slice_get commands i ≡ Some (Swap first second)
+    → keys.number first ≡ keys.number second → keys.number first < n + keys_in (take i replies)
 
 -- An arena has one type of keys, and holds at most `limit` items.
 module _ {K T : Type 0} (keys : Keys K) (limit : ℕ) where

@@ -20,11 +20,15 @@ module _ {U S T : Type 0} (becomes : U → S → Type 0) (steps : S → Option T
   abbrev pub TakesAll : U → List T → List T → Type 0
   TakesAll iter old new = (it : S) × (xs : List T) × becomes iter it × Drains steps it xs × (new ≡ old ++ xs)
 
+  -- its items went in at the end, in order, up to one that did not
+  abbrev pub TakesUpTo : U → List T → List T → Type 0
+  TakesUpTo iter old new =
+      (it : S) × (xs : List T) × (x : T) × (rest : S) × becomes iter it × YieldsThen steps it xs (Some x) rest
+      × (new ≡ old ++ xs)
+
   -- its items went in at the end, in order, up to one that was refused
   abbrev pub TakesUntilRefused : ℕ → U → List T → List T → ArenaError → Type 0
-  TakesUntilRefused limit iter old new error =
-      (it : S) × (xs : List T) × (x : T) × (rest : S) × becomes iter it × YieldsThen steps it xs (Some x) rest
-      × (new ≡ old ++ xs) × RefusesOneMore limit (length new) error
+  TakesUntilRefused limit iter old new error = TakesUpTo iter old new × RefusesOneMore limit (length new) error
 
 -- so many items went in at the end, and `P` holds of each
 abbrev pub AppendsMany : {T : Type 0} → (T → Type 0) → ℕ → List T → List T → Type 0

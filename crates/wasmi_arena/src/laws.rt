@@ -1,9 +1,9 @@
 //! Laws: what the definitions of `specs/` tell, and what derived calls do, as contracts of functions.
-ghost use Rattle.std.specs.Prelude.{◌≡◌, ℕ, ◌+◌, ◌*◌, ◌<◌, ◌≤◌, [], ◌∷◌, List, length, map, slice_get, IsSomeAnd, IsTrue, ◌↔◌, Ok, ◌≢◌, take, Some};
+ghost use Rattle.std.specs.Prelude.{◌≡◌, ℕ, ◌+◌, ◌*◌, ◌<◌, ◌≤◌, [], ◌∷◌, List, length, map, slice_get, IsSomeAnd, IsTrue, ◌↔◌, Ok, ◌≢◌, ◌⊎◌, take, Some};
 ghost use Rattle.std.specs.List.{flat_map};
 ghost use Rattle.wasmi_arena.specs.Geometry.{size, start, max_len, IsPlace, IsFewest, fewest, slots, room, bucket_of, slot_of};
 ghost use Rattle.wasmi_arena.specs.StableVec.{bucket_at, filled_parts};
-ghost use Rattle.wasmi_arena.specs.Arena.{arena_limit, allocs_in, ArenaRun};
+ghost use Rattle.wasmi_arena.specs.Arena.{arena_limit, allocs_in, ArenaRun, NoneLacksMemory, EqualKeysRead};
 ghost use Rattle.wasmi_arena.specs.declared.run.ArenaCommand.{ArenaCommand};
 
 use crate::{AnyArena, ArenaError, ArenaKey, ArenaReply, StableArena, StableVec};
@@ -95,6 +95,23 @@ pub fn first_allocs_have_room<Key: ArenaKey, T, S: AnyArena<Key, T>>()
         → ArenaRun Key.keys (arena_limit Key.keys S.BOUNDED) S.state old commands replies new
         → (i : ℕ) → allocs_in (take i commands) < (S.state old).room
         → slice_get replies i ≢ Some (ArenaReply.Refused ArenaError.OutOfSystemMemory) }
+{}
+
+/// Two arenas with the same items answer the same commands alike, and have the same items afterwards.
+///
+/// It holds for arenas of any two types, where both are bounded or neither is, or all items together
+/// stay within [`MAX_LEN`](crate::MAX_LEN). It leaves out runs in which memory ran out, and those with
+/// a `Swap` of one key twice that reads nothing, since each type of arenas has its own reply to that.
+pub fn one_answer<Key: ArenaKey, T, S: AnyArena<Key, T>, U: AnyArena<Key, T>>()
+    ensures { (s : S) (u : U) (commands : List (ArenaCommand Key T)) (replies others : List (ArenaReply Key T))
+        (s_after : S) (u_after : U)
+        → ArenaRun Key.keys (arena_limit Key.keys S.BOUNDED) S.state s commands replies s_after
+        → ArenaRun Key.keys (arena_limit Key.keys U.BOUNDED) U.state u commands others u_after
+        → (S.state s).items ≡ (U.state u).items
+        → (S.BOUNDED ≡ U.BOUNDED) ⊎ (length (S.state s).items + allocs_in commands ≤ max_len)
+        → NoneLacksMemory replies → NoneLacksMemory others
+        → EqualKeysRead Key.keys (length (S.state s).items) commands replies
+        → (replies ≡ others) × ((S.state s_after).items ≡ (U.state u_after).items) }
 {}
 
 /// Two refusals are equal where they are the same.

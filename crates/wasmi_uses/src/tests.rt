@@ -1,10 +1,13 @@
 //! Each caller on its happy path.
 
+use crate::reserve::put_both;
 use crate::search::position_of;
 use crate::store::FuncStore;
 use crate::symbols::{Symbols, intern_both};
+use crate::write::put_or_alloc;
 use std::test::Fail;
-use wasmi_arena::StableVec;
+use wasmi_arena::{StableArena, StableVec};
+use wasmi_dense::Arena;
 
 #[test]
 fn a_store_of_two_functions(rt: HostRuntime) -> Result<(), Fail> {
@@ -38,5 +41,36 @@ fn a_search_across_buckets(rt: HostRuntime) -> Result<(), Fail> {
     }
     assert_eq!(rt; position_of(&vec, &140), Some(70));
     assert_eq!(rt; position_of(&vec, &141), None);
+    Ok(())
+}
+
+#[test]
+fn a_write_into_either_arena(rt: HostRuntime) -> Result<(), Fail> {
+    let mut dense: Arena<u32, &'static str> = Arena::new(rt.alloc());
+    let mut stable: StableArena<u32, &'static str> = StableArena::new(rt.alloc());
+    for (key, text, at) in [(5, "a", 0), (5, "b", 1), (0, "c", 0), (1, "d", 1)] {
+        assert_eq!(rt; put_or_alloc(&mut dense, key, text)?, at, "of {text}");
+        assert_eq!(rt; put_or_alloc(&mut stable, key, text)?, at, "of {text}");
+    }
+    assert_eq!(rt;
+        (dense.len(), dense.get(0), dense.get(1)),
+        (2, Ok(&"c"), Ok(&"d"))
+    );
+    assert_eq!(rt;
+        (stable.len(), stable.get(0), stable.get(1)),
+        (2, Ok(&"c"), Ok(&"d"))
+    );
+    Ok(())
+}
+
+#[test]
+fn two_items_go_in_together(rt: HostRuntime) -> Result<(), Fail> {
+    let mut arena: Arena<usize, u64> = Arena::new(rt.alloc());
+    put_both(&mut arena, 1, 2)?;
+    put_both(&mut arena, 3, 4)?;
+    assert_eq!(rt;
+        (arena.len(), arena.get(1), arena.get(2)),
+        (4, Ok(&2), Ok(&3))
+    );
     Ok(())
 }

@@ -4,6 +4,10 @@
 #[cfg(test)]
 mod counted;
 #[cfg(test)]
+mod dense;
+#[cfg(test)]
+mod dense_memory;
+#[cfg(test)]
 mod growth;
 #[cfg(test)]
 mod heap;

@@ -11,13 +11,15 @@ returns-in_err-alloc-clause-err g c =
     rw (failed.1, failed.2) (
       c.loop-item.arena,
       (
-        c.into_iter-item-iterator.result,
-        c.loop-item.yielded,
-        c.in-Some.item,
-        c.next.new.self,
-        c.into_iter-item-iterator.ensures.into_iter_gives,
-        (c.loop-item.item-iterator, c.loop-item.yielded_by, c.in-Some.ensures.steps),
-        c.loop-item.invariant.2,
+        (
+          c.into_iter-item-iterator.result,
+          c.loop-item.yielded,
+          c.in-Some.item,
+          c.next.new.self,
+          c.into_iter-item-iterator.ensures.into_iter_gives,
+          (c.loop-item.item-iterator, c.loop-item.yielded_by, c.in-Some.ensures.steps),
+          c.loop-item.invariant.2,
+        ),
         refuses_one_more (stable_limit g.Key.ArenaKey.keys) (length c.loop-item.arena) c.in_err-alloc.field-0.0 refused.errors refused.no_key refused.memory,
       ),
     )

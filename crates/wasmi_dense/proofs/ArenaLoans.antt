@@ -1,0 +1,13 @@
+-- What an arena is after its items were lent out together.
+use Rattle.std.proofs.Common.{◌≡◌, ℕ, ◌-◌, List, ◌++◌, length, take, drop, ap}
+use Rattle.std.specs.declared.vec.Vec.{Vec}
+use Rattle.std.specs.Vec.{vec_items, vec_len, vec_capacity, with_items}
+use Rattle.wasmi_arena.specs.Arena.{ArenaState}
+use Rattle.wasmi_dense.specs.Arena.{state_of}
+use Rattle.wasmi_dense.specs.ArenaLoan.{written}
+
+-- a vector with others written over its first items has the room that it had
+pub state_of-with_items : {T A : Type 0} (vec : Vec T A) (last : List T) → vec_len vec ≡ length (vec_items vec)
+    → state_of (with_items vec last) ≡ record (state_of vec) { items = written (vec_items vec) last }
+state_of-with_items {T} vec last counted =
+    let cut : ℕ → ArenaState T = λ n. record { items = take n (last ++ drop (length last) (vec_items vec)); room = vec_capacity vec - vec_len vec } in ap cut counted

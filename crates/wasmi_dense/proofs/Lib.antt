@@ -1,0 +1,2 @@
+pub mod ArenaLoans
+pub mod ArenaPairs

@@ -1,0 +1,7 @@
+use Rattle.std.proofs.Common.{◌≡◌}
+use Rattle.wasmi_dense.proofs.arena.Arena.from_iter.Given as goal
+
+-- what came so far is in
+abbrev pub invariant-loop-item : goal.invariant-loop-item
+invariant-loop-item g l = (goal.iterator-loop-item g).can_next l.item-iterator × (goal.iterator-loop-item g).is_finite l.item-iterator
+    × (l.arena.items ≡ l.yielded)

@@ -1,0 +1,20 @@
+-- What contracts say of calls that put several items into an arena in one vector, one by one.
+use Rattle.std.specs.Prelude.{ℕ, ◌<◌, ◌≤◌, List, length, Option}
+use Rattle.wasmi_arena.specs.Growth.{TakesUpTo}
+use Rattle.wasmi_arena.specs.declared.error.ArenaError.{ArenaError}
+use Rattle.wasmi_arena.specs.declared.error.ArenaError.TheVariants.{OutOfSystemMemory, KeyOutOfBounds, NotEnoughKeys, AliasingPairAccess}
+
+-- why one more item is refused by an arena of n items that holds at most `limit`: it is full, or it
+-- isn't but got no memory. Its room isn't told.
+abbrev pub RefusesOneMore : ℕ → ℕ → ArenaError → Type 0
+RefusesOneMore limit n NotEnoughKeys = limit ≤ n
+RefusesOneMore limit n OutOfSystemMemory = n < limit
+RefusesOneMore limit n KeyOutOfBounds = ⊥
+RefusesOneMore limit n AliasingPairAccess = ⊥
+
+-- what is made an iterator by `becomes`, which then steps by `steps`: its items went in at the end, in
+-- order, up to one that was refused
+abbrev pub TakesUntilRefused : {U S T : Type 0} → (U → S → Type 0) → (S → Option T → S → Type 0)
+    → ℕ → U → List T → List T → ArenaError → Type 0
+TakesUntilRefused becomes steps limit iter old new error =
+    TakesUpTo becomes steps iter old new × RefusesOneMore limit (length new) error

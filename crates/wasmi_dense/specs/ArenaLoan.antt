@@ -1,0 +1,24 @@
+-- What an iterator that lends the items of an arena is.
+use Rattle.std.specs.Prelude.{◌+◌, ◌<◌, ◌≤◌, ◌^◌, List, ◌++◌, length, take, drop}
+use Rattle.std.specs.Borrow.{GName}
+use Rattle.std.specs.Slice.Iter.{iter_mut_rest, iter_mut_name}
+use Rattle.wasmi_arena.specs.Keys.{Keys}
+use Rattle.wasmi_arena.specs.Entries.{entries_from}
+use Rattle.wasmi_dense.specs.declared.arena.iter_mut.IterMut.{IterMut}
+
+module _ {K T : Type 0} where
+  -- the keys and items that are left to visit
+  abbrev pub left_entries : Keys K → IterMut K T → List (K × T)
+  left_entries keys it = entries_from keys it.next (iter_mut_rest it.items)
+
+  -- each position that is left has a key, and the one behind them is a number too
+  abbrev pub IsKeyed : Keys K → IterMut K T → Type 0
+  IsKeyed keys it = (it.next + length (iter_mut_rest it.items) ≤ keys.count) × (it.next + length (iter_mut_rest it.items) < 2 ^ 64)
+
+  -- the name under which what it lends is known
+  abbrev pub loan_of : IterMut K T → GName
+  loan_of it = iter_mut_name it.items
+
+-- the items with others written over the first of them
+abbrev pub written : {T : Type 0} → List T → List T → List T
+written items last = take (length items) (last ++ drop (length last) items)

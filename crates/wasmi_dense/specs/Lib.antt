@@ -1,0 +1,4 @@
+pub mod Arena
+pub mod ArenaLoan
+pub mod ArenaLend
+pub mod ArenaGrowth

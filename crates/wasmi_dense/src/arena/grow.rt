@@ -1,0 +1,80 @@
+//! Calls that add several items to an arena in one vector, or make one of them.
+ghost use Rattle.std.specs.Prelude.{◌≡◌, ◌+◌, ◌<◌, ◌≤◌, ◌↔◌, ◌⊎◌, List, [], length, IsOk, IfOk, OnOk, IfErr, OnErr, IsErrOf, IsOkUnless};
+ghost use Rattle.std.specs.List.{All, AllZip};
+ghost use Rattle.std.specs.Iterator.{IsFiniteIterable};
+ghost use Rattle.wasmi_arena.specs.Growth.{TakesAll, AppendsMany};
+ghost use Rattle.wasmi_dense.specs.Arena.{state_of};
+ghost use Rattle.wasmi_dense.specs.ArenaGrowth.{TakesUntilRefused};
+
+use super::Arena;
+use std::alloc::{AllocError, Allocator};
+use std::marker::PhantomData;
+use std::ops::Range;
+use wasmi_arena::{ArenaError, ArenaKey};
+
+// Puts so many values of `T::default()` at the end of a vector, or leaves it as it is where it can't grow.
+fn push_defaults<T: Default, A: Allocator>(
+    items: &mut Vec<T, A>,
+    amount: usize,
+) -> Result<(), AllocError>
+    ensures ok { OnOk result
+        (AppendsMany T.is_default amount (state_of items.old).items (state_of items.new).items) }
+    ensures room { OnOk result ((state_of items.old).room ≤ (state_of items.new).room + amount) }
+    ensures memory { OnErr result ((state_of items.old).room < amount) }
+    ensures err { OnErr result (state_of items.new ≡ state_of items.old) }
+{
+    items.reserve(amount)?;
+    for _ in 0..amount {
+        items.push_reserved(T::default());
+    }
+    Ok(())
+}
+
+impl<Key: ArenaKey, T: Drop, A: Allocator> Arena<Key, T, A> {
+    /// Puts so many values of `T::default()` at the end, and returns their keys: those from the old
+    /// length to before the new one.
+    ///
+    /// Fails with `NotEnoughKeys` if the new length is above `usize::MAX` or has no key, and then with
+    /// `OutOfSystemMemory` if the vector must grow, which is only where `amount` is above
+    /// [`room`](Arena::room), and there is no memory for it. After an error the arena is as before.
+    /// It grows once at the most, before the first value is added.
+    pub fn alloc_many(&mut self, amount: usize) -> Result<Range<Key>, ArenaError>
+    where
+        T: Default,
+        ensures keys { IfOk result (λ keys. (keys.start ≡ Key.keys.key (length self.old.items))
+            × (keys.end ≡ Key.keys.key (length self.old.items + amount))) }
+        ensures ok { OnOk result (AppendsMany T.is_default amount self.old.items self.new.items) }
+        ensures room { OnOk result (self.old.room ≤ self.new.room + amount) }
+        ensures no_key { IsErrOf result ArenaError.NotEnoughKeys
+            ↔ (Key.keys.count ≤ length self.old.items + amount) }
+        ensures memory { IsErrOf result ArenaError.OutOfSystemMemory → self.old.room < amount }
+        ensures errors { IfErr result (λ error. (error ≡ ArenaError.NotEnoughKeys)
+            ⊎ (error ≡ ArenaError.OutOfSystemMemory)) }
+        ensures with_room { length self.old.items + amount < Key.keys.count → amount ≤ self.old.room
+            → IsOk result }
+        ensures err { OnErr result (self.new ≡ self.old) }
+    {
+        let len = self.items.len();
+        let start = self.next_key()?;
+        let new_len = len.checked_add(amount).ok_or(ArenaError::NotEnoughKeys)?;
+        let end = Key::from_usize(new_len).ok_or(ArenaError::NotEnoughKeys)?;
+        push_defaults(&mut self.items, amount)?;
+        Ok(start..end)
+    }
+
+    /// The items, put one by one into an empty arena.
+    ///
+    /// Fails as the first [`alloc`](Arena::alloc) that fails, and then drops all items.
+    pub fn from_iter<U: IntoIterator<Item = T>>(alloc: A, iter: U) -> Result<Self, ArenaError>
+        requires { IsFiniteIterable U.into_iter_gives U.IntoIter.can_next U.IntoIter.remaining iter }
+        ensures ok { IfOk result (λ arena. TakesAll U.into_iter_gives U.IntoIter.next_gives iter [] arena.items) }
+        ensures err { IfErr result (λ error. (held : List T) × TakesUntilRefused U.into_iter_gives
+            U.IntoIter.next_gives Key.keys.count iter [] held error) }
+    {
+        let mut arena = Arena::new(alloc);
+        for item in iter {
+            arena.alloc(item)?;
+        }
+        Ok(arena)
+    }
+}
