@@ -17,14 +17,17 @@ module _ {T : Type 0} where
   refill-over (x ∷ xs) [] = take_all (length (x ∷ xs)) (x ∷ xs) (omega arith)
   refill-over (x ∷ xs) (w ∷ ws) = ap (λ (ys : List T). w ∷ ys) (refill-over xs ws)
 
-  over-none : (xs : List T) → over xs [] ≡ xs
-  over-none [] = refl
-  over-none (x ∷ xs) = refl
-
   length-over : (xs ws : List T) → length (over xs ws) ≡ length xs
   length-over [] ws = refl
   length-over (x ∷ xs) [] = refl
   length-over (x ∷ xs) (w ∷ ws) = ap suc (length-over xs ws)
+
+  pub length-refill : (xs ws : List T) → length (refill (length xs) xs ws) ≡ length xs
+  length-refill xs ws = ap length (refill-over xs ws) ∙ length-over xs ws
+
+  over-none : (xs : List T) → over xs [] ≡ xs
+  over-none [] = refl
+  over-none (x ∷ xs) = refl
 
   over-append : (xs ys ws : List T) → over (xs ++ ys) ws ≡ over xs ws ++ over ys (drop (length xs) ws)
   over-append [] ys ws = refl

@@ -1,5 +1,6 @@
 -- What a contract sees of an iterator that lends a vector's items to write.
 use Rattle.std.specs.Prelude.{◌≡◌, ℕ, List, [], ◌++◌, map, length, Option, Some, None}
+use Rattle.std.specs.List.{refill}
 use base.Fml.{GName}
 use Rattle.wasmi_arena.specs.Table.{items_in, AreFilled}
 use Rattle.wasmi_arena.specs.declared.bucket_table.loan.ItemsLoan.{ItemsLoan}
@@ -12,6 +13,10 @@ module _ {X : Type 0} where
   -- the name of the loan: what the vector is when it ends follows from what was written by then
   abbrev pub loan_of : List X × GName → GName
   loan_of it = it.1
+
+-- whatever is written through a loan of all items, there are as many of them
+abbrev pub KeepsLength : {T : Type 0} → List T → Type 0
+KeepsLength {T = T} items = (last : List T) → length (refill (length items) items last) ≡ length items
 
 module _ {T A : Type 0} where
   -- a loan is cut in two, after so many buckets

@@ -46,7 +46,7 @@ impl<Key: ArenaKey, T, A: Allocator> Model for StableArena<Key, T, A> {
 impl<Key: ArenaKey, T, A: Allocator> StableArena<Key, T, A> {
     ghost use Rattle.std.specs.Borrow.{sem};
     ghost use Rattle.wasmi_arena.specs.ArenaLend.{lends_get, lends_items};
-    ghost use Rattle.wasmi_arena.specs.IterMut.{left, loan_of};
+    ghost use Rattle.wasmi_arena.specs.IterMut.{left, loan_of, KeepsLength};
     ghost use Rattle.wasmi_arena.specs.Table.{HasBuckets};
 
     /// An empty arena, which asks `alloc` for memory when a bucket is opened.
@@ -236,6 +236,7 @@ impl<Key: ArenaKey, T, A: Allocator> StableArena<Key, T, A> {
     /// The arena keeps its length and its buckets, also where the iterator is left early.
     pub fn iter_mut(&mut self) -> StableArenaIterMut<'_, Key, T, A>
         ensures* writes_back { sem 𝓛 (lends_items Key.row T.row A.row Key.ArenaKey A.Allocator self.entry (loan_of result)) }
+        ensures keeps { KeepsLength self.old }
         ensures entries { left result ≡ entries Key.keys self.old }
         ensures len { length (left result) ≡ length self.old }
         ensures bound { length self.old ≤ max_len }

@@ -4,7 +4,7 @@ ghost use Rattle.std.specs.Borrow.{sem};
 ghost use Rattle.std.specs.Mem.{type_size};
 ghost use Rattle.std.specs.Option.{ForSome, option_copied_mut};
 ghost use Rattle.wasmi_arena.specs.Geometry.{size, start, max_len, IsPlace, IsFewest, fewest, slots, room, bucket_of, slot_of};
-ghost use Rattle.wasmi_arena.specs.IterMut.{left, loan_of};
+ghost use Rattle.wasmi_arena.specs.IterMut.{left, loan_of, KeepsLength};
 ghost use Rattle.wasmi_arena.specs.TableLend.{lends_slot};
 ghost use Rattle.wasmi_arena.specs.VecLend.{lends_items};
 ghost use Rattle.wasmi_arena.specs.StableVec.{bucket_at, filled_parts};
@@ -309,6 +309,7 @@ impl<T, A: Allocator> StableVec<T, A> {
     /// The vector keeps its length and its buckets, also where the iterator is left early.
     pub fn slices_mut(&mut self) -> StableVecSlicesMut<'_, T, A>
         ensures* writes_back { sem 𝓛 (lends_items T.row A.row A.Allocator self.entry (loan_of result)) }
+        ensures keeps { KeepsLength self.old }
         ensures parts { left result ≡ filled_parts self.old }
         ensures bound { length self.old ≤ max_len }
     {
@@ -322,6 +323,7 @@ impl<T, A: Allocator> StableVec<T, A> {
     /// The vector keeps its length and its buckets, also where the iterator is left early.
     pub fn iter_mut(&mut self) -> StableVecIterMut<'_, T, A>
         ensures* writes_back { sem 𝓛 (lends_items T.row A.row A.Allocator self.entry (loan_of result)) }
+        ensures keeps { KeepsLength self.old }
         ensures items { left result ≡ self.old }
         ensures bound { length self.old ≤ max_len }
     {

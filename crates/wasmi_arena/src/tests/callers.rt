@@ -70,29 +70,11 @@ pub fn alloc_pair<K: ArenaKey>(
     Ok((a, b))
 }
 
-// Each item is written, and there are as many as before.
-pub fn reset<A: Allocator>(vec: &mut StableVec<u32, A>)
-    ensures { length vec.new ≡ length vec.old }
-{
-    for item in vec.iter_mut() {
-        *item = 0;
-    }
-}
-
 // The first item alone, by an iterator that is left early.
 pub fn reset_first<A: Allocator>(vec: &mut StableVec<u32, A>)
     ensures { length vec.new ≡ length vec.old }
 {
     if let Some(item) = vec.iter_mut().next() {
-        *item = 0;
-    }
-}
-
-// Under their keys.
-pub fn reset_all<A: Allocator>(arena: &mut StableArena<u32, u32, A>)
-    ensures { length arena.new ≡ length arena.old }
-{
-    for (_, item) in arena.iter_mut() {
         *item = 0;
     }
 }

@@ -2,6 +2,7 @@ use Rattle.std.proofs.Common.{◌≡◌, ℕ, ◌+◌, ◌≤◌, refl, sym, ◌
 use Rattle.wasmi_arena.specs.Entries.{entries}
 use Rattle.wasmi_arena.specs.IterMut.{left}
 use Rattle.wasmi_arena.proofs.Entries.{length-entries_from}
+use Rattle.wasmi_arena.proofs.Refilled.{length-refill}
 use Rattle.wasmi_arena.proofs.FilledParts.{HasBuckets-items, HasBuckets-own}
 use Rattle.wasmi_arena.proofs.stable_arena.StableArena.iter_mut.Goals as goal
 
@@ -24,6 +25,7 @@ returns g c =
       (sym c.of_whole.ensures.loan, λ w. refl),
       record {
         writes_back = tt;
+        keeps = length-refill _;
         entries = ap (entries keys) items;
         len = length-entries_from keys 0 (left c.of_whole.result) ∙ ap length items;
         bound = c.lend-all.ensures.buckets.few_items;

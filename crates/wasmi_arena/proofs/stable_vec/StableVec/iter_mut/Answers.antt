@@ -1,4 +1,5 @@
 use Rattle.std.proofs.Common.{length, sym, ◌∙◌, ap, refl}
+use Rattle.wasmi_arena.proofs.Refilled.{length-refill}
 use Rattle.wasmi_arena.proofs.FilledParts.{HasBuckets-items, HasBuckets-own}
 use Rattle.wasmi_arena.proofs.stable_vec.StableVec.iter_mut.Goals as goal
 
@@ -11,4 +12,4 @@ of_whole-requires-clause-len g c = let are = HasBuckets-items _ _ c.lend-all.ens
 pub returns : goal.returns
 returns g c =
     let are = HasBuckets-items _ _ c.lend-all.ensures.buckets in
-    ((sym c.of_whole.ensures.loan, λ w. refl), record { writes_back = tt; items = c.of_whole.ensures.items ∙ are; bound = c.lend-all.ensures.buckets.few_items })
+    ((sym c.of_whole.ensures.loan, λ w. refl), record { writes_back = tt; keeps = length-refill _; items = c.of_whole.ensures.items ∙ are; bound = c.lend-all.ensures.buckets.few_items })

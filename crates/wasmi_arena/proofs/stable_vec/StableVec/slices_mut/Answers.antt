@@ -1,6 +1,7 @@
 use Rattle.std.proofs.Common.{length, sym, ◌∙◌, ap, refl}
 use Rattle.wasmi_arena.specs.Geometry.{fewest}
 use Rattle.wasmi_arena.specs.StableVec.{filled_parts}
+use Rattle.wasmi_arena.proofs.Refilled.{length-refill}
 use Rattle.wasmi_arena.proofs.FilledParts.{HasBuckets-items, HasBuckets-own}
 use Rattle.wasmi_arena.proofs.stable_vec.StableVec.slices_mut.Goals as goal
 
@@ -14,4 +15,4 @@ of_open-requires-clause-open g c =
 pub returns : goal.returns
 returns g c =
     let are = HasBuckets-items _ _ c.lend-all.ensures.buckets in
-    ((sym c.of_open.ensures.loan, λ w. refl), record { writes_back = tt; parts = c.of_open.ensures.parts ∙ ap filled_parts are; bound = c.lend-all.ensures.buckets.few_items })
+    ((sym c.of_open.ensures.loan, λ w. refl), record { writes_back = tt; keeps = length-refill _; parts = c.of_open.ensures.parts ∙ ap filled_parts are; bound = c.lend-all.ensures.buckets.few_items })
