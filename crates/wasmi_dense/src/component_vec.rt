@@ -114,6 +114,7 @@ impl<Key: ArenaKey, T, A: Allocator> ComponentVec<Key, T, A> {
     }
 
     /// Takes out the component under a key, if there is one. The extent stays. Constant time.
+    #[inline]
     pub fn unset(&mut self, index: Key) -> Option<T>
         ensures old { result ≡ component_at self.old (Key.keys.number index) }
         ensures changes { ChangesAt self.old (Key.keys.number index) None self.new }
@@ -126,6 +127,7 @@ impl<Key: ArenaKey, T, A: Allocator> ComponentVec<Key, T, A> {
     }
 
     /// The component under a key, if there is one. Constant time.
+    #[inline]
     pub fn get(&self, index: Key) -> Option<&T>
         ensures { option_copied result ≡ component_at self.now (Key.keys.number index) }
     {
@@ -136,6 +138,7 @@ impl<Key: ArenaKey, T, A: Allocator> ComponentVec<Key, T, A> {
     }
 
     /// The component under a key to write to, if there is one. Constant time.
+    #[inline]
     pub fn get_mut(&mut self, index: Key) -> Option<&mut T>
         ensures* writes_back { sem 𝓛 (lends_get Key.row T.row A.row Key.ArenaKey A.Allocator self.entry index result) }
         ensures value { option_copied_mut result ≡ component_at self.old (Key.keys.number index) }

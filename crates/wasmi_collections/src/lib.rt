@@ -1,0 +1,14 @@
+//! Containers of the Wasmi interpreter.
+//!
+//! - [`StableVec`]: a vector that only grows, whose items stay where they are
+//! - [`StableArena`]: such a vector under typed keys
+//! - [`ComponentVec`]: properties of the entities that an arena has, by key
+//! - [`HeadVec`]: a list with fast access to its last item
+#![tactic(auto)]
+
+pub mod arena;
+mod head_vec;
+pub mod laws;
+
+pub use arena::{ComponentVec, StableArena, StableVec};
+pub use head_vec::HeadVec;
