@@ -2,9 +2,13 @@
 #![tactic(auto)]
 
 #[cfg(test)]
+mod components;
+#[cfg(test)]
 mod counted;
 #[cfg(test)]
 mod growth;
+#[cfg(test)]
+mod head_vec;
 #[cfg(test)]
 mod heap;
 #[cfg(test)]
