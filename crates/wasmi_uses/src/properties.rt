@@ -1,5 +1,5 @@
 //! Properties of the entities that an arena has.
-ghost use Rattle.std.specs.Prelude.{◌≡◌, ◌==◌, not, is_some, IfOk, OnErr, Some, true, false};
+ghost use Rattle.std.specs.Prelude.{◌≡◌, not, is_some, IfOk, OnErr, Some, true, false};
 ghost use Rattle.wasmi_dense.specs.Components.{component_at, ChangesAt};
 
 use std::alloc::Allocator;
