@@ -21,8 +21,14 @@ module _ {T : Type 0} where
   -- The order of head vectors: the last items decide, where no last item is less than any, and if
   -- these are equal the lists of what stands before them.
   abbrev pub head_cmp : (T → T → Ordering) → List T → List T → Ordering
-  head_cmp cmp xs ys = ordering_then (option_cmp cmp (last_item xs) (last_item ys)) (slice_cmp cmp (before_last xs) (before_last ys))
+  head_cmp cmp xs ys =
+      ordering_then
+      (option_cmp cmp (last_item xs) (last_item ys))
+      (slice_cmp cmp (before_last xs) (before_last ys))
 
   -- the same of items that may be neither equal nor less nor greater
   abbrev pub head_partial_cmp : (T → T → Option Ordering) → List T → List T → Option Ordering
-  head_partial_cmp cmp xs ys = partial_ordering_then (option_partial_cmp cmp (last_item xs) (last_item ys)) (slice_partial_cmp cmp (before_last xs) (before_last ys))
+  head_partial_cmp cmp xs ys =
+      partial_ordering_then
+      (option_partial_cmp cmp (last_item xs) (last_item ys))
+      (slice_partial_cmp cmp (before_last xs) (before_last ys))

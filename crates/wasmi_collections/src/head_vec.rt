@@ -1,5 +1,5 @@
 //! A list with fast access to its last item.
-ghost use Rattle.std.specs.Prelude.{◌≡◌, ◌==◌, [], ◌∷◌, ◌++◌, length, IfOk, OnOk, OnErr, IsErrOf, IsOk, IsOkUnless, option_copied};
+ghost use Rattle.std.specs.Prelude.{◌≡◌, ◌==◌, [], ◌∷◌, ◌++◌, length, IfOk, OnOk, OnErr, IsOk, IsOkUnless, option_copied};
 ghost use Rattle.std.specs.List.{AllZip};
 ghost use Rattle.std.specs.Option.{option_copied_mut};
 ghost use Rattle.std.specs.Cmp.Lexicographic.{pointwise, lists_per, lists_equiv};
@@ -15,7 +15,7 @@ use std::mem;
 
 /// A list with fast access to its last item, which it keeps apart from the others.
 ///
-/// With fewer than two items it takes no memory.
+/// One item alone needs no memory. There are at most 2^63 items, since a `Vec` has room for no more.
 #[derive(Drop)]
 pub struct HeadVec<T, A: Allocator = Global> {
     // The last item.
@@ -25,15 +25,15 @@ pub struct HeadVec<T, A: Allocator = Global> {
 }
 
 impl<T, A: Allocator> Model for HeadVec<T, A> {
-    ghost use Rattle.std.specs.Prelude.{◌≡◌, ◌<◌, ◌-◌, ◌^◌, List, [], ◌++◌, IfNone, vec_len};
+    ghost use Rattle.std.specs.Prelude.{◌≡◌, List, [], ◌++◌, IfNone};
     ghost use Rattle.std.specs.Option.{option_to_list};
 
     ghost Value = { List T };
 
     ghost view = { λ vec. vec.rest.items ++ option_to_list vec.head };
 
-    // Without a last item there is none, and the length is a `usize`.
-    ghost invariant = { λ vec. IfNone vec.head (vec.rest.items ≡ []) × (vec_len vec.rest < 2 ^ 64 - 1) };
+    // Without a last item there is none.
+    ghost invariant = { λ vec. IfNone vec.head (vec.rest.items ≡ []) };
 }
 
 impl<T, A: Allocator> HeadVec<T, A> {
@@ -100,23 +100,19 @@ impl<T, A: Allocator> HeadVec<T, A> {
 
     /// Puts an item at the end.
     ///
-    /// Fails with `OutOfSystemMemory` if there is no memory for the item that was the last, or there are
-    /// `usize::MAX` items already. Then the list is as before, and the item is dropped. The first item
-    /// needs no memory. Amortized constant time.
+    /// Fails with `OutOfSystemMemory` if there is no memory for the item that was the last, and then the
+    /// list is as before, and the item is dropped. Into an empty list it needs no memory. Amortized
+    /// constant time.
     #[inline]
     pub fn push(&mut self, value: T) -> Result<(), ArenaError>
     where
         T: Drop,
         ensures ok { OnOk result (self.new ≡ self.old ++ value ∷ []) }
         ensures first { length self.old ≡ 0 → IsOk result }
-        ensures longest { length self.old ≡ usize.MAX → IsErrOf result ArenaError.OutOfSystemMemory }
         ensures errors { IsOkUnless result ArenaError.OutOfSystemMemory }
         ensures err { OnErr result (self.new ≡ self.old) }
     {
         if self.head.is_some() {
-            if self.rest.len() >= usize::MAX - 1 {
-                return Err(ArenaError::OutOfSystemMemory);
-            }
             self.rest.reserve(1)?;
         }
         if let Some(head) = self.head.replace(value) {
