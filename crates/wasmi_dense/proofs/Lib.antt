@@ -1,2 +1,3 @@
 pub mod ArenaLoans
 pub mod ArenaPairs
+mod Components

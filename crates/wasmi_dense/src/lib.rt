@@ -1,7 +1,9 @@
-//! Containers of the Wasmi interpreter that are kept in one vector.
+//! The containers of the Wasmi interpreter that are kept in one vector.
 #![tactic(auto)]
 
 pub mod arena;
+mod component_vec;
 pub mod laws;
 
 pub use arena::Arena;
+pub use component_vec::ComponentVec;

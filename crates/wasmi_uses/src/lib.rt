@@ -1,6 +1,8 @@
-//! Callers of `wasmi_arena` and `wasmi_dense`, as someone would write them, each proved from the public contracts alone.
+//! Callers of the containers, as someone would write them, each proved from the public contracts alone.
 #![tactic(auto)]
 
+pub mod frames;
+pub mod properties;
 pub mod reserve;
 pub mod search;
 pub mod store;

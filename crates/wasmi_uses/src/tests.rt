@@ -1,5 +1,7 @@
 //! Each caller on its happy path.
 
+use crate::frames::tail_call;
+use crate::properties::set_once;
 use crate::reserve::put_both;
 use crate::search::position_of;
 use crate::store::FuncStore;
@@ -7,7 +9,8 @@ use crate::symbols::{Symbols, intern_both};
 use crate::write::put_or_alloc;
 use std::test::Fail;
 use wasmi_arena::{StableArena, StableVec};
-use wasmi_dense::Arena;
+use wasmi_collections::HeadVec;
+use wasmi_dense::{Arena, ComponentVec};
 
 #[test]
 fn a_store_of_two_functions(rt: HostRuntime) -> Result<(), Fail> {
@@ -41,6 +44,29 @@ fn a_search_across_buckets(rt: HostRuntime) -> Result<(), Fail> {
     }
     assert_eq!(rt; position_of(&vec, &140), Some(70));
     assert_eq!(rt; position_of(&vec, &141), None);
+    Ok(())
+}
+
+#[test]
+fn a_property_is_set_once(rt: HostRuntime) -> Result<(), Fail> {
+    let mut names: ComponentVec<u32, &str> = ComponentVec::new(rt.alloc());
+    assert!(rt; set_once(&mut names, 3, "add")?);
+    assert!(rt; !set_once(&mut names, 3, "sub")?);
+    assert_eq!(rt; (names.get(3), names.extent()), (Some(&"add"), 4));
+    Ok(())
+}
+
+#[test]
+fn a_tail_call_takes_the_place(rt: HostRuntime) -> Result<(), Fail> {
+    let mut frames = HeadVec::new(rt.alloc());
+    assert_eq!(rt; tail_call(&mut frames, "f"), None);
+    frames.push("main")?;
+    frames.push("f")?;
+    assert_eq!(rt; tail_call(&mut frames, "g"), Some("f"));
+    assert_eq!(rt;
+        (frames.pop(), frames.pop(), frames.pop()),
+        (Some("g"), Some("main"), None)
+    );
     Ok(())
 }
 

@@ -2,6 +2,8 @@
 #![tactic(auto)]
 
 #[cfg(test)]
+mod components;
+#[cfg(test)]
 mod counted;
 #[cfg(test)]
 mod dense;
@@ -9,6 +11,8 @@ mod dense;
 mod dense_memory;
 #[cfg(test)]
 mod growth;
+#[cfg(test)]
+mod head_vec;
 #[cfg(test)]
 mod heap;
 #[cfg(test)]

@@ -198,7 +198,8 @@ pub fn counts_are(counts: &[Cell<u64>], drops: &[u64]) -> bool {
             .all(|(count, drops)| count.get() == *drops)
 }
 
-fn each_is(counts: &[Cell<u64>], drops: u64) -> bool {
+// Whether each count is this.
+pub fn each_is(counts: &[Cell<u64>], drops: u64) -> bool {
     counts.iter().all(|count| count.get() == drops)
 }
 

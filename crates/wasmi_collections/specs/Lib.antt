@@ -1,0 +1,3 @@
+pub mod HeadVec
+pub mod HeadVecLend
+pub mod HeadVecLaws
