@@ -6,12 +6,14 @@ unsafe extern "C" {
     pub safe fn wasmi_bench_vec_iter(n: u64, rounds: u64) -> u64;
     pub safe fn wasmi_bench_vec_iter_rev(n: u64, rounds: u64) -> u64;
     pub safe fn wasmi_bench_vec_slices(n: u64, rounds: u64) -> u64;
+    pub safe fn wasmi_bench_vec_iter_mut(n: u64, rounds: u64) -> u64;
     pub safe fn wasmi_bench_vec_swap(n: u64, rounds: u64) -> u64;
     pub safe fn wasmi_bench_vec_clone(n: u64, rounds: u64) -> u64;
     pub safe fn wasmi_bench_vec_eq(n: u64, rounds: u64) -> u64;
     pub safe fn wasmi_bench_vec_slots(n: u64) -> u64;
     pub safe fn wasmi_bench_vec_size() -> u64;
     pub safe fn wasmi_bench_arena_alloc(n: u64, rounds: u64) -> u64;
+    pub safe fn wasmi_bench_arena_alloc_many(n: u64, rounds: u64) -> u64;
     pub safe fn wasmi_bench_arena_iter_usize(n: u64, rounds: u64) -> u64;
     pub safe fn wasmi_bench_arena_iter_u32(n: u64, rounds: u64) -> u64;
 }

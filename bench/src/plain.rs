@@ -71,6 +71,21 @@ pub fn vec_iter_rev(n: u64, rounds: u64) -> u64 {
 }
 
 #[inline(never)]
+fn add_one(vec: &mut [u64]) {
+    for item in vec.iter_mut() {
+        *item = item.wrapping_add(1);
+    }
+}
+
+pub fn vec_iter_mut(n: u64, rounds: u64) -> u64 {
+    let mut vec = filled(n);
+    for _ in 0..rounds {
+        add_one(&mut vec);
+    }
+    walk(&vec, 1)
+}
+
+#[inline(never)]
 fn swap_all(vec: &mut [u64], n: u64) {
     let mut state = 1;
     for i in 0..n {
@@ -125,6 +140,17 @@ fn fill_keyed(vec: &mut Vec<u64>, n: u64, first: u64) -> u64 {
 
 pub fn arena_alloc(n: u64, rounds: u64) -> u64 {
     (0..rounds).fold(0, |sum, _| fill_keyed(&mut Vec::new(), n, sum))
+}
+
+#[inline(never)]
+fn fill_default(vec: &mut Vec<u64>, n: u64, before: u64) -> u64 {
+    vec.resize_with(vec.len() + n as usize, u64::default);
+    let last = vec.last().copied().unwrap_or(1);
+    before.wrapping_add(vec.len() as u64).wrapping_add(last)
+}
+
+pub fn arena_alloc_many(n: u64, rounds: u64) -> u64 {
+    (0..rounds).fold(1, |sum, _| fill_default(&mut Vec::new(), n, sum))
 }
 
 #[inline(never)]

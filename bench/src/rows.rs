@@ -13,7 +13,7 @@ pub type ExportedWork = extern "C" fn(n: u64, rounds: u64) -> u64;
 pub enum Round {
     /// Fills a new container and drops it.
     Fills,
-    /// Reads a container that is filled once, before the first round. The time of no rounds is taken off.
+    /// Reads or writes a container that is filled once, before the first round. The time of no rounds is taken off.
     Reads,
 }
 
@@ -59,10 +59,12 @@ pub const ROWS: &[Row] = &[
     row("`StableVec` walk", Round::Reads, ours::wasmi_bench_vec_iter, theirs::vec_iter, plain::vec_iter),
     row("`StableVec` walk backward", Round::Reads, ours::wasmi_bench_vec_iter_rev, theirs::vec_iter_rev, plain::vec_iter_rev),
     row("`StableVec` walk by `slices`", Round::Reads, ours::wasmi_bench_vec_slices, theirs::vec_iter, plain::vec_iter),
+    row("`StableVec` `iter_mut`, adding 1", Round::Reads, ours::wasmi_bench_vec_iter_mut, theirs::vec_iter_mut, plain::vec_iter_mut),
     row("`StableVec` swap", Round::Reads, ours::wasmi_bench_vec_swap, theirs::vec_swap, plain::vec_swap),
     row("`StableVec` clone", Round::Reads, ours::wasmi_bench_vec_clone, theirs::vec_clone, plain::vec_clone),
     row("`StableVec` equality", Round::Reads, ours::wasmi_bench_vec_eq, theirs::vec_eq, plain::vec_eq),
     row("`StableArena` alloc", Round::Fills, ours::wasmi_bench_arena_alloc, theirs::arena_alloc, plain::arena_alloc),
+    row("`StableArena` `alloc_many`", Round::Fills, ours::wasmi_bench_arena_alloc_many, theirs::arena_alloc_many, plain::arena_alloc_many),
     row("`StableArena` walk, `usize` keys", Round::Reads, ours::wasmi_bench_arena_iter_usize, theirs::arena_iter::<usize>, plain::arena_iter),
     row("`StableArena` walk, `u32` keys", Round::Reads, ours::wasmi_bench_arena_iter_u32, theirs::arena_iter::<u32>, plain::arena_iter),
 ];

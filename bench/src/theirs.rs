@@ -73,6 +73,21 @@ pub fn vec_iter_rev(n: u64, rounds: u64) -> u64 {
 }
 
 #[inline(never)]
+fn add_one(vec: &mut StableVec<u64>) {
+    for item in vec.iter_mut() {
+        *item = item.wrapping_add(1);
+    }
+}
+
+pub fn vec_iter_mut(n: u64, rounds: u64) -> u64 {
+    let mut vec = filled(n);
+    for _ in 0..rounds {
+        add_one(&mut vec);
+    }
+    walk(&vec, 1)
+}
+
+#[inline(never)]
 fn swap_all(vec: &mut StableVec<u64>, n: u64) {
     let mut state = 1;
     for i in 0..n {
@@ -131,6 +146,25 @@ fn fill_arena<Key: ArenaKey>(arena: &mut StableArena<Key, u64>, n: u64, first: u
 pub fn arena_alloc(n: u64, rounds: u64) -> u64 {
     (0..rounds).fold(0, |sum, _| {
         fill_arena(&mut StableArena::<usize, u64>::new(), n, sum)
+    })
+}
+
+#[inline(never)]
+fn fill_default<Key: ArenaKey>(arena: &mut StableArena<Key, u64>, n: u64, before: u64) -> u64 {
+    let Ok(keys) = arena.alloc_many(n as usize) else {
+        return 0;
+    };
+    let end = keys.end.into_usize();
+    let last = match Key::from_usize(end.wrapping_sub(1)) {
+        Some(key) => arena.get(key).copied().unwrap_or(1),
+        None => 1,
+    };
+    before.wrapping_add(end as u64).wrapping_add(last)
+}
+
+pub fn arena_alloc_many(n: u64, rounds: u64) -> u64 {
+    (0..rounds).fold(1, |sum, _| {
+        fill_default(&mut StableArena::<usize, u64>::new(), n, sum)
     })
 }
 

@@ -35,6 +35,14 @@ pub enum Call {
     Slices(String),
     /// All items, by a `for` over a reference.
     For,
+    /// Take items to write, likewise, and write the numbers from one on.
+    IterMut(String, i64),
+    /// Take buckets to write, likewise.
+    SlicesMut(String, i64),
+    /// Write all items, by a `for` over a `&mut` reference.
+    ForMut(i64),
+    /// Write all items, from the last to the first.
+    RevMut(i64),
     NextKey,
     Room,
     OpenBuckets,
@@ -94,6 +102,10 @@ impl Call {
             "slices" => Call::Slices(steps(words)?),
             "iter" => Call::Iter(steps(words)?),
             "for" => Call::For,
+            "iter_mut" => Call::IterMut(steps(words)?, number(words)?),
+            "slices_mut" => Call::SlicesMut(steps(words)?, number(words)?),
+            "for_mut" => Call::ForMut(number(words)?),
+            "rev_mut" => Call::RevMut(number(words)?),
             "next_key" => Call::NextKey,
             "room" => Call::Room,
             "open_buckets" => Call::OpenBuckets,
@@ -145,6 +157,10 @@ impl fmt::Display for Call {
             Call::Slices(steps) => write!(f, "slices {steps}"),
             Call::Iter(steps) => write!(f, "iter {steps}"),
             Call::For => write!(f, "for"),
+            Call::IterMut(steps, first) => write!(f, "iter_mut {steps} {first}"),
+            Call::SlicesMut(steps, first) => write!(f, "slices_mut {steps} {first}"),
+            Call::ForMut(first) => write!(f, "for_mut {first}"),
+            Call::RevMut(first) => write!(f, "rev_mut {first}"),
             Call::NextKey => write!(f, "next_key"),
             Call::Room => write!(f, "room"),
             Call::OpenBuckets => write!(f, "open_buckets"),

@@ -145,7 +145,7 @@ impl Generator {
         if self.random.once_in(times) {
             return self.add();
         }
-        match self.random.below(24) {
+        match self.random.below(26) {
             0 => Call::Len,
             1 => Call::IsEmpty,
             2..=9 => self.item(),
@@ -161,7 +161,9 @@ impl Generator {
             20 => Call::SizeOfBucketAt(self.bucket()),
             21 => self.several(target),
             22 => self.beside(),
-            _ => self.compared(),
+            23 => self.compared(),
+            24 => self.some_written(),
+            _ => self.all_written(),
         }
     }
 
@@ -265,7 +267,7 @@ impl Generator {
 
     /// All items, or those of a bucket. Mostly something shorter where there are many.
     fn content(&mut self) -> Call {
-        if self.len > SHORT && !self.random.once_in(self.len / SHORT * 4) {
+        if self.len > SHORT && !self.seldom() {
             return Call::Len;
         }
         match self.random.below(4) {
@@ -276,9 +278,38 @@ impl Generator {
         }
     }
 
+    /// A walk that writes the items that it comes to. The next call reads them.
+    fn some_written(&mut self) -> Call {
+        let (steps, first) = (self.steps(), self.value());
+        if self.is_vec && self.seldom() {
+            self.pending.push(Call::For);
+            return Call::SlicesMut(steps, first);
+        }
+        let read = match self.len {
+            0..=SHORT => Call::For,
+            _ => Call::Iter(steps.clone()),
+        };
+        self.pending.push(read);
+        Call::IterMut(steps, first)
+    }
+
+    /// A walk that writes all items, which the next call reads. Mostly one that writes some where there are many.
+    fn all_written(&mut self) -> Call {
+        if self.len > SHORT && !self.seldom() {
+            return self.some_written();
+        }
+        self.pending.push(Call::For);
+        let first = self.value();
+        if self.random.once_in(2) {
+            Call::ForMut(first)
+        } else {
+            Call::RevMut(first)
+        }
+    }
+
     /// Few steps, or about as many as there are items.
     fn steps(&mut self) -> String {
-        let many = self.len <= SHORT && self.random.once_in(4);
+        let many = self.len <= LONG && self.seldom();
         let count = if many {
             self.len + self.random.below(3)
         } else {
@@ -291,6 +322,11 @@ impl Generator {
                 .map(|_| self.random.one_of(&['f', 'b']))
                 .collect(),
         }
+    }
+
+    /// True once in four times, and less often the more items there are past a few.
+    fn seldom(&mut self) -> bool {
+        self.random.once_in((self.len / SHORT).max(1) * 4)
     }
 
     fn bucket(&mut self) -> usize {

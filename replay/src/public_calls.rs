@@ -12,7 +12,6 @@ pub enum Made {
 
 use Made::{By, Never};
 
-const TO_COME: &str = "the port has none yet (docs/DIFFERENCES.md, 'Still to come')";
 const CUT: &str = "the port has none (docs/DIFFERENCES.md, 'What was cut')";
 
 const OTHER_TEXT: &str =
@@ -33,6 +32,11 @@ pub const STABLE_VEC: Calls = &[
     ("`get_disjoint_mut`", By(&["swap"])),
     ("`iter`, its `next`, `next_back` and `len`", By(&["iter"])),
     ("`for` over `&`", By(&["for"])),
+    (
+        "`iter_mut`, its `next`, `next_back` and `len`",
+        By(&["iter_mut", "rev_mut"]),
+    ),
+    ("`for` over `&mut`", By(&["for_mut"])),
     ("`extend`", By(&["extend"])),
     ("`from_iter`", By(&["from_iter"])),
     ("`clone`", By(&["clone", "clone_in"])),
@@ -41,10 +45,9 @@ pub const STABLE_VEC: Calls = &[
     ("`cmp`", By(&["cmp"])),
     ("`hash`", By(&["hash"])),
     ("`Debug`", By(&["debug"])),
-    ("`iter_mut`, `for` over `&mut`", Never(TO_COME)),
     ("`default`", Never(CUT)),
     ("`get_mut_ptr`", Never(CUT)),
-    ("`size_hint` and `Debug` of the iterator", Never(CUT)),
+    ("`size_hint` and `Debug` of an iterator", Never(CUT)),
     ("`Send`, `Sync`", Never(CUT)),
 ];
 
@@ -62,14 +65,18 @@ pub const STABLE_ARENA: Calls = &[
     ("`arena[key] = item`", By(&["index_mut"])),
     ("`iter`, its `next`, `next_back` and `len`", By(&["iter"])),
     ("`for` over `&`", By(&["for"])),
+    (
+        "`iter_mut`, its `next`, `next_back` and `len`",
+        By(&["iter_mut", "rev_mut"]),
+    ),
+    ("`for` over `&mut`", By(&["for_mut"])),
     ("`==`", By(&["eq"])),
     ("`into_usize`, `from_usize` of a key", By(&["alloc", "get"])),
     ("`Display` of an error", By(&["get", "swap"])),
-    ("`iter_mut`, `for` over `&mut`", Never(TO_COME)),
     ("`default`", Never(CUT)),
     ("`Debug`", Never(OTHER_TEXT)),
     ("`get_mut_ptr`", Never(CUT)),
-    ("`size_hint` and `Debug` of the iterator", Never(CUT)),
+    ("`size_hint` and `Debug` of an iterator", Never(CUT)),
     ("`Send`, `Sync`", Never(CUT)),
 ];
 

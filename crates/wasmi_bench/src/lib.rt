@@ -40,6 +40,12 @@ pub extern "C" fn wasmi_bench_vec_slices(alloc: Global, n: u64, rounds: u64) -> 
     vec_rows::slices(alloc, n, rounds).unwrap_or(0)
 }
 
+/// Adds 1 to each item of a vector.
+#[unsafe(no_mangle)]
+pub extern "C" fn wasmi_bench_vec_iter_mut(alloc: Global, n: u64, rounds: u64) -> u64 {
+    vec_rows::iter_mut(alloc, n, rounds).unwrap_or(0)
+}
+
 /// Exchanges `n` pairs of items of a vector.
 #[unsafe(no_mangle)]
 pub extern "C" fn wasmi_bench_vec_swap(alloc: Global, n: u64, rounds: u64) -> u64 {
@@ -74,6 +80,12 @@ pub extern "C" fn wasmi_bench_vec_size() -> u64 {
 #[unsafe(no_mangle)]
 pub extern "C" fn wasmi_bench_arena_alloc(alloc: Global, n: u64, rounds: u64) -> u64 {
     arena_rows::alloc::<usize>(alloc, n, rounds).unwrap_or(0)
+}
+
+/// Puts `n` items into an empty arena by one call, each the default, and drops it.
+#[unsafe(no_mangle)]
+pub extern "C" fn wasmi_bench_arena_alloc_many(alloc: Global, n: u64, rounds: u64) -> u64 {
+    arena_rows::alloc_many::<usize>(alloc, n, rounds).unwrap_or(0)
 }
 
 /// Walks over the keys and items of an arena with keys of 64 bits.

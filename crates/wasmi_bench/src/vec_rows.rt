@@ -120,6 +120,22 @@ pub fn slices(alloc: Global, n: u64, rounds: u64) -> Result<u64, ArenaError> {
     Ok(sum)
 }
 
+#[inline(never)]
+fn add_one(vec: &mut StableVec<u64>) {
+    for item in vec.iter_mut() {
+        *item = item.wrapping_add(1);
+    }
+}
+
+pub fn iter_mut(alloc: Global, n: u64, rounds: u64) -> Result<u64, ArenaError> {
+    let mut vec = StableVec::new(alloc);
+    fill(&mut vec, n, 1)?;
+    for _ in 0..rounds {
+        add_one(&mut vec);
+    }
+    Ok(walk(&vec, 1))
+}
+
 // Exchanges as many pairs of items as there are items, each the next index and one that jumps about.
 #[inline(never)]
 fn swap_all(vec: &mut StableVec<u64>, n: u64) {

@@ -34,6 +34,14 @@ pub enum Call<'a> {
     Slices(&'a str),
     /// All items, by a `for` over a reference.
     For,
+    /// Take items to write, likewise, and write the numbers from one on.
+    IterMut(&'a str, i64),
+    /// Take buckets to write, likewise.
+    SlicesMut(&'a str, i64),
+    /// Write all items, by a `for` over a `&mut` reference.
+    ForMut(i64),
+    /// Write all items, from the last to the first.
+    RevMut(i64),
     NextKey,
     Room,
     OpenBuckets,
@@ -97,6 +105,10 @@ impl<'a> Call<'a> {
             "slices" => Call::Slices(steps(words)?),
             "iter" => Call::Iter(steps(words)?),
             "for" => Call::For,
+            "iter_mut" => Call::IterMut(steps(words)?, number(words)?),
+            "slices_mut" => Call::SlicesMut(steps(words)?, number(words)?),
+            "for_mut" => Call::ForMut(number(words)?),
+            "rev_mut" => Call::RevMut(number(words)?),
             "next_key" => Call::NextKey,
             "room" => Call::Room,
             "open_buckets" => Call::OpenBuckets,

@@ -111,6 +111,9 @@ impl<Key: ArenaKey + Debug> Container for ArenaReplay<Key> {
             Call::Slices(steps) => slices(self.arena.items(), steps, out),
             Call::Iter(steps) => iter(&self.arena, steps, out),
             Call::For => all(&self.arena, out),
+            Call::IterMut(steps, first) => iter_mut(&mut self.arena, steps, first, out),
+            Call::ForMut(first) => all_mut(&mut self.arena, first, out),
+            Call::RevMut(first) => all_mut_back(&mut self.arena, first, out),
             Call::NextKey => result(out, self.arena.next_key().map(|key| key.into_usize())),
             Call::Room => value(out, self.arena.room()),
             Call::OpenBuckets => value(out, self.arena.items().open_buckets()),
@@ -118,9 +121,12 @@ impl<Key: ArenaKey + Debug> Container for ArenaReplay<Key> {
             Call::Bucket(number) => bucket(self.arena.items(), number, out),
             Call::Place(index) => place(index, out),
             Call::SizeOfBucketAt(number) => size_of_bucket_at(number, out),
-            Call::Push(_) | Call::Extend(_, _) | Call::PartialCmp | Call::Cmp | Call::Hash => bad(
-                out,
-            ),
+            Call::Push(_)
+            | Call::Extend(_, _)
+            | Call::PartialCmp
+            | Call::Cmp
+            | Call::Hash
+            | Call::SlicesMut(_, _) => bad(out),
         }
     }
 }
@@ -151,6 +157,66 @@ fn all<Key: ArenaKey, W: Write>(arena: &StableArena<Key, i64>, out: &mut W) -> i
     write!(out, "{}:", arena.len())?;
     for (key, item) in arena {
         write!(out, " {}={item}", key.into_usize())?;
+    }
+    writeln!(out)
+}
+
+// Takes entries from an iterator, and then asks it how many are left. Their items become the numbers from
+// `first` on.
+fn iter_mut<Key: ArenaKey, W: Write>(
+    arena: &mut StableArena<Key, i64>,
+    steps: &str,
+    first: i64,
+    out: &mut W,
+) -> io::Result<()> {
+    let mut new = first;
+    let mut entries = arena.iter_mut();
+    for step in steps.bytes() {
+        let entry = if step == b'f' {
+            entries.next()
+        } else {
+            entries.next_back()
+        };
+        match entry {
+            Some((key, item)) => {
+                write!(out, "{}={item} ", key.into_usize())?;
+                *item = new;
+                new = new.wrapping_add(1);
+            }
+            None => write!(out, "none ")?,
+        }
+    }
+    writeln!(out, "left {}", entries.len())
+}
+
+// Writes how many items there are, and what each was, with its key. They become the numbers from `first` on.
+fn all_mut<Key: ArenaKey, W: Write>(
+    arena: &mut StableArena<Key, i64>,
+    first: i64,
+    out: &mut W,
+) -> io::Result<()> {
+    write!(out, "{}:", arena.len())?;
+    let mut new = first;
+    for (key, item) in arena {
+        write!(out, " {}={item}", key.into_usize())?;
+        *item = new;
+        new = new.wrapping_add(1);
+    }
+    writeln!(out)
+}
+
+// The same from the last item to the first.
+fn all_mut_back<Key: ArenaKey, W: Write>(
+    arena: &mut StableArena<Key, i64>,
+    first: i64,
+    out: &mut W,
+) -> io::Result<()> {
+    write!(out, "{}:", arena.len())?;
+    let mut new = first;
+    for (key, item) in arena.iter_mut().rev() {
+        write!(out, " {}={item}", key.into_usize())?;
+        *item = new;
+        new = new.wrapping_add(1);
     }
     writeln!(out)
 }

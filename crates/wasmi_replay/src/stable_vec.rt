@@ -86,6 +86,10 @@ impl Container for VecReplay {
             Call::Slices(steps) => slices(&self.vec, steps, out),
             Call::Iter(steps) => iter(&self.vec, steps, out),
             Call::For => all(&self.vec, out),
+            Call::IterMut(steps, first) => iter_mut(&mut self.vec, steps, first, out),
+            Call::SlicesMut(steps, first) => slices_mut(&mut self.vec, steps, first, out),
+            Call::ForMut(first) => all_mut(&mut self.vec, first, out),
+            Call::RevMut(first) => all_mut_back(&mut self.vec, first, out),
             Call::Room => value(out, self.vec.room()),
             Call::OpenBuckets => value(out, self.vec.open_buckets()),
             Call::Slots => value(out, self.vec.slots()),
@@ -143,6 +147,87 @@ fn all<W: Write>(vec: &StableVec<i64>, out: &mut W) -> io::Result<()> {
     write!(out, "{}:", vec.len())?;
     for item in vec {
         write!(out, " {item}")?;
+    }
+    writeln!(out)
+}
+
+// Takes items to write from an iterator, and then asks it how many are left. The items become the numbers
+// from `first` on.
+fn iter_mut<W: Write>(
+    vec: &mut StableVec<i64>,
+    steps: &str,
+    first: i64,
+    out: &mut W,
+) -> io::Result<()> {
+    let mut new = first;
+    let mut items = vec.iter_mut();
+    for step in steps.bytes() {
+        let item = if step == b'f' {
+            items.next()
+        } else {
+            items.next_back()
+        };
+        match item {
+            Some(item) => {
+                write!(out, "{item} ")?;
+                *item = new;
+                new = new.wrapping_add(1);
+            }
+            None => write!(out, "none ")?,
+        }
+    }
+    writeln!(out, "left {}", items.len())
+}
+
+// The same with buckets, each as the slice of its items.
+fn slices_mut<W: Write>(
+    vec: &mut StableVec<i64>,
+    steps: &str,
+    first: i64,
+    out: &mut W,
+) -> io::Result<()> {
+    let mut new = first;
+    let mut parts = vec.slices_mut();
+    for step in steps.bytes() {
+        let part = if step == b'f' {
+            parts.next()
+        } else {
+            parts.next_back()
+        };
+        match part {
+            Some(part) => {
+                write!(out, "{part:?} ")?;
+                for item in part {
+                    *item = new;
+                    new = new.wrapping_add(1);
+                }
+            }
+            None => write!(out, "none ")?,
+        }
+    }
+    writeln!(out, "left {}", parts.len())
+}
+
+// Writes how many items there are, and what each was. They become the numbers from `first` on.
+fn all_mut<W: Write>(vec: &mut StableVec<i64>, first: i64, out: &mut W) -> io::Result<()> {
+    write!(out, "{}:", vec.len())?;
+    let mut new = first;
+    for item in vec {
+        write!(out, " {item}")?;
+        *item = new;
+        new = new.wrapping_add(1);
+    }
+    writeln!(out)
+}
+
+// The same from the last item to the first.
+fn all_mut_back<W: Write>(vec: &mut StableVec<i64>, first: i64, out: &mut W) -> io::Result<()> {
+    write!(out, "{}:", vec.len())?;
+    let mut new = first;
+    for item in vec.iter_mut().rev() {
+        write!(out, " {item}")?;
+        *item = new;
+        new = new.wrapping_add(1);
     }
     writeln!(out)
 }

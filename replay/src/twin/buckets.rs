@@ -70,14 +70,9 @@ pub fn write_slices<'a>(
     get: impl Fn(usize) -> Option<&'a i64>,
     out: &mut impl Write,
 ) -> io::Result<()> {
-    let mut parts: VecDeque<_> = open(len).collect();
-    for step in steps.chars() {
-        let part = if step == 'f' {
-            parts.pop_front()
-        } else {
-            parts.pop_back()
-        };
-        match part {
+    let parts = taken(len, steps);
+    for part in &parts {
+        match *part {
             Some((start, size)) => {
                 let items: Vec<_> = (start..start + size).map_while(&get).collect();
                 write!(out, "{items:?} ")?;
@@ -85,7 +80,18 @@ pub fn write_slices<'a>(
             None => write!(out, "none ")?,
         }
     }
-    writeln!(out, "left {}", parts.len())
+    let left = open(len).count() - parts.iter().flatten().count();
+    writeln!(out, "left {left}")
+}
+
+/// The buckets that are taken from both ends, each with its first index and its slots, or `None` past the end.
+pub fn taken(len: usize, steps: &str) -> Vec<Option<(usize, usize)>> {
+    let mut parts: VecDeque<_> = open(len).collect();
+    let take = |step| match step {
+        'f' => parts.pop_front(),
+        _ => parts.pop_back(),
+    };
+    steps.chars().map(take).collect()
 }
 
 /// Writes the bucket and the slot of an index, or `none` if no vector is so long.

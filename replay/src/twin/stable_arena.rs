@@ -134,6 +134,9 @@ impl<Key: ArenaKey + Debug> Container for ArenaTwin<Key> {
             }
             Call::Iter(steps) => iter(&self.arena, &steps, out),
             Call::For => all(&self.arena, out),
+            Call::IterMut(steps, first) => iter_mut(&mut self.arena, &steps, first, out),
+            Call::ForMut(first) => all_mut(&mut self.arena, first, out),
+            Call::RevMut(first) => all_mut_back(&mut self.arena, first, out),
             Call::NextKey => result(out, self.next_key().map(Key::into_usize)),
             Call::Room => writeln!(out, "{}", buckets::room(len)),
             Call::OpenBuckets => writeln!(out, "{}", buckets::open_buckets(len)),
@@ -144,9 +147,12 @@ impl<Key: ArenaKey + Debug> Container for ArenaTwin<Key> {
             }
             Call::Place(index) => buckets::write_place(index, out),
             Call::SizeOfBucketAt(bucket) => option(out, buckets::size_of_bucket_at(bucket)),
-            Call::Push(_) | Call::Extend(..) | Call::PartialCmp | Call::Cmp | Call::Hash => {
-                bad(out)
-            }
+            Call::Push(_)
+            | Call::Extend(..)
+            | Call::PartialCmp
+            | Call::Cmp
+            | Call::Hash
+            | Call::SlicesMut(..) => bad(out),
         }
     }
 }
@@ -199,6 +205,62 @@ fn all<Key: ArenaKey>(arena: &StableArena<Key, i64>, out: &mut impl Write) -> io
     write!(out, "{}:", arena.len())?;
     for (key, item) in arena {
         write!(out, " {}={item}", key.into_usize())?;
+    }
+    writeln!(out)
+}
+
+fn iter_mut<Key: ArenaKey>(
+    arena: &mut StableArena<Key, i64>,
+    steps: &str,
+    first: i64,
+    out: &mut impl Write,
+) -> io::Result<()> {
+    let mut new = first;
+    let mut entries = arena.iter_mut();
+    for step in steps.chars() {
+        let entry = if step == 'f' {
+            entries.next()
+        } else {
+            entries.next_back()
+        };
+        match entry {
+            Some((key, item)) => {
+                write!(out, "{}={item} ", key.into_usize())?;
+                *item = new;
+                new = new.wrapping_add(1);
+            }
+            None => write!(out, "none ")?,
+        }
+    }
+    writeln!(out, "left {}", entries.len())
+}
+
+fn all_mut<Key: ArenaKey>(
+    arena: &mut StableArena<Key, i64>,
+    first: i64,
+    out: &mut impl Write,
+) -> io::Result<()> {
+    write!(out, "{}:", arena.len())?;
+    let mut new = first;
+    for (key, item) in arena {
+        write!(out, " {}={item}", key.into_usize())?;
+        *item = new;
+        new = new.wrapping_add(1);
+    }
+    writeln!(out)
+}
+
+fn all_mut_back<Key: ArenaKey>(
+    arena: &mut StableArena<Key, i64>,
+    first: i64,
+    out: &mut impl Write,
+) -> io::Result<()> {
+    write!(out, "{}:", arena.len())?;
+    let mut new = first;
+    for (key, item) in arena.iter_mut().rev() {
+        write!(out, " {}={item}", key.into_usize())?;
+        *item = new;
+        new = new.wrapping_add(1);
     }
     writeln!(out)
 }

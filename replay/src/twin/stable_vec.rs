@@ -73,6 +73,10 @@ impl Container for VecTwin {
             }
             Call::Iter(steps) => iter(vec, &steps, out),
             Call::For => all(vec, out),
+            Call::IterMut(steps, first) => iter_mut(vec, &steps, first, out),
+            Call::SlicesMut(steps, first) => slices_mut(vec, &steps, first, out),
+            Call::ForMut(first) => all_mut(vec, first, out),
+            Call::RevMut(first) => all_mut_back(vec, first, out),
             Call::Room => writeln!(out, "{}", buckets::room(vec.len())),
             Call::OpenBuckets => writeln!(out, "{}", buckets::open_buckets(vec.len())),
             Call::Slots => writeln!(out, "{}", buckets::slots(vec.len())),
@@ -113,6 +117,75 @@ fn all(vec: &StableVec<i64>, out: &mut impl Write) -> io::Result<()> {
     write!(out, "{}:", vec.len())?;
     for item in vec {
         write!(out, " {item}")?;
+    }
+    writeln!(out)
+}
+
+fn iter_mut(
+    vec: &mut StableVec<i64>,
+    steps: &str,
+    first: i64,
+    out: &mut impl Write,
+) -> io::Result<()> {
+    let mut new = first;
+    let mut items = vec.iter_mut();
+    for step in steps.chars() {
+        let item = if step == 'f' {
+            items.next()
+        } else {
+            items.next_back()
+        };
+        match item {
+            Some(item) => {
+                write!(out, "{item} ")?;
+                *item = new;
+                new = new.wrapping_add(1);
+            }
+            None => write!(out, "none ")?,
+        }
+    }
+    writeln!(out, "left {}", items.len())
+}
+
+/// The port alone has this call.
+fn slices_mut(
+    vec: &mut StableVec<i64>,
+    steps: &str,
+    first: i64,
+    out: &mut impl Write,
+) -> io::Result<()> {
+    let len = vec.len();
+    buckets::write_slices(len, steps, |index| vec.get(index), out)?;
+    let mut new = first;
+    for (start, size) in buckets::taken(len, steps).into_iter().flatten() {
+        for index in start..len.min(start + size) {
+            if let Some(item) = vec.get_mut(index) {
+                *item = new;
+                new = new.wrapping_add(1);
+            }
+        }
+    }
+    Ok(())
+}
+
+fn all_mut(vec: &mut StableVec<i64>, first: i64, out: &mut impl Write) -> io::Result<()> {
+    write!(out, "{}:", vec.len())?;
+    let mut new = first;
+    for item in vec {
+        write!(out, " {item}")?;
+        *item = new;
+        new = new.wrapping_add(1);
+    }
+    writeln!(out)
+}
+
+fn all_mut_back(vec: &mut StableVec<i64>, first: i64, out: &mut impl Write) -> io::Result<()> {
+    write!(out, "{}:", vec.len())?;
+    let mut new = first;
+    for item in vec.iter_mut().rev() {
+        write!(out, " {item}")?;
+        *item = new;
+        new = new.wrapping_add(1);
     }
     writeln!(out)
 }
