@@ -1,6 +1,6 @@
 -- A stable arena in memory is its vector, and a value without bytes. Assumes `Logic`.
 use mathlib.Core.Path.{◌≡◌, refl, sym, ap}
-use Prim.Native.Nat.{ℕ, zero, ◌+◌, ◌*◌, ◌<◌, ◌≤◌, ◌^◌}
+use Prim.Native.Nat.{ℕ, zero, ◌+◌, ◌<◌, ◌≤◌, ◌^◌}
 use native.Mathlib.Omega.{arith}
 use mathlib.Core.List.{List, [], ◌∷◌}
 use lib.ListN.{length}
@@ -34,7 +34,6 @@ use Rattle.wasmi_arena.specs.Bucket.{Bucket}
 use Rattle.wasmi_arena.specs.Loan.{SameBuckets}
 use Rattle.wasmi_arena.specs.contracts.stable_arena.StableArena as Arena
 use Rattle.wasmi_arena.specs.contracts.stable_arena.StableArena.TheInside as ArenaInside
-use Rattle.wasmi_arena.specs.contracts.stable_vec.StableVec as Vec
 use Rattle.wasmi_arena.specs.declared.key.ArenaKey as Key
 use Rattle.wasmi_arena.proofs.TableMemory.{MaybeBucket}
 use Rattle.wasmi_arena.proofs.VecMemory as vec

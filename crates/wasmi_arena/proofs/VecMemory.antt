@@ -30,7 +30,7 @@ use Rattle.core.proofs.slots.Leases.{P}
 use Rattle.core.specs.List.{refill}
 use Rattle.std.specs.Mem.{type_size}
 use Rattle.wasmi_arena.specs.Loan.{SameBuckets}
-use Rattle.wasmi_arena.specs.Table.{items_of, refilled}
+use Rattle.wasmi_arena.specs.Table.{refilled}
 use Rattle.wasmi_arena.specs.contracts.stable_vec.StableVec as Vec
 use Rattle.wasmi_arena.specs.contracts.stable_vec.StableVec.TheInside as VecInside
 use Rattle.wasmi_arena.specs.contracts.bucket_table.BucketTable as Table

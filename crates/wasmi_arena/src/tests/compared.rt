@@ -137,3 +137,15 @@ fn equal_arenas(rt: HostRuntime) -> Result<(), Fail> {
     assert!(rt; left == right);
     Ok(())
 }
+
+#[test]
+fn debug_texts_of_several_buckets(rt: HostRuntime) -> Result<(), Fail> {
+    for len in [32u32, 33, 100] {
+        let vec = counted(rt.alloc(), len)?;
+        let items: Vec<u32> = (0..len).collect(rt.alloc())?;
+        let text = format!(in rt.alloc(); "{vec:?}")?;
+        let wanted = format!(in rt.alloc(); "{items:?}")?;
+        assert_eq!(rt; text.as_str(), wanted.as_str(), "at {len}");
+    }
+    Ok(())
+}

@@ -6,7 +6,7 @@ use std::test::Fail;
 
 #[test]
 fn each_item_is_written_in_place(rt: HostRuntime) -> Result<(), Fail> {
-    for len in [0, 1, 32, 33, 100, 300] {
+    for len in [0, 1, 2, 32, 33, 34, 98, 100, 300] {
         let mut vec = counted(rt.alloc(), len)?;
         let (open_buckets, slots) = (vec.open_buckets(), vec.slots());
         for item in &mut vec {
@@ -44,11 +44,15 @@ fn an_iterator_that_is_left_early(rt: HostRuntime) -> Result<(), Fail> {
         assert_eq!(rt; items.len(), 297);
     }
     assert_eq!(rt; (vec.len(), vec.open_buckets(), vec.slots()), (300, 4, 480));
-    assert_eq!(rt; (vec.get(0), vec.get(1)), (Some(&1000), Some(&1)));
-    assert_eq!(rt;
-        (vec.get(297), vec.get(298), vec.get(299)),
-        (Some(&297), Some(&3000), Some(&2000))
-    );
+    for (index, item) in (0..300u32).zip(vec.iter()) {
+        let wanted = match index {
+            0 => 1000,
+            298 => 3000,
+            299 => 2000,
+            _ => index,
+        };
+        assert_eq!(rt; *item, wanted, "at {index}");
+    }
     assert_eq!(rt; vec.push(5)?, 300);
     Ok(())
 }

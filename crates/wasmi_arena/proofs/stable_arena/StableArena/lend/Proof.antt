@@ -1,5 +1,5 @@
 -- `lend` hands out an arena's buckets, of which only the items can be written. Assumes `Logic`.
-use Rattle.std.proofs.Common.{◌≡◌, ℕ, ◌*◌, ◌<◌, ◌≤◌, ◌^◌, List, [], ◌∷◌, length, refl, sym, ◌∙◌, ap, subst}
+use Rattle.std.proofs.Common.{ℕ, ◌*◌, ◌<◌, ◌≤◌, ◌^◌, List, [], ◌∷◌, length, refl, sym, ◌∙◌, ap, subst}
 use Rattle.std.proofs.raw_atomic.Walks.{proved}
 use Rattle.core.specs.List.{refill}
 use Rattle.std.specs.Mem.{type_size}

@@ -3,25 +3,25 @@ use Rattle.std.proofs.Common.{◌≡◌, ℕ, ◌+◌, ◌*◌, ◌<◌, ◌≤�
 use Rattle.std.proofs.lemmas.List.{length-take, take-append-drop}
 use Rattle.std.proofs.raw_atomic.Walks.{proved}
 use base.Logic.{never, id⊢}
-use base.Fml.{GName, ftrue, flft, fsep}
-use mir.Syntax.{named, Args, a_type, dcons, dnil}
+use base.Fml.{GName, ftrue, flft}
+use mir.Syntax.{Args, a_type, dcons, dnil}
 use mir.MapTy.{inst_fn}
-use mir.Val.{Val, vint, vptr, vstruct, vcons, vnil}
+use mir.Val.{vint}
 use contract.BorrowLft.{◌⊑◌}
 use contract.Monad.{fact}
 use contract.Running.{tables}
-use types.Kit.{join, use0, use1, use2, ‵, raw, ◌⊛◌, some, later, at_ret, ◌$◌, ◌∵◌, !, qed, done, move, keep, drop, split, split3, group, pick, await, fsplit, fsplit3, fjoin, frame, flt_l, flt_i, rewrite, suffices}
+use types.Kit.{join, use0, use1, use2, ‵, raw, ◌⊛◌, some, later, at_ret, ◌$◌, ◌∵◌, !, qed, done, move, keep, drop, split, split3, pick, await, fsplit, fjoin, flt_l, flt_i, rewrite, suffices}
 use types.Part.{agg, whole, sub}
 use types.Run.{enter, of_opd, bin, size_word, fld, stop, first, blocks, exec, returns, and_then, no_more}
 use types.ByLocal.{alloc_all, pass_all, free_all, look_at, get, get_in, sets, sets_last, is, env}
 use denote.Builtin.{usize}
 use denote.Exit.{yes, no}
 use denote.Plain.{uint_vals, uint_Tells}
-use denote.RawPtr.{Ptr, block_ptr, ptr_val, in_a_block}
+use denote.RawPtr.{block_ptr, ptr_val, in_a_block}
 use denote.Index.{place as nth, place_is}
 use denote.Param.{bounded}
 use denote.Signature.{plain, named_lft}
-use denote.Steps.{nothing, heard}
+use denote.Steps.{heard}
 use denote.Triple.Walked.{Stays, walk_of, says, stay_dropped, Goes-dropped, ends_at}
 use Rattle.core.proofs.alloc.Calls.{Al, Goes-blank}
 use Rattle.core.proofs.mem.Param.{El, R}

@@ -1,12 +1,11 @@
 -- `into_slice` lends the one bucket on, and the loan ends with what was written to its items. Assumes `Logic`.
-use Rattle.std.proofs.Common.{◌≡◌, ℕ, List, [], ◌∷◌, length, None, Some, refl, sym, ap, ◌∙◌, MutBor, append-nil}
+use Rattle.std.proofs.Common.{◌≡◌, ℕ, List, [], ◌∷◌, length, Some, refl, sym, ap, ◌∙◌, MutBor, append-nil}
 use Rattle.std.proofs.raw_atomic.Walks.{proved}
 use Rattle.std.specs.Prelude.{IsSome}
 use base.Share
 use base.Fraction.{full_share}
-use base.Logic.{SProp, ent, sep, emp, never, id⊢}
-use base.Fml.{GName, Fml, ftrue, flft, flent, fauth, fsep}
-use ghost.Rules.{aged}
+use base.Logic.{ent, sep, emp, never, id⊢}
+use base.Fml.{ftrue, flft, fauth, fsep}
 use seplogic.Ra.Ura.{Ura}
 use types.Logic.{Logic, sem}
 use mir.Syntax.{named, Args, a_type, dcons, dnil}
@@ -19,22 +18,21 @@ use contract.Monad.{fact}
 use contract.Running.{tables}
 use types.Follow.{after, closes_following}
 use types.Kit.{join, use0, use1, use2, ‵, raw, ◌⊛◌, some, later, at_ret, ◌$◌, ◌∵◌, !, qed, done, move, keep, drop, split, split3, group, pick, await, fsplit, fjoin, fjoin3, fpack, feq_i, rewrite, suffices}
-use types.Late.{deep, ages, bor_new_deep}
+use types.Late.{ages, bor_new_deep}
 use types.Mut.{open_ref}
 use types.Part.{whole, sub}
 use types.Run.{enter, of_opd, addr, fld, stop, first, blocks, exec, returns, and_then, no_more}
 use types.ByLocal.{alloc_all, pass_all, free_all, look_at, get, get_in, through, sets, sets_last, lands_as, is, env}
-use types.SemTy.{SemTy, Body}
+use types.SemTy.{SemTy}
 use types.Tokens.{name_new}
 use denote.Array.{Array}
 use denote.Exit.{no}
 use denote.Follow.{follows}
 use denote.Index.{row}
-use denote.Laws.{Is, shows}
+use denote.Laws.{shows}
 use denote.Memory.{mem, part_at}
 use denote.Param.{bounded}
-use denote.RawPtr.{Ptr, block_ptr, ptr_val, in_a_block}
-use denote.Ref.{MutRef}
+use denote.RawPtr.{block_ptr, ptr_val, in_a_block}
 use denote.Signature.{plain, named_lft}
 use denote.Slice.{MutSlice, slice_val}
 use denote.Steps.{nothing, heard, peeks, only}

@@ -1,5 +1,4 @@
-use Rattle.std.proofs.Common.{arith, ap, length, refl, sym, ◌∙◌, MutBor}
-use Rattle.std.specs.Slice.Iter.{iter_mut_rest}
+use Rattle.std.proofs.Common.{arith, ap, length, refl, MutBor}
 use Rattle.wasmi_arena.specs.IterMut.{left}
 use Rattle.wasmi_arena.proofs.Ahead.{last_counted, last_ahead, last_yields, fewer_last, progress_last}
 use Rattle.wasmi_arena.proofs.stable_vec.iter_mut.StableVecIterMutDoubleEndedIterator.next_back.Goals as goal

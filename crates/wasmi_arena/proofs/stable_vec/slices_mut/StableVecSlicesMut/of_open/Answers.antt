@@ -1,4 +1,4 @@
-use Rattle.std.proofs.Common.{◌∙◌, arith}
+use Rattle.std.proofs.Common.{◌∙◌}
 use Rattle.wasmi_arena.proofs.FilledParts.{HasBuckets-open, parts_lent}
 use Rattle.wasmi_arena.proofs.stable_vec.slices_mut.StableVecSlicesMut.of_open.Goals as goal
 
