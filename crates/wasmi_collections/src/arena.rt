@@ -2,8 +2,8 @@
 
 pub use wasmi_arena::{
     AnyArena, ArenaCommand, ArenaError, ArenaKey, ArenaReply, Bucket, MAX_LEN, StableArena,
-    StableArenaIter, StableArenaIterMut, StableVec, StableVecIter, StableVecIterMut, StableVecSlices,
-    StableVecSlicesMut, run_arena,
+    StableArenaIter, StableArenaIterMut, StableVec, StableVecIter, StableVecIterMut,
+    StableVecSlices, StableVecSlicesMut, run_arena,
 };
 pub use wasmi_dense::arena::{Iter, IterMut};
 pub use wasmi_dense::{Arena, ComponentVec};
