@@ -68,7 +68,7 @@ module _ {T : Type 0} where
         )
 
   -- the buckets of a vector, as its fields say them
-  HasBuckets-laid : (items : List T) (buckets : List (Option (Bucket T))) → HasBuckets items buckets → IsLaidOut buckets (fewest (length items)) (start (fewest (length items))) (length items)
+  pub HasBuckets-laid : (items : List T) (buckets : List (Option (Bucket T))) → HasBuckets items buckets → IsLaidOut buckets (fewest (length items)) (start (fewest (length items))) (length items)
   HasBuckets-laid items buckets has = let are = items_of-IsTable 32 items buckets has.table in record {
     buckets_counted = has.counted;
     table = rw are has.table;

@@ -11,6 +11,7 @@ mod compared;
 mod grow;
 mod iter;
 mod iter_mut;
+mod pairs;
 
 use crate::{ArenaError, ArenaKey, Bucket, ItemsLoan, MAX_LEN, StableVec, StableVecIterMut};
 pub use iter::StableArenaIter;

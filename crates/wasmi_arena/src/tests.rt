@@ -1,14 +1,15 @@
 //! What no clause says: the worked places and lengths, texts, and that calls succeed.
-ghost use Rattle.std.specs.Prelude.{◌<◌};
+ghost use Rattle.std.specs.Prelude.{◌≡◌, ◌<◌, ⊤};
 ghost use Rattle.wasmi_arena.specs.Geometry.{max_len, IsPlace};
 
 mod callers;
 mod compared;
 mod iter_mut;
+mod pairs;
 mod slices;
 
 use crate::{ArenaCommand, ArenaError, ArenaKey, ArenaReply, StableArena, StableVec, run_arena};
-use std::alloc::Global;
+use std::alloc::{AllocError, Global};
 use std::cell::Cell;
 use std::num::NonZero;
 use std::test::Fail;
@@ -198,6 +199,38 @@ fn each_item_is_dropped_once(rt: HostRuntime) -> Result<(), Fail> {
     assert_eq!(rt; drops.get(), (0, 0));
     drop(vec);
     assert_eq!(rt; drops.get(), (100, 4950));
+    Ok(())
+}
+
+// Counts its clones.
+#[derive(Drop)]
+struct CloneCount<'a> {
+    clones: &'a Cell<u32>,
+}
+
+impl Clone for CloneCount<'_> {
+    ghost is_clone = { λ item copy. copy ≡ item };
+
+    ghost is_infallible = { λ _. ⊤ };
+
+    fn clone(&self) -> Result<Self, AllocError> {
+        self.clones.set(self.clones.get().wrapping_add(1));
+        Ok(CloneCount {
+            clones: self.clones,
+        })
+    }
+}
+
+#[test]
+fn each_item_is_cloned_once(rt: HostRuntime) -> Result<(), Fail> {
+    let clones = Cell::new(0);
+    let mut vec = StableVec::new(rt.alloc());
+    for _ in 0..100 {
+        vec.push(CloneCount { clones: &clones })?;
+    }
+    assert_eq!(rt; clones.get(), 0);
+    let twin = vec.clone()?;
+    assert_eq!(rt; (twin.len(), clones.get()), (100, 100));
     Ok(())
 }
 

@@ -1,5 +1,5 @@
 //! Two items of a stable vector at once.
-ghost use Rattle.std.specs.Prelude.{◌≡◌, ◌≢◌, ◌<◌, ◌≤◌, ◌↔◌, ◌⊎◌, length, IfErr, OnOk, OnErr, IsErrOf, slice_get, slice_index_or, Some, None};
+ghost use Rattle.std.specs.Prelude.{◌≡◌, ◌≢◌, ◌<◌, ◌≤◌, ◌↔◌, ◌⊎◌, ℕ, [], ◌∷◌, length, IfOk, IfErr, OnOk, OnErr, IsErrOf, slice_get, slice_index_or, Some, None};
 ghost use Rattle.std.specs.List.{swap};
 ghost use Rattle.wasmi_arena.specs.Table.{items_in, with_item, write};
 
@@ -103,5 +103,40 @@ impl<T, A: Allocator> StableVec<T, A> {
         }
         self.swap_in_order(low, high);
         Ok(())
+    }
+
+    // The items at two indices.
+    fn two_mut(&mut self, first: usize, second: usize) -> Result<(&mut T, &mut T), ArenaError>
+        ensures items { IfOk result (λ pair. (slice_get self.old first ≡ Some pair.0.now)
+            × (slice_get self.old second ≡ Some pair.1.now)) }
+        ensures aliasing { IsErrOf result ArenaError.AliasingPairAccess ↔ (first ≡ second) }
+        ensures out_of_bounds { IsErrOf result ArenaError.KeyOutOfBounds
+            ↔ ((first ≢ second) × ((length self.old ≤ first) ⊎ (length self.old ≤ second))) }
+        ensures errors { IfErr result (λ error. (error ≡ ArenaError.AliasingPairAccess)
+            ⊎ (error ≡ ArenaError.KeyOutOfBounds)) }
+    {
+        let len = self.len;
+        let all = self.lend();
+        all.disjoint(len, first, second)
+    }
+
+    /// The items at two indices to write to, in the order of the indices.
+    ///
+    /// Fails with `AliasingPairAccess` if the indices are equal, and then with `KeyOutOfBounds` if one
+    /// isn't below the length. Constant time.
+    pub fn get_disjoint_mut(&mut self, indices: [usize; 2]) -> Result<(&mut T, &mut T), ArenaError>
+        ensures items { (first second : ℕ) → indices ≡ first ∷ second ∷ [] → IfOk result (λ pair.
+            (slice_get self.old first ≡ Some pair.0.now)
+            × (slice_get self.old second ≡ Some pair.1.now)) }
+        ensures aliasing { (first second : ℕ) → indices ≡ first ∷ second ∷ []
+            → (IsErrOf result ArenaError.AliasingPairAccess ↔ (first ≡ second)) }
+        ensures out_of_bounds { (first second : ℕ) → indices ≡ first ∷ second ∷ []
+            → (IsErrOf result ArenaError.KeyOutOfBounds
+            ↔ ((first ≢ second) × ((length self.old ≤ first) ⊎ (length self.old ≤ second)))) }
+        ensures errors { IfErr result (λ error. (error ≡ ArenaError.AliasingPairAccess)
+            ⊎ (error ≡ ArenaError.KeyOutOfBounds)) }
+    {
+        let [first, second] = indices;
+        self.two_mut(first, second)
     }
 }
