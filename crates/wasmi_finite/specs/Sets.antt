@@ -1,0 +1,26 @@
+-- A finite set, seen as the list of its elements. `eq` says which elements are equal.
+use Rattle.std.specs.Prelude.{◌≡◌, Bool, false, cond, List, [], ◌∷◌, Option, Some}
+use Rattle.std.specs.Iterator.{Drains, YieldsThen}
+use Rattle.std.specs.List.{All}
+use Rattle.std.specs.Set.{is_member, IsUnion}
+
+module _ {T : Type 0} (eq : T → T → Bool) where
+  -- the new set has the element if `there` says so, and every other exactly if the old one has it
+  abbrev pub ChangesAt : List T → T → Bool → List T → Type 0
+  ChangesAt old x there new = (q : T) → is_member eq new q ≡ cond (eq x q) there (is_member eq old q)
+
+  -- what is made an iterator by `becomes`, which then steps by `steps`, and whose items `read` gives as
+  -- elements
+  module _ {U S I : Type 0} (becomes : U → S → Type 0) (steps : S → Option I → S → Type 0)
+      (read : List I → List T) where
+    -- all its items went in, one by one
+    abbrev pub TakesAll : U → List T → List T → Type 0
+    TakesAll iter old new =
+        (it : S) × (items : List I) × becomes iter it × Drains steps it items × IsUnion eq old (read items) new
+
+    -- its items went in, one by one, up to one that was refused, which isn't there
+    abbrev pub TakesUntilRefused : U → List T → List T → Type 0
+    TakesUntilRefused iter old new =
+        (it : S) × (items : List I) × (refused : I) × (rest : S) × becomes iter it
+        × YieldsThen steps it items (Some refused) rest × IsUnion eq old (read items) new
+        × All (λ x. is_member eq new x ≡ false) (read (refused ∷ []))
