@@ -1,7 +1,6 @@
 -- A finite map, seen as the list of its entries. `eq` says which keys are equal.
 use Rattle.std.specs.Prelude.{◌≡◌, Bool, List, [], ◌∷◌, Option, Some, None}
 use Rattle.std.specs.Iterator.{Drains, YieldsThen}
-use Rattle.std.specs.List.{All}
 use Rattle.std.specs.Map.{lookup, update, update_all}
 
 module _ {K V : Type 0} (eq : K → K → Bool) where
@@ -30,6 +29,6 @@ module _ {K V : Type 0} (eq : K → K → Bool) where
     -- its items went in, one by one, up to one that was refused, whose key isn't there
     abbrev pub TakesUntilRefused : U → List (K × V) → List (K × V) → Type 0
     TakesUntilRefused iter old new =
-        (it : S) × (items : List I) × (refused : I) × (rest : S) × becomes iter it
-        × YieldsThen steps it items (Some refused) rest × InsertsAll old (read items) new
-        × All (λ p. value_at new p.0 ≡ None) (read (refused ∷ []))
+        (it : S) × (items : List I) × (item : I) × (rest : S) × (refused : K × V) × becomes iter it
+        × YieldsThen steps it items (Some item) rest × InsertsAll old (read items) new
+        × (read (item ∷ []) ≡ refused ∷ []) × (value_at new refused.0 ≡ None)

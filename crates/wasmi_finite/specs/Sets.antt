@@ -1,7 +1,6 @@
 -- A finite set, seen as the list of its elements. `eq` says which elements are equal.
 use Rattle.std.specs.Prelude.{◌≡◌, Bool, false, cond, List, [], ◌∷◌, Option, Some}
 use Rattle.std.specs.Iterator.{Drains, YieldsThen}
-use Rattle.std.specs.List.{All}
 use Rattle.std.specs.Set.{is_member, IsUnion}
 
 module _ {T : Type 0} (eq : T → T → Bool) where
@@ -21,6 +20,6 @@ module _ {T : Type 0} (eq : T → T → Bool) where
     -- its items went in, one by one, up to one that was refused, which isn't there
     abbrev pub TakesUntilRefused : U → List T → List T → Type 0
     TakesUntilRefused iter old new =
-        (it : S) × (items : List I) × (refused : I) × (rest : S) × becomes iter it
-        × YieldsThen steps it items (Some refused) rest × IsUnion eq old (read items) new
-        × All (λ x. is_member eq new x ≡ false) (read (refused ∷ []))
+        (it : S) × (items : List I) × (item : I) × (rest : S) × (refused : T) × becomes iter it
+        × YieldsThen steps it items (Some item) rest × IsUnion eq old (read items) new
+        × (read (item ∷ []) ≡ refused ∷ []) × (is_member eq new refused ≡ false)

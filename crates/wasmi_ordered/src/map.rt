@@ -8,6 +8,12 @@ ghost use Rattle.std.specs.Option.{option_copied_mut};
 ghost use Rattle.std.specs.Ordering.{eq_by_cmp};
 ghost use Rattle.wasmi_finite.specs.Maps.{value_at, ChangesAt};
 
+mod compared;
+mod grow;
+mod walks;
+
+pub use walks::{IntoIter, IntoKeys, IntoValues, Iter, IterMut, Keys, Values, ValuesMut};
+
 use std::alloc::{Allocator, Global};
 use std::collections::BTreeMap;
 use std::hash::Hash;
@@ -33,6 +39,9 @@ impl<K: Hash + Ord, V, A: Allocator> Model for Map<K, V, A> {
 }
 
 impl<K: Hash + Ord, V, A: Allocator> Map<K, V, A> {
+    ghost use Rattle.std.specs.Borrow.{sem};
+    ghost use Rattle.wasmi_ordered.specs.MapLend.{lends_get};
+
     /// An empty map, which asks `alloc` for memory when an entry comes.
     pub fn new(alloc: A) -> Self
         ensures { result ≡ [] }
@@ -105,6 +114,15 @@ impl<K: Hash + Ord, V, A: Allocator> Map<K, V, A> {
         self.tree.get_key_value(key)
     }
 
+    /// The value under a key to write to, if there is one. One search, and no allocation.
+    #[inline]
+    pub fn get_mut(&mut self, key: &K) -> Option<&mut V>
+        ensures* writes_back { sem 𝓛 (lends_get K.row V.row A.row (record { hash_input = K.hash_input }) K.Ord A.Allocator self.entry key.now result) }
+        ensures value { option_copied_mut result ≡ value_at (eq_by_cmp K.cmp) self.old key.now }
+    {
+        self.tree.get_mut(key)
+    }
+
     /// Puts a value under a key, and returns the one that was there. A key that is there is kept.
     ///
     /// Fails with `OutOfSystemMemory` if the key isn't there and there is no memory for it, and then the
@@ -120,6 +138,7 @@ impl<K: Hash + Ord, V, A: Allocator> Map<K, V, A> {
         ensures entries { OnOk result (self.new ≡ insert_entry K.cmp self.old key value) }
         ensures len { IfOk result (λ old. length self.new
             ≡ length self.old + (if is_some old then 0 else 1)) }
+        ensures absent { OnErr result (value_at (eq_by_cmp K.cmp) self.old key ≡ None) }
         ensures there { IsSome (value_at (eq_by_cmp K.cmp) self.old key) → IsOk result }
         ensures errors { IsOkUnless result ArenaError.OutOfSystemMemory }
         ensures err { OnErr result (self.new ≡ self.old) }
