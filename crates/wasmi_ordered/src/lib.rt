@@ -2,5 +2,7 @@
 #![tactic(auto)]
 
 pub mod map;
+pub mod set;
 
 pub use map::Map;
+pub use set::Set;
