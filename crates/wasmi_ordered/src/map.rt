@@ -12,13 +12,12 @@ mod compared;
 mod grow;
 mod walks;
 
-pub use walks::{IntoIter, IntoKeys, IntoValues, Iter, IterMut, Keys, Values, ValuesMut};
-
 use std::alloc::{Allocator, Global};
 use std::collections::BTreeMap;
 use std::hash::Hash;
 use std::marker::Model;
 use std::ops::Index;
+pub use walks::{IntoIter, IntoKeys, IntoValues, Iter, IterMut, Keys, Values, ValuesMut};
 use wasmi_arena::ArenaError;
 
 /// A map from keys to values, kept in the order of its keys.

@@ -14,12 +14,11 @@ mod grow;
 mod walks;
 
 pub use algebra::{Difference, Intersection, SymmetricDifference, Union};
-pub use walks::{IntoIter, Iter};
-
 use std::alloc::{Allocator, Global};
 use std::collections::BTreeSet;
 use std::hash::Hash;
 use std::marker::Model;
+pub use walks::{IntoIter, Iter};
 use wasmi_arena::ArenaError;
 
 /// A set of elements, kept in their order.

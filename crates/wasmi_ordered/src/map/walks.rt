@@ -7,11 +7,10 @@ ghost use Rattle.std.specs.Map.Iter.{ShowsInOrder, ShowsValuesInOrder, GivesInOr
 
 use super::Map;
 use std::alloc::Allocator;
-use std::hash::Hash;
-
 pub use std::collections::btree_map::{
     IntoIter, IntoKeys, IntoValues, Iter, IterMut, Keys, Values, ValuesMut,
 };
+use std::hash::Hash;
 
 impl<K: Hash + Ord, V, A: Allocator> Map<K, V, A> {
     /// Each key with its value.

@@ -8,10 +8,9 @@ ghost use Rattle.wasmi_finite.specs.Sets.{IsSubset, IsDisjoint, HoldsClones};
 
 use super::Set;
 use std::alloc::Allocator;
+pub use std::collections::btree_set::{Difference, Intersection, SymmetricDifference, Union};
 use std::hash::Hash;
 use wasmi_arena::ArenaError;
-
-pub use std::collections::btree_set::{Difference, Intersection, SymmetricDifference, Union};
 
 impl<T: Hash + Ord, A: Allocator> Set<T, A> {
     /// Whether the two sets have no element in common. No allocation.

@@ -33,7 +33,10 @@ impl<T: Hash + Ord, A: Allocator + Clone> Set<T, A> {
     }
 
     /// The same of references, whose elements are copied.
-    pub fn extend_ref<'a, U: IntoIterator<Item = &'a T>>(&mut self, iter: U) -> Result<(), ArenaError>
+    pub fn extend_ref<'a, U: IntoIterator<Item = &'a T>>(
+        &mut self,
+        iter: U,
+    ) -> Result<(), ArenaError>
     where
         T: Copy + 'a,
         requires { IsFiniteIterable U.into_iter_gives U.IntoIter.can_next U.IntoIter.remaining iter }

@@ -5,9 +5,8 @@ ghost use Rattle.std.specs.Map.Iter.{ShowsInOrder, deref};
 
 use super::Set;
 use std::alloc::Allocator;
-use std::hash::Hash;
-
 pub use std::collections::btree_set::{IntoIter, Iter};
+use std::hash::Hash;
 
 impl<T: Hash + Ord, A: Allocator> Set<T, A> {
     /// The elements.
