@@ -1,0 +1,3 @@
+// What no clause says: that calls succeed where there is memory, what a loop of writes leaves, texts.
+mod maps;
+mod sets;
