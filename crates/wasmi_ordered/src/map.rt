@@ -9,6 +9,7 @@ ghost use Rattle.std.specs.Ordering.{eq_by_cmp};
 ghost use Rattle.wasmi_finite.specs.Maps.{value_at, ChangesAt};
 
 mod compared;
+mod entry;
 mod grow;
 mod walks;
 
@@ -17,6 +18,7 @@ use std::collections::BTreeMap;
 use std::hash::Hash;
 use std::marker::Model;
 use std::ops::Index;
+pub use entry::{Entry, OccupiedEntry, VacantEntry};
 pub use walks::{IntoIter, IntoKeys, IntoValues, Iter, IterMut, Keys, Values, ValuesMut};
 use wasmi_arena::ArenaError;
 
