@@ -1,1 +1,2 @@
 pub mod MapLend
+pub mod MapEntry
