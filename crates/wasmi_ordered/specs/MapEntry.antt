@@ -10,5 +10,5 @@ use Rattle.wasmi_ordered.specs.declared.map.entry.Entry.TheVariants.{Occupied, V
 module _ {K V A : Type 0} {g : ord.Ghosts K} {g' : eq.Ghosts K} {g'' : partial.Ghosts K} where
   -- the place in the tree
   abbrev pub place : Entry K V A g' g g'' → Place K V A g g' g''
-  place (Occupied occupied) = tree.Occupied occupied.entry
+  place (Occupied occupied) = tree.Occupied occupied
   place (Vacant vacant) = tree.Vacant vacant.entry

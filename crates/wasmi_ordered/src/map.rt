@@ -13,12 +13,12 @@ mod entry;
 mod grow;
 mod walks;
 
+pub use entry::{Entry, OccupiedEntry, VacantEntry};
 use std::alloc::{Allocator, Global};
 use std::collections::BTreeMap;
 use std::hash::Hash;
 use std::marker::Model;
 use std::ops::Index;
-pub use entry::{Entry, OccupiedEntry, VacantEntry};
 pub use walks::{IntoIter, IntoKeys, IntoValues, Iter, IterMut, Keys, Values, ValuesMut};
 use wasmi_arena::ArenaError;
 

@@ -11,11 +11,12 @@ ghost use Rattle.std.specs.Ordering.{eq_by_cmp};
 ghost use Rattle.std.specs.declared.cmp.Ordering.TheVariants.{Equal};
 ghost use Rattle.wasmi_finite.specs.Maps.{value_at};
 ghost use Rattle.wasmi_ordered.specs.MapEntry.{place};
-ghost use Rattle.wasmi_ordered.specs.declared.map.entry.Entry.TheVariants.{Occupied, Vacant};
+ghost use Rattle.wasmi_ordered.specs.declared.map.entry.Entry.TheVariants.{Vacant};
 
 use super::Map;
 use std::alloc::{Allocator, Global};
 use std::collections::btree_map;
+pub use std::collections::btree_map::OccupiedEntry;
 use std::default::MadeWith;
 use std::hash::Hash;
 use wasmi_arena::ArenaError;
@@ -27,12 +28,6 @@ pub enum Entry<'a, K: Hash + Ord, V, A: Allocator = Global> {
     Occupied(OccupiedEntry<'a, K, V, A>),
     /// The key isn't there.
     Vacant(VacantEntry<'a, K, V, A>),
-}
-
-/// The place of a key that is there.
-#[derive(Drop)]
-pub struct OccupiedEntry<'a, K: Hash + Ord, V, A: Allocator = Global> {
-    entry: btree_map::OccupiedEntry<'a, K, V, A>,
 }
 
 /// The place of a key that isn't there, with room for it.
@@ -74,7 +69,7 @@ impl<'a, K: Hash + Ord, V, A: Allocator> Entry<'a, K, V, A> {
         ensures { place result ≡ entry.entry }
     {
         match entry {
-            btree_map::Entry::Occupied(entry) => Entry::Occupied(OccupiedEntry { entry }),
+            btree_map::Entry::Occupied(entry) => Entry::Occupied(entry),
             btree_map::Entry::Vacant(entry) => Entry::Vacant(VacantEntry { entry }),
         }
     }
@@ -83,7 +78,7 @@ impl<'a, K: Hash + Ord, V, A: Allocator> Entry<'a, K, V, A> {
         ensures { result ≡ place self.entry }
     {
         match self {
-            Entry::Occupied(occupied) => btree_map::Entry::Occupied(occupied.entry),
+            Entry::Occupied(occupied) => btree_map::Entry::Occupied(occupied),
             Entry::Vacant(vacant) => btree_map::Entry::Vacant(vacant.entry),
         }
     }
@@ -151,65 +146,6 @@ impl<'a, K: Hash + Ord, V, A: Allocator> Entry<'a, K, V, A> {
         ensures written { (last : V) → map_with_value (place result) last ≡ map_with_value (place self.entry) last }
     {
         Entry::of(self.into_tree().and_modify(modify))
-    }
-}
-
-impl<'a, K: Hash + Ord, V, A: Allocator> OccupiedEntry<'a, K, V, A> {
-    /// The key that is kept.
-    pub fn key(&self) -> &K
-        ensures { result.now ≡ entry_key (place (Occupied self.now)) }
-    {
-        self.entry.key()
-    }
-
-    /// The value.
-    pub fn get(&self) -> &V
-        ensures { entry_value (place (Occupied self.now)) ≡ Some result.now }
-    {
-        self.entry.get()
-    }
-
-    /// The value to write to.
-    pub fn get_mut(&mut self) -> &mut V
-        ensures { entry_value (place (Occupied self.old)) ≡ Some result.now }
-    {
-        self.entry.get_mut()
-    }
-
-    /// Puts another value under the key, and returns the one that was there.
-    pub fn insert(&mut self, value: V) -> V
-        ensures old { entry_value (place (Occupied self.old)) ≡ Some result }
-        ensures value { entry_value (place (Occupied self.new)) ≡ Some value }
-        ensures key { entry_key (place (Occupied self.new)) ≡ entry_key (place (Occupied self.old)) }
-        ensures written { (entry_map_ref (place (Occupied self.new))).now ≡ map_with_value (place (Occupied self.old)) value }
-    {
-        self.entry.insert(value)
-    }
-
-    /// The value to write to, for as long as the map is borrowed.
-    pub fn into_mut(self) -> &'a mut V
-        ensures { entry_value (place (Occupied self.entry)) ≡ Some result.now }
-    {
-        self.entry.into_mut()
-    }
-
-    /// Takes the key out, and returns it with its value.
-    pub fn remove_entry(self) -> (K, V)
-        ensures key { result.0 ≡ entry_key (place (Occupied self.entry)) }
-        ensures value { entry_value (place (Occupied self.entry)) ≡ Some result.1 }
-    {
-        let OccupiedEntry { entry } = self;
-        entry.remove_entry()
-    }
-
-    /// Takes the key out, and returns its value.
-    pub fn remove(self) -> V
-    where
-        K: Drop,
-        ensures { entry_value (place (Occupied self.entry)) ≡ Some result }
-    {
-        let OccupiedEntry { entry } = self;
-        entry.remove()
     }
 }
 

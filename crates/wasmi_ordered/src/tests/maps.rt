@@ -133,6 +133,9 @@ fn walks_ascend(rt: HostRuntime) -> Result<(), Fail> {
 #[test]
 fn a_map_prints_in_order(rt: HostRuntime) -> Result<(), Fail> {
     let map = Map::from_iter(rt.alloc(), [(2, true), (1, false)])?;
-    assert_eq!(rt; format!(in rt.alloc(); "{map:?}")?.as_str(), "{1: false, 2: true}");
+    assert_eq!(rt;
+        format!(in rt.alloc(); "{map:?}")?.as_str(),
+        "{1: false, 2: true}"
+    );
     Ok(())
 }
