@@ -7,6 +7,7 @@ pub mod reserve;
 pub mod search;
 pub mod store;
 pub mod symbols;
+pub mod tables;
 #[cfg(test)]
 mod tests;
 pub mod write;

@@ -6,11 +6,13 @@ use crate::reserve::put_both;
 use crate::search::position_of;
 use crate::store::FuncStore;
 use crate::symbols::{Symbols, intern_both};
+use crate::tables::{add_once, reset};
 use crate::write::put_or_alloc;
 use std::test::Fail;
 use wasmi_arena::{StableArena, StableVec};
 use wasmi_collections::HeadVec;
 use wasmi_dense::{Arena, ComponentVec};
+use wasmi_ordered::Map;
 
 #[test]
 fn a_store_of_two_functions(rt: HostRuntime) -> Result<(), Fail> {
@@ -98,5 +100,17 @@ fn two_items_go_in_together(rt: HostRuntime) -> Result<(), Fail> {
         (arena.len(), arena.get(1), arena.get(2)),
         (4, Ok(&2), Ok(&3))
     );
+    Ok(())
+}
+
+#[test]
+fn a_table_of_counts(rt: HostRuntime) -> Result<(), Fail> {
+    let mut counts: Map<u32, u64> = Map::new(rt.alloc());
+    assert!(rt; add_once(&mut counts, 7, 3)?);
+    assert!(rt; add_once(&mut counts, 8, 4)?);
+    assert!(rt; !add_once(&mut counts, 7, 9)?);
+    assert_eq!(rt; reset(&mut counts, &7), Some(3));
+    assert_eq!(rt; reset(&mut counts, &9), None);
+    assert_eq!(rt; (counts.get(&7), counts.get(&8)), (Some(&0), Some(&4)));
     Ok(())
 }

@@ -18,4 +18,6 @@ mod heap;
 #[cfg(test)]
 mod memory;
 pub mod observed;
+#[cfg(test)]
+mod ordered_memory;
 pub mod tiny;

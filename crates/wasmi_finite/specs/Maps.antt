@@ -1,0 +1,34 @@
+-- A finite map, seen as the list of its entries. `eq` says which keys are equal.
+use Rattle.std.specs.Prelude.{◌≡◌, Bool, List, [], ◌∷◌, Option, Some, None}
+use Rattle.std.specs.Iterator.{Drains, YieldsThen}
+use Rattle.std.specs.Map.{lookup, update, update_all}
+
+module _ {K V : Type 0} (eq : K → K → Bool) where
+  -- the value under a key, if there is one
+  abbrev pub value_at : List (K × V) → K → Option V
+  value_at entries k = lookup (eq k) entries
+
+  -- the new map has this under the key, and what the old one has under every other
+  abbrev pub ChangesAt : List (K × V) → K → Option V → List (K × V) → Type 0
+  ChangesAt old k slot new = (q : K) → value_at new q ≡ update eq (value_at old) k slot q
+
+  -- the new map is the old one after these pairs went in, one by one. Of two with one key, the value of
+  -- the later one stays
+  abbrev pub InsertsAll : List (K × V) → List (K × V) → List (K × V) → Type 0
+  InsertsAll old pairs new = (q : K) → value_at new q ≡ update_all eq (value_at old) pairs q
+
+  -- what is made an iterator by `becomes`, which then steps by `steps`, and whose items `read` gives as
+  -- pairs
+  module _ {U S I : Type 0} (becomes : U → S → Type 0) (steps : S → Option I → S → Type 0)
+      (read : List I → List (K × V)) where
+    -- all its items went in, one by one
+    abbrev pub TakesAll : U → List (K × V) → List (K × V) → Type 0
+    TakesAll iter old new =
+        (it : S) × (items : List I) × becomes iter it × Drains steps it items × InsertsAll old (read items) new
+
+    -- its items went in, one by one, up to one that was refused, whose key isn't there
+    abbrev pub TakesUntilRefused : U → List (K × V) → List (K × V) → Type 0
+    TakesUntilRefused iter old new =
+        (it : S) × (items : List I) × (item : I) × (rest : S) × (refused : K × V) × becomes iter it
+        × YieldsThen steps it items (Some item) rest × InsertsAll old (read items) new
+        × (read (item ∷ []) ≡ refused ∷ []) × (value_at new refused.0 ≡ None)

@@ -1,0 +1,10 @@
+use Rattle.std.proofs.Common.{map}
+use Rattle.std.specs.Map.Iter.{deref_pair}
+use Rattle.std.specs.Ordering.{eq_by_cmp}
+use Rattle.wasmi_finite.specs.Maps.{InsertsAll}
+use Rattle.wasmi_ordered.proofs.map.Map.extend_ref.Given as goal
+
+-- copies of what came so far are in
+abbrev pub invariant-loop-key : goal.invariant-loop-key
+invariant-loop-key g l = (goal.iterator-loop-key g).can_next l.key-iterator × (goal.iterator-loop-key g).is_finite l.key-iterator
+    × InsertsAll (eq_by_cmp g.K.Ord.cmp) l.fn.self (map deref_pair l.yielded) l.self

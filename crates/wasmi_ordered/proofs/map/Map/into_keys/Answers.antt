@@ -1,0 +1,7 @@
+use Rattle.wasmi_ordered.proofs.map.Map.into_keys.Goals as goal
+
+pub returns-clause-len : goal.returns-clause-len
+returns-clause-len g c = rw (← c.self.view_is) c.into_keys.ensures.len
+
+pub returns-clause-bound : goal.returns-clause-bound
+returns-clause-bound g c = rw (← c.self.view_is) c.into_keys.ensures.fits

@@ -1,0 +1,4 @@
+use Rattle.wasmi_ordered.proofs.map.Map.remove_entry.Goals as goal
+
+pub returns-clause-changes : goal.returns-clause-changes
+returns-clause-changes g c = rw (← c.self.view_is) c.remove_entry.ensures.updates.0

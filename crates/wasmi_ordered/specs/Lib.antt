@@ -1,0 +1,2 @@
+pub mod MapLend
+pub mod MapEntry

@@ -1,0 +1,11 @@
+//! Maps and sets whose keys are kept in order.
+#![tactic(auto)]
+
+pub mod map;
+pub mod set;
+
+pub use map::Map;
+pub use set::Set;
+
+#[cfg(test)]
+mod tests;

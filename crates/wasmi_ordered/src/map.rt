@@ -1,0 +1,207 @@
+//! A map whose keys are kept in order.
+ghost use Rattle.std.specs.Prelude.{◌≡◌, ◌==◌, ◌<◌, ◌^◌, ◌+◌, [], length, IfOk, OnOk, OnErr, IsOk, IsOkUnless, IsSome, Some, None, is_some, option_map, option_copied, if◌then◌else◌};
+ghost use Rattle.std.specs.BTreeMap.{insert_entry};
+ghost use Rattle.std.specs.List.Sorted.{IsStrictlySortedBy};
+ghost use Rattle.std.specs.Map.{keys_of, values_of, lookup_key, remove_entry};
+ghost use Rattle.std.specs.Map.Calls.{CalledAtPair, TakesPair, CallableOnEachPair, RetainsPairs};
+ghost use Rattle.std.specs.Option.{option_copied_mut};
+ghost use Rattle.std.specs.Ordering.{eq_by_cmp};
+ghost use Rattle.wasmi_finite.specs.Maps.{value_at, ChangesAt};
+
+mod compared;
+mod entry;
+mod grow;
+mod walks;
+
+pub use entry::{Entry, OccupiedEntry, VacantEntry};
+use std::alloc::{Allocator, Global};
+use std::collections::BTreeMap;
+use std::hash::Hash;
+use std::marker::Model;
+use std::ops::Index;
+pub use walks::{IntoIter, IntoKeys, IntoValues, Iter, IterMut, Keys, Values, ValuesMut};
+use wasmi_arena::ArenaError;
+
+/// A map from keys to values, kept in the order of its keys.
+///
+/// It is a B-tree, so a call that looks for a key compares it with a number of keys that is logarithmic
+/// in how many there are.
+#[derive(Drop)]
+pub struct Map<K: Hash + Ord, V, A: Allocator = Global> {
+    tree: BTreeMap<K, V, A>,
+}
+
+impl<K: Hash + Ord, V, A: Allocator> Model for Map<K, V, A> {
+    ghost use Rattle.std.specs.Prelude.{List};
+
+    ghost Value = { List (K × V) };
+
+    ghost view = { λ map. map.tree.entries };
+}
+
+impl<K: Hash + Ord, V, A: Allocator> Map<K, V, A> {
+    ghost use Rattle.std.specs.Borrow.{sem};
+    ghost use Rattle.wasmi_ordered.specs.MapLend.{lends_get};
+
+    /// An empty map, which asks `alloc` for memory when an entry comes.
+    pub fn new(alloc: A) -> Self
+        ensures { result ≡ [] }
+    {
+        Map {
+            tree: BTreeMap::new(alloc),
+        }
+    }
+
+    /// Drops all entries. Linear in their number.
+    pub fn clear(&mut self)
+    where
+        K: Drop,
+        V: Drop,
+        ensures { self.new ≡ [] }
+    {
+        self.tree.clear();
+    }
+
+    /// The number of entries. Constant time.
+    #[inline]
+    pub fn len(&self) -> usize
+        ensures value { result ≡ length self.now }
+        ensures small { result < 2 ^ 63 }
+        ensures ascending { IsStrictlySortedBy K.cmp (keys_of self.now) }
+    {
+        self.tree.len()
+    }
+
+    /// Whether there is no entry. Constant time.
+    #[inline]
+    pub fn is_empty(&self) -> bool
+        ensures { result ≡ (length self.now == 0) }
+    {
+        self.tree.len() == 0
+    }
+
+    /// Does nothing: entries need no room beforehand. It is here since maps of the other backing have it.
+    pub fn reserve(&mut self, _additional: usize) -> Result<(), ArenaError>
+        ensures ok { IsOk result }
+        ensures same { self.new ≡ self.old }
+    {
+        Ok(())
+    }
+
+    /// Whether the key is there. One search, and no allocation.
+    #[inline]
+    pub fn contains_key(&self, key: &K) -> bool
+        ensures { result ≡ is_some (value_at (eq_by_cmp K.cmp) self.now key.now) }
+    {
+        self.tree.contains_key(key)
+    }
+
+    /// The value under a key, if there is one. One search, and no allocation.
+    #[inline]
+    pub fn get(&self, key: &K) -> Option<&V>
+        ensures { option_copied result ≡ value_at (eq_by_cmp K.cmp) self.now key.now }
+    {
+        self.tree.get(key)
+    }
+
+    /// The key that is kept and its value, if it is there. One search, and no allocation.
+    #[inline]
+    pub fn get_key_value(&self, key: &K) -> Option<(&K, &V)>
+        ensures key { option_map (λ pair. pair.0.now) result
+            ≡ lookup_key (eq_by_cmp K.cmp key.now) self.now }
+        ensures value { option_map (λ pair. pair.1.now) result
+            ≡ value_at (eq_by_cmp K.cmp) self.now key.now }
+    {
+        self.tree.get_key_value(key)
+    }
+
+    /// The value under a key to write to, if there is one. One search, and no allocation.
+    #[inline]
+    pub fn get_mut(&mut self, key: &K) -> Option<&mut V>
+        ensures* writes_back { sem 𝓛 (lends_get K.row V.row A.row (record { hash_input = K.hash_input }) K.Ord A.Allocator self.entry key.now result) }
+        ensures value { option_copied_mut result ≡ value_at (eq_by_cmp K.cmp) self.old key.now }
+    {
+        self.tree.get_mut(key)
+    }
+
+    /// Puts a value under a key, and returns the one that was there. A key that is there is kept.
+    ///
+    /// Fails with `OutOfSystemMemory` if the key isn't there and there is no memory for it, and then the
+    /// map is as before, and the pair is dropped. One search.
+    #[inline]
+    pub fn insert(&mut self, key: K, value: V) -> Result<Option<V>, ArenaError>
+    where
+        K: Drop,
+        V: Drop,
+        A: Clone,
+        ensures old { IfOk result (λ old. old ≡ value_at (eq_by_cmp K.cmp) self.old key) }
+        ensures changes { OnOk result (ChangesAt (eq_by_cmp K.cmp) self.old key (Some value) self.new) }
+        ensures entries { OnOk result (self.new ≡ insert_entry K.cmp self.old key value) }
+        ensures len { IfOk result (λ old. length self.new
+            ≡ length self.old + (if is_some old then 0 else 1)) }
+        ensures absent { OnErr result (value_at (eq_by_cmp K.cmp) self.old key ≡ None) }
+        ensures there { IsSome (value_at (eq_by_cmp K.cmp) self.old key) → IsOk result }
+        ensures errors { IsOkUnless result ArenaError.OutOfSystemMemory }
+        ensures err { OnErr result (self.new ≡ self.old) }
+    {
+        let old = self.tree.insert(key, value)?;
+        Ok(old)
+    }
+
+    /// Takes a key out, and returns its value, if it is there. One search, and never fails.
+    #[inline]
+    pub fn remove(&mut self, key: &K) -> Option<V>
+    where
+        K: Drop,
+        ensures old { result ≡ value_at (eq_by_cmp K.cmp) self.old key.now }
+        ensures changes { ChangesAt (eq_by_cmp K.cmp) self.old key.now None self.new }
+        ensures entries { self.new ≡ remove_entry (eq_by_cmp K.cmp key.now) self.old }
+        ensures len { length self.new + (if is_some result then 1 else 0) ≡ length self.old }
+    {
+        self.tree.remove(key)
+    }
+
+    /// Takes a key out, and returns it with its value, if it is there. One search, and never fails.
+    #[inline]
+    pub fn remove_entry(&mut self, key: &K) -> Option<(K, V)>
+        ensures key { option_map (λ pair. pair.0) result
+            ≡ lookup_key (eq_by_cmp K.cmp key.now) self.old }
+        ensures value { option_map (λ pair. pair.1) result
+            ≡ value_at (eq_by_cmp K.cmp) self.old key.now }
+        ensures changes { ChangesAt (eq_by_cmp K.cmp) self.old key.now None self.new }
+        ensures entries { self.new ≡ remove_entry (eq_by_cmp K.cmp key.now) self.old }
+        ensures len { length self.new + (if is_some result then 1 else 0) ≡ length self.old }
+    {
+        self.tree.remove_entry(key)
+    }
+
+    /// Keeps the entries for which the closure returns `true`, and drops the others. It visits each entry
+    /// once, in the order of the keys, and may write to the values. Linear, and never fails.
+    pub fn retain<F: FnMut(&K, &mut V) -> bool>(&mut self, keep: F)
+    where
+        K: Drop,
+        V: Drop,
+        requires { CallableOnEachPair (CalledAtPair F.FnMut) (TakesPair F.FnMut) keep self.old }
+        ensures { RetainsPairs (CalledAtPair F.FnMut) keep self.old self.new }
+    {
+        self.tree.retain(keep);
+    }
+}
+
+/// `map[&key]` is the value under the key, which is there.
+impl<K: Hash + Ord, V, A: Allocator> Index<&K> for Map<K, V, A> {
+    ghost use Rattle.std.specs.Prelude.{◌≡◌, IsSome, Some};
+    ghost use Rattle.std.specs.Ordering.{eq_by_cmp};
+    ghost use Rattle.wasmi_finite.specs.Maps.{value_at};
+
+    type Output = V;
+
+    // The key is there.
+    ghost can_index = { λ map key. IsSome (value_at (eq_by_cmp K.cmp) map key.now) };
+
+    ghost index_gives = { λ map key value. value_at (eq_by_cmp K.cmp) map key.now ≡ Some value };
+
+    fn index(&self, key: &K) -> &V {
+        &self.tree[key]
+    }
+}

@@ -1,0 +1,184 @@
+//! A set whose elements are kept in order.
+ghost use Rattle.std.specs.Prelude.{◌≡◌, ◌==◌, ◌<◌, ◌^◌, ◌+◌, [], true, false, not, length, find, IfOk, OnOk, OnErr, IsOk, IsOkUnless, IsTrue, is_some, option_copied, if◌then◌else◌};
+ghost use Rattle.std.specs.BTreeSet.{insert_key, replace_key};
+ghost use Rattle.std.specs.Fn.{CalledAt};
+ghost use Rattle.std.specs.List.Retain.{IsFiltered};
+ghost use Rattle.std.specs.List.Sorted.{IsStrictlySortedBy};
+ghost use Rattle.std.specs.Ordering.{eq_by_cmp};
+ghost use Rattle.std.specs.Set.{is_member, remove_key};
+ghost use Rattle.wasmi_finite.specs.Sets.{ChangesAt};
+
+mod algebra;
+mod compared;
+mod grow;
+mod walks;
+
+pub use algebra::{Difference, Intersection, SymmetricDifference, Union};
+use std::alloc::{Allocator, Global};
+use std::collections::BTreeSet;
+use std::hash::Hash;
+use std::marker::Model;
+pub use walks::{IntoIter, Iter};
+use wasmi_arena::ArenaError;
+
+/// A set of elements, kept in their order.
+///
+/// It is a B-tree, so a call that looks for an element compares it with a number of elements that is
+/// logarithmic in how many there are.
+#[derive(Drop)]
+pub struct Set<T: Hash + Ord, A: Allocator = Global> {
+    tree: BTreeSet<T, A>,
+}
+
+impl<T: Hash + Ord, A: Allocator> Model for Set<T, A> {
+    ghost use Rattle.std.specs.Prelude.{List};
+
+    ghost Value = { List T };
+
+    ghost view = { λ set. set.tree.keys };
+}
+
+impl<T: Hash + Ord, A: Allocator> Set<T, A> {
+    /// An empty set, which asks `alloc` for memory when an element comes.
+    pub fn new(alloc: A) -> Self
+        ensures { result ≡ [] }
+    {
+        Set {
+            tree: BTreeSet::new(alloc),
+        }
+    }
+
+    /// Drops all elements. Linear in their number.
+    pub fn clear(&mut self)
+    where
+        T: Drop,
+        ensures { self.new ≡ [] }
+    {
+        self.tree.clear();
+    }
+
+    /// The number of elements. Constant time.
+    #[inline]
+    pub fn len(&self) -> usize
+        ensures value { result ≡ length self.now }
+        ensures small { result < 2 ^ 63 }
+        ensures ascending { IsStrictlySortedBy T.cmp self.now }
+    {
+        self.tree.len()
+    }
+
+    /// Whether there is no element. Constant time.
+    #[inline]
+    pub fn is_empty(&self) -> bool
+        ensures { result ≡ (length self.now == 0) }
+    {
+        self.tree.len() == 0
+    }
+
+    /// Does nothing: elements need no room beforehand. It is here since sets of the other backing have it.
+    pub fn reserve(&mut self, _additional: usize) -> Result<(), ArenaError>
+        ensures ok { IsOk result }
+        ensures same { self.new ≡ self.old }
+    {
+        Ok(())
+    }
+
+    /// Whether the element is there. One search, and no allocation.
+    #[inline]
+    pub fn contains(&self, value: &T) -> bool
+        ensures { result ≡ is_member (eq_by_cmp T.cmp) self.now value.now }
+    {
+        self.tree.contains(value)
+    }
+
+    /// The element that is kept, if it is there. One search, and no allocation.
+    #[inline]
+    pub fn get(&self, value: &T) -> Option<&T>
+        ensures element { option_copied result ≡ find (eq_by_cmp T.cmp value.now) self.now }
+        ensures there { is_some result ≡ is_member (eq_by_cmp T.cmp) self.now value.now }
+    {
+        self.tree.get(value)
+    }
+
+    /// Puts an element in, and returns whether it is new. An element that is there is kept.
+    ///
+    /// Fails with `OutOfSystemMemory` if it isn't there and there is no memory for it, and then the set is
+    /// as before, and the element is dropped. One search.
+    #[inline]
+    pub fn insert(&mut self, value: T) -> Result<bool, ArenaError>
+    where
+        T: Drop,
+        A: Clone,
+        ensures added { IfOk result (λ added. added ≡ not (is_member (eq_by_cmp T.cmp) self.old value)) }
+        ensures changes { OnOk result (ChangesAt (eq_by_cmp T.cmp) self.old value true self.new) }
+        ensures elements { OnOk result (self.new ≡ insert_key T.cmp self.old value) }
+        ensures len { IfOk result (λ added. length self.new
+            ≡ length self.old + (if added then 1 else 0)) }
+        ensures absent { OnErr result (is_member (eq_by_cmp T.cmp) self.old value ≡ false) }
+        ensures there { IsTrue (is_member (eq_by_cmp T.cmp) self.old value) → IsOk result }
+        ensures errors { IsOkUnless result ArenaError.OutOfSystemMemory }
+        ensures err { OnErr result (self.new ≡ self.old) }
+    {
+        let added = self.tree.insert(value)?;
+        Ok(added)
+    }
+
+    /// Puts an element in, in the place of the one that is there, and returns that one.
+    ///
+    /// Fails as [`insert`](Set::insert) does. One search where the element is there, and else two.
+    #[inline]
+    pub fn replace(&mut self, value: T) -> Result<Option<T>, ArenaError>
+    where
+        T: Drop,
+        A: Clone,
+        ensures old { IfOk result (λ old. old ≡ find (eq_by_cmp T.cmp value) self.old) }
+        ensures changes { OnOk result (ChangesAt (eq_by_cmp T.cmp) self.old value true self.new) }
+        ensures elements { OnOk result (self.new ≡ replace_key T.cmp self.old value) }
+        ensures len { IfOk result (λ old. length self.new
+            ≡ length self.old + (if is_some old then 0 else 1)) }
+        ensures absent { OnErr result (is_member (eq_by_cmp T.cmp) self.old value ≡ false) }
+        ensures there { IsTrue (is_member (eq_by_cmp T.cmp) self.old value) → IsOk result }
+        ensures errors { IsOkUnless result ArenaError.OutOfSystemMemory }
+        ensures err { OnErr result (self.new ≡ self.old) }
+    {
+        let old = self.tree.replace(value)?;
+        Ok(old)
+    }
+
+    /// Drops the element, and returns whether it was there. One search, and never fails.
+    #[inline]
+    pub fn remove(&mut self, value: &T) -> bool
+    where
+        T: Drop,
+        ensures there { result ≡ is_member (eq_by_cmp T.cmp) self.old value.now }
+        ensures changes { ChangesAt (eq_by_cmp T.cmp) self.old value.now false self.new }
+        ensures elements { self.new ≡ remove_key (eq_by_cmp T.cmp value.now) self.old }
+        ensures len { length self.new + (if result then 1 else 0) ≡ length self.old }
+    {
+        self.tree.remove(value)
+    }
+
+    /// Takes the element out, and returns the one that was kept, if it was there. One search, and never
+    /// fails.
+    #[inline]
+    pub fn take(&mut self, value: &T) -> Option<T>
+        ensures element { result ≡ find (eq_by_cmp T.cmp value.now) self.old }
+        ensures there { is_some result ≡ is_member (eq_by_cmp T.cmp) self.old value.now }
+        ensures changes { ChangesAt (eq_by_cmp T.cmp) self.old value.now false self.new }
+        ensures elements { self.new ≡ remove_key (eq_by_cmp T.cmp value.now) self.old }
+        ensures len { length self.new + (if is_some result then 1 else 0) ≡ length self.old }
+    {
+        self.tree.take(value)
+    }
+
+    /// Keeps the elements for which the closure returns `true`, and drops the others. It visits each
+    /// element once, in order. Linear, and never fails.
+    pub fn retain<F: FnMut(&T) -> bool>(&mut self, keep: F)
+    where
+        T: Drop,
+        requires { F.IsAlwaysCallable keep }
+        ensures { IsFiltered (CalledAt F.FnMut) keep self.old self.new }
+    {
+        self.tree.retain(keep);
+    }
+}

@@ -1,0 +1,126 @@
+//! Set theory: tests and walks over two sets, and sets made of two.
+ghost use Rattle.std.specs.Prelude.{◌<◌, ◌^◌, ◌↔◌, length, IfOk, IsOkUnless, IsTrue};
+ghost use Rattle.std.specs.List.Sorted.{IsStrictlySortedBy};
+ghost use Rattle.std.specs.Map.Iter.{ShowsInOrder, deref};
+ghost use Rattle.std.specs.Ordering.{eq_by_cmp};
+ghost use Rattle.std.specs.Set.{IsUnion, IsIntersection, IsDifference, IsSymmetricDifference};
+ghost use Rattle.wasmi_finite.specs.Sets.{IsSubset, IsDisjoint, HoldsClones};
+
+use super::Set;
+use std::alloc::Allocator;
+pub use std::collections::btree_set::{Difference, Intersection, SymmetricDifference, Union};
+use std::hash::Hash;
+use wasmi_arena::ArenaError;
+
+impl<T: Hash + Ord, A: Allocator> Set<T, A> {
+    /// Whether the two sets have no element in common. No allocation.
+    pub fn is_disjoint(&self, other: &Self) -> bool
+        ensures { IsTrue result ↔ IsDisjoint (eq_by_cmp T.cmp) self.now other.now }
+    {
+        self.tree.is_disjoint(&other.tree)
+    }
+
+    /// Whether each element of this set is in the other. No allocation.
+    pub fn is_subset(&self, other: &Self) -> bool
+        ensures { IsTrue result ↔ IsSubset (eq_by_cmp T.cmp) self.now other.now }
+    {
+        self.tree.is_subset(&other.tree)
+    }
+
+    /// Whether each element of the other set is in this one. No allocation.
+    pub fn is_superset(&self, other: &Self) -> bool
+        ensures { IsTrue result ↔ IsSubset (eq_by_cmp T.cmp) other.now self.now }
+    {
+        self.tree.is_superset(&other.tree)
+    }
+
+    /// The elements of this set that the other lacks, in order. No allocation.
+    pub fn difference<'a>(&'a self, other: &'a Self) -> Difference<'a, T, A>
+        ensures members { IsDifference (eq_by_cmp T.cmp) self.now other.now result }
+        ensures ascending { IsStrictlySortedBy T.cmp result }
+        ensures bound { length result < 2 ^ 63 }
+        ensures runs { ShowsInOrder (deref {X = T}) }
+    {
+        self.tree.difference(&other.tree)
+    }
+
+    /// The elements that exactly one of the two sets has, in order. No allocation.
+    pub fn symmetric_difference<'a>(&'a self, other: &'a Self) -> SymmetricDifference<'a, T>
+        ensures members { IsSymmetricDifference (eq_by_cmp T.cmp) self.now other.now result }
+        ensures ascending { IsStrictlySortedBy T.cmp result }
+        ensures bound { length result < 2 ^ 64 }
+        ensures runs { ShowsInOrder (deref {X = T}) }
+    {
+        self.tree.symmetric_difference(&other.tree)
+    }
+
+    /// The elements that both sets have, in order. No allocation.
+    pub fn intersection<'a>(&'a self, other: &'a Self) -> Intersection<'a, T, A>
+        ensures members { IsIntersection (eq_by_cmp T.cmp) self.now other.now result }
+        ensures ascending { IsStrictlySortedBy T.cmp result }
+        ensures bound { length result < 2 ^ 63 }
+        ensures runs { ShowsInOrder (deref {X = T}) }
+    {
+        self.tree.intersection(&other.tree)
+    }
+
+    /// The elements that one of the sets has, or both, in order and each once. No allocation.
+    pub fn union<'a>(&'a self, other: &'a Self) -> Union<'a, T>
+        ensures members { IsUnion (eq_by_cmp T.cmp) self.now other.now result }
+        ensures ascending { IsStrictlySortedBy T.cmp result }
+        ensures bound { length result < 2 ^ 64 }
+        ensures runs { ShowsInOrder (deref {X = T}) }
+    {
+        self.tree.union(&other.tree)
+    }
+}
+
+impl<T: Hash + Ord + Clone, A: Allocator + Clone> Set<T, A> {
+    /// A set of clones of the elements that both sets have.
+    ///
+    /// Fails with `OutOfSystemMemory` if there is no memory, or a clone fails. Linear.
+    pub fn bitand(&self, other: &Self) -> Result<Self, ArenaError>
+        ensures ok { IfOk result (HoldsClones (eq_by_cmp T.cmp) T.is_clone
+            (IsIntersection (eq_by_cmp T.cmp) self.now other.now)) }
+        ensures errors { IsOkUnless result ArenaError.OutOfSystemMemory }
+    {
+        let tree = (&self.tree & &other.tree)?;
+        Ok(Set { tree })
+    }
+
+    /// A set of clones of the elements that one of the sets has, or both.
+    ///
+    /// Fails as [`bitand`](Set::bitand) does. Linear.
+    pub fn bitor(&self, other: &Self) -> Result<Self, ArenaError>
+        ensures ok { IfOk result (HoldsClones (eq_by_cmp T.cmp) T.is_clone
+            (IsUnion (eq_by_cmp T.cmp) self.now other.now)) }
+        ensures errors { IsOkUnless result ArenaError.OutOfSystemMemory }
+    {
+        let tree = (&self.tree | &other.tree)?;
+        Ok(Set { tree })
+    }
+
+    /// A set of clones of the elements that exactly one of the sets has.
+    ///
+    /// Fails as [`bitand`](Set::bitand) does. Linear.
+    pub fn bitxor(&self, other: &Self) -> Result<Self, ArenaError>
+        ensures ok { IfOk result (HoldsClones (eq_by_cmp T.cmp) T.is_clone
+            (IsSymmetricDifference (eq_by_cmp T.cmp) self.now other.now)) }
+        ensures errors { IsOkUnless result ArenaError.OutOfSystemMemory }
+    {
+        let tree = (&self.tree ^ &other.tree)?;
+        Ok(Set { tree })
+    }
+
+    /// A set of clones of the elements of this set that the other lacks.
+    ///
+    /// Fails as [`bitand`](Set::bitand) does. Linear.
+    pub fn sub(&self, other: &Self) -> Result<Self, ArenaError>
+        ensures ok { IfOk result (HoldsClones (eq_by_cmp T.cmp) T.is_clone
+            (IsDifference (eq_by_cmp T.cmp) self.now other.now)) }
+        ensures errors { IsOkUnless result ArenaError.OutOfSystemMemory }
+    {
+        let tree = (&self.tree - &other.tree)?;
+        Ok(Set { tree })
+    }
+}

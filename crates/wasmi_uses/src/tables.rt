@@ -1,0 +1,46 @@
+//! Tables by key: one that keeps the first value of a key, and one that counts.
+ghost use Rattle.std.specs.Prelude.{◌≡◌, true, false, not, is_some, IfOk, OnErr, IfSome, IfNone, Some};
+ghost use Rattle.std.specs.Map.{set_value};
+ghost use Rattle.std.specs.Ordering.{eq_by_cmp};
+ghost use Rattle.wasmi_finite.specs.Maps.{value_at, ChangesAt};
+
+use std::alloc::Allocator;
+use std::hash::Hash;
+use wasmi_arena::ArenaError;
+use wasmi_ordered::Map;
+
+/// Puts a value under a key if there is none, and returns whether there was none.
+pub fn add_once<K: Hash + Ord + Drop, V: Drop, A: Allocator + Clone>(
+    table: &mut Map<K, V, A>,
+    key: K,
+    value: V,
+) -> Result<bool, ArenaError>
+    ensures was_free { IfOk result (λ was_free. was_free
+        ≡ not (is_some (value_at (eq_by_cmp K.cmp) table.old key))) }
+    ensures added { IfOk result (λ was_free. was_free ≡ true
+        → ChangesAt (eq_by_cmp K.cmp) table.old key (Some value) table.new) }
+    ensures kept { IfOk result (λ was_free. was_free ≡ false → table.new ≡ table.old) }
+    ensures err { OnErr result (table.new ≡ table.old) }
+{
+    if table.contains_key(&key) {
+        return Ok(false);
+    }
+    table.insert(key, value)?;
+    Ok(true)
+}
+
+/// Sets the count of a key to 0, if it has one, and returns what it was. No other count changes.
+pub fn reset<K: Hash + Ord, A: Allocator>(counts: &mut Map<K, u64, A>, key: &K) -> Option<u64>
+    ensures old { result ≡ value_at (eq_by_cmp K.cmp) counts.old key.now }
+    ensures reset { IfSome result (λ _. counts.new ≡ set_value (eq_by_cmp K.cmp key.now) counts.old 0) }
+    ensures none { IfNone result (counts.new ≡ counts.old) }
+{
+    match counts.get_mut(key) {
+        Some(count) => {
+            let old = *count;
+            *count = 0;
+            Some(old)
+        }
+        None => None,
+    }
+}
