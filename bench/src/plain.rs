@@ -1,5 +1,9 @@
 //! The rows of the plain container, `Vec`. Its keys are its indices.
 
+mod components;
+
+pub use components::{component_get, component_set, component_set_new};
+
 use crate::rows::next_index;
 
 #[inline(never)]
@@ -166,4 +170,45 @@ pub fn arena_iter(n: u64, rounds: u64) -> u64 {
     let mut vec = Vec::new();
     let sum = fill_keyed(&mut vec, n, 1);
     (0..rounds).fold(sum, |sum, _| walk_keyed(&vec, sum))
+}
+
+pub fn arena_get(n: u64, rounds: u64) -> u64 {
+    let mut vec = Vec::new();
+    let sum = fill_keyed(&mut vec, n, 1);
+    (0..rounds).fold(sum, |sum, _| get_all(&vec, n, sum))
+}
+
+#[inline(never)]
+fn add_keys(vec: &mut [u64]) {
+    for (key, item) in vec.iter_mut().enumerate() {
+        *item = item.wrapping_add(key as u64).wrapping_add(1);
+    }
+}
+
+pub fn arena_iter_mut(n: u64, rounds: u64) -> u64 {
+    let mut vec = Vec::new();
+    let sum = fill_keyed(&mut vec, n, 1);
+    for _ in 0..rounds {
+        add_keys(&mut vec);
+    }
+    walk_keyed(&vec, sum)
+}
+
+#[inline(never)]
+fn drain(vec: &mut Vec<u64>, n: u64, before: u64) -> u64 {
+    let mut sum = before;
+    for _ in 0..n {
+        sum = sum.wrapping_add(vec.pop().unwrap_or(1));
+    }
+    sum
+}
+
+pub fn vec_push_pop(n: u64, rounds: u64) -> u64 {
+    let mut vec = filled(n);
+    let mut sum = drain(&mut vec, n, 1);
+    for _ in 0..rounds {
+        fill(&mut vec, n, sum);
+        sum = drain(&mut vec, n, sum);
+    }
+    sum
 }

@@ -1,6 +1,14 @@
 //! The rows of the Rust crate, in the form that `crates/wasmi_bench` has: what a round does stands in a function
 //! that isn't inlined.
 
+mod component_vec;
+mod dense;
+mod head_vec;
+
+pub use component_vec::{component_get, component_set, component_set_new};
+pub use dense::{dense_alloc, dense_alloc_many, dense_get, dense_iter, dense_iter_mut};
+pub use head_vec::{head_push, head_push_pop};
+
 use crate::rows::next_index;
 use wasmi_collections::arena::{ArenaKey, StableArena, StableVec};
 

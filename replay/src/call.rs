@@ -8,12 +8,22 @@ use std::str::{FromStr, Split};
 pub enum Call {
     Len,
     IsEmpty,
+    Extent,
+    Clear,
+    /// Make room for so many items.
+    Reserve(u16),
     Push(i64),
+    Pop,
+    Last,
+    /// Write through `last_mut`.
+    LastMut(i64),
     Alloc(i64),
     AllocMany(u16),
     /// A call on the item at an index, or under the key of that number.
     Item(usize, ItemCall),
     Swap(usize, usize),
+    /// Write the items under two keys: a number, and the one after it.
+    GetDisjointMut(usize, usize, i64),
     /// So many numbers, from the first one on.
     Extend(i64, u16),
     FromIter(i64, u16),
@@ -59,6 +69,8 @@ pub enum ItemCall {
     GetMut(i64),
     Put(i64),
     Has,
+    Set(i64),
+    Unset,
     Index,
     IndexMut(i64),
 }
@@ -79,16 +91,27 @@ impl Call {
         Some(match name {
             "len" => Call::Len,
             "is_empty" => Call::IsEmpty,
+            "extent" => Call::Extent,
+            "clear" => Call::Clear,
+            "reserve" => Call::Reserve(number(words)?),
             "push" => Call::Push(number(words)?),
+            "pop" => Call::Pop,
+            "last" => Call::Last,
+            "last_mut" => Call::LastMut(number(words)?),
             "alloc" => Call::Alloc(number(words)?),
             "alloc_many" => Call::AllocMany(number(words)?),
             "get" => Call::Item(number(words)?, ItemCall::Get),
             "get_mut" => Call::Item(number(words)?, ItemCall::GetMut(number(words)?)),
             "put" => Call::Item(number(words)?, ItemCall::Put(number(words)?)),
             "has" => Call::Item(number(words)?, ItemCall::Has),
+            "set" => Call::Item(number(words)?, ItemCall::Set(number(words)?)),
+            "unset" => Call::Item(number(words)?, ItemCall::Unset),
             "index" => Call::Item(number(words)?, ItemCall::Index),
             "index_mut" => Call::Item(number(words)?, ItemCall::IndexMut(number(words)?)),
             "swap" => Call::Swap(number(words)?, number(words)?),
+            "get_disjoint_mut" => {
+                Call::GetDisjointMut(number(words)?, number(words)?, number(words)?)
+            }
             "extend" => Call::Extend(number(words)?, number(words)?),
             "from_iter" => Call::FromIter(number(words)?, number(words)?),
             "clone" => Call::Clone,
@@ -134,16 +157,27 @@ impl fmt::Display for Call {
         match self {
             Call::Len => write!(f, "len"),
             Call::IsEmpty => write!(f, "is_empty"),
+            Call::Extent => write!(f, "extent"),
+            Call::Clear => write!(f, "clear"),
+            Call::Reserve(count) => write!(f, "reserve {count}"),
             Call::Push(item) => write!(f, "push {item}"),
+            Call::Pop => write!(f, "pop"),
+            Call::Last => write!(f, "last"),
+            Call::LastMut(item) => write!(f, "last_mut {item}"),
             Call::Alloc(item) => write!(f, "alloc {item}"),
             Call::AllocMany(count) => write!(f, "alloc_many {count}"),
             Call::Item(at, ItemCall::Get) => write!(f, "get {at}"),
             Call::Item(at, ItemCall::GetMut(item)) => write!(f, "get_mut {at} {item}"),
             Call::Item(at, ItemCall::Put(item)) => write!(f, "put {at} {item}"),
             Call::Item(at, ItemCall::Has) => write!(f, "has {at}"),
+            Call::Item(at, ItemCall::Set(item)) => write!(f, "set {at} {item}"),
+            Call::Item(at, ItemCall::Unset) => write!(f, "unset {at}"),
             Call::Item(at, ItemCall::Index) => write!(f, "index {at}"),
             Call::Item(at, ItemCall::IndexMut(item)) => write!(f, "index_mut {at} {item}"),
             Call::Swap(first, second) => write!(f, "swap {first} {second}"),
+            Call::GetDisjointMut(first, second, item) => {
+                write!(f, "get_disjoint_mut {first} {second} {item}")
+            }
             Call::Extend(first, count) => write!(f, "extend {first} {count}"),
             Call::FromIter(first, count) => write!(f, "from_iter {first} {count}"),
             Call::Clone => write!(f, "clone"),

@@ -1,19 +1,56 @@
 //! The calls of a run: drawn so that repeats, bounds, edges of buckets, empty containers and writes under a key come
 //! often.
 
+mod arena;
+mod component_vec;
+mod head_vec;
+
 use crate::call::{Call, ItemCall};
 use crate::random::Random;
 use std::fmt::Write;
 
 /// What a line `on ..` names.
-pub const CONTAINERS: [&str; 6] = [
+pub const CONTAINERS: [&str; 17] = [
     "stable_vec",
     "stable_arena u32",
     "stable_arena usize",
     "stable_arena non_zero_u32",
     "stable_arena non_zero_usize",
     "stable_arena few",
+    "arena u32",
+    "arena usize",
+    "arena non_zero_u32",
+    "arena non_zero_usize",
+    "arena few",
+    "component_vec u32",
+    "component_vec usize",
+    "component_vec non_zero_u32",
+    "component_vec non_zero_usize",
+    "component_vec few",
+    "head_vec",
 ];
+
+/// The first word of such a name.
+#[derive(Clone, Copy, PartialEq)]
+enum Kind {
+    StableVec,
+    StableArena,
+    Arena,
+    ComponentVec,
+    HeadVec,
+}
+
+impl Kind {
+    fn of(container: &str) -> Kind {
+        match container.split(' ').next() {
+            Some("stable_arena") => Kind::StableArena,
+            Some("arena") => Kind::Arena,
+            Some("component_vec") => Kind::ComponentVec,
+            Some("head_vec") => Kind::HeadVec,
+            _ => Kind::StableVec,
+        }
+    }
+}
 
 /// Lengths about the edges of buckets, and about the 100 keys of `few`.
 const EDGES: [usize; 15] = [0, 1, 2, 31, 32, 33, 95, 96, 97, 99, 100, 101, 223, 224, 225];
@@ -66,7 +103,7 @@ pub fn generate(container: &str, seed: u64, calls: usize) -> String {
         .wrapping_add(place.unwrap_or(CONTAINERS.len()) as u64);
     let mut generator = Generator {
         random: Random::new(seed),
-        is_vec: container == "stable_vec",
+        kind: Kind::of(container),
         most: if container.ends_with(" few") {
             100
         } else {
@@ -94,10 +131,10 @@ pub fn generate(container: &str, seed: u64, calls: usize) -> String {
 
 struct Generator {
     random: Random,
-    is_vec: bool,
+    kind: Kind,
     /// How many items there can be.
     most: usize,
-    /// How many items there are.
+    /// How many items there are; of components, the extent.
     len: usize,
     /// How many items the other container has.
     other_len: usize,
@@ -120,7 +157,8 @@ impl Generator {
         self.line(format_args!("on {container}"));
         for done in 1..calls {
             if done % CONTENT_EVERY == 0 {
-                self.line(Call::For);
+                let all = self.all();
+                self.line(all);
             } else if self.random.once_in(500) {
                 let bad = self.random.one_of(&BAD);
                 self.line(bad);
@@ -141,6 +179,16 @@ impl Generator {
         if let Some(call) = self.pending.pop() {
             return call;
         }
+        match self.kind {
+            Kind::StableVec | Kind::StableArena => self.stable_call(target),
+            Kind::Arena => self.arena_call(target),
+            Kind::ComponentVec => self.component_call(target),
+            Kind::HeadVec => self.head_call(target),
+        }
+    }
+
+    /// A call on a container whose items stay where they are.
+    fn stable_call(&mut self, target: usize) -> Call {
         let times = if self.len < target { 2 } else { 40 };
         if self.random.once_in(times) {
             return self.add();
@@ -152,7 +200,7 @@ impl Generator {
             10..=11 => self.swap(),
             12..=13 => Call::Iter(self.steps()),
             14 => self.content(),
-            15 if self.is_vec => Call::Len,
+            15 if self.is_vec() => Call::Len,
             15 => Call::NextKey,
             16 => Call::Room,
             17 => Call::OpenBuckets,
@@ -167,10 +215,22 @@ impl Generator {
         }
     }
 
+    fn is_vec(&self) -> bool {
+        self.kind == Kind::StableVec
+    }
+
+    /// A call that prints all items.
+    fn all(&self) -> Call {
+        match self.kind {
+            Kind::ComponentVec | Kind::HeadVec => Call::Debug,
+            _ => Call::For,
+        }
+    }
+
     fn add(&mut self) -> Call {
         let item = self.value();
         self.len = (self.len + 1).min(self.most);
-        if self.is_vec {
+        if self.is_vec() {
             Call::Push(item)
         } else {
             Call::Alloc(item)
@@ -179,7 +239,7 @@ impl Generator {
 
     fn item(&mut self) -> Call {
         let new = self.value();
-        let call = match self.random.below(if self.is_vec { 4 } else { 8 }) {
+        let call = match self.random.below(if self.is_vec() { 4 } else { 8 }) {
             0..=1 => ItemCall::Get,
             2..=3 => ItemCall::GetMut(new),
             4 => ItemCall::Put(new),
@@ -219,7 +279,7 @@ impl Generator {
                 self.len = count;
             }
             Call::FromIter(first, items)
-        } else if self.is_vec {
+        } else if self.is_vec() {
             self.len += count;
             Call::Extend(first, items)
         } else {
@@ -257,7 +317,7 @@ impl Generator {
         if self.len > LONG {
             return Call::Eq;
         }
-        match self.random.below(if self.is_vec { 5 } else { 1 }) {
+        match self.random.below(if self.is_vec() { 5 } else { 1 }) {
             0 => Call::Eq,
             1 => Call::PartialCmp,
             2 => Call::Cmp,
@@ -281,7 +341,7 @@ impl Generator {
     /// A walk that writes the items that it comes to. The next call reads them.
     fn some_written(&mut self) -> Call {
         let (steps, first) = (self.steps(), self.value());
-        if self.is_vec && self.seldom() {
+        if self.is_vec() && self.seldom() {
             self.pending.push(Call::For);
             return Call::SlicesMut(steps, first);
         }

@@ -12,7 +12,7 @@ mod twin;
 
 use compare::{compare, Comparison};
 use generate::{generate, CONTAINERS};
-use public_calls::{Counts, STABLE_ARENA, STABLE_VEC};
+use public_calls::{Counts, TYPES};
 use std::env;
 use std::error::Error;
 use std::fs::{self, File};
@@ -65,29 +65,31 @@ struct Run {
 impl Run {
     /// Compares each container at each seed, and prints the tables. True if nothing differs.
     fn all(&self, seeds: &[u64]) -> Outcome<bool> {
-        let (mut vec_counts, mut arena_counts) = (Counts::default(), Counts::default());
+        let mut counts = TYPES.map(|_| Counts::default());
         let mut equal = true;
         println!("| Container | Seed | Calls | Answers compared | Differences | The first |");
         println!("|---|---|---|---|---|---|");
         for container in CONTAINERS {
             for seed in seeds {
                 let input = generate(container, *seed, self.calls);
-                if container == "stable_vec" {
-                    vec_counts.add(&input);
-                } else {
-                    arena_counts.add(&input);
+                for ((name, _, _), counts) in TYPES.iter().zip(&mut counts) {
+                    if container.split(' ').next() == Some(name) {
+                        counts.add(&input);
+                    }
                 }
                 let comparison = self.one(container, *seed, &input)?;
                 equal &= comparison.differences == 0;
                 print_row(container, *seed, self.calls, &comparison);
             }
         }
-        let vec_made = public_calls::print("StableVec", STABLE_VEC, &vec_counts);
-        let arena_made = public_calls::print("StableArena", STABLE_ARENA, &arena_counts);
-        if !(vec_made && arena_made) {
+        let mut all_made = true;
+        for ((_, name, calls), counts) in TYPES.iter().zip(&counts) {
+            all_made &= public_calls::print(name, calls, counts);
+        }
+        if !all_made {
             eprintln!("A call in the tables was never made: give more calls.");
         }
-        Ok(equal && vec_made && arena_made)
+        Ok(equal && all_made)
     }
 
     /// Answers the input on both sides. What differs is kept.

@@ -18,10 +18,27 @@ const OTHER_TEXT: &str =
     "the port's text is another (docs/DIFFERENCES.md, '`Debug` of `StableArena`'); the driver \
     makes that from the keys and the items";
 
+const OTHER_ARENA_TEXT: &str =
+    "the port's text is another (docs/DIFFERENCES.md, '`Debug` of `Arena`'); the driver makes that \
+    from the keys and the items";
+
+const OTHER_HEAD_TEXT: &str =
+    "the port's text is another (docs/DIFFERENCES.md, '`Debug` of `HeadVec`'); the driver makes that \
+    from what a clone's `pop` gives";
+
 /// The calls of a type, and of its iterators.
 type Calls = &'static [(&'static str, Made)];
 
-pub const STABLE_VEC: Calls = &[
+/// Each type, with the first word by which a line `on ..` names it, and its calls.
+pub const TYPES: [(&str, &str, Calls); 5] = [
+    ("stable_vec", "StableVec", STABLE_VEC),
+    ("stable_arena", "StableArena", STABLE_ARENA),
+    ("arena", "Arena", ARENA),
+    ("component_vec", "ComponentVec", COMPONENT_VEC),
+    ("head_vec", "HeadVec", HEAD_VEC),
+];
+
+const STABLE_VEC: Calls = &[
     ("`new`", By(&["on"])),
     ("`Drop`, of items that need none", By(&["on"])),
     ("`len`", By(&["len"])),
@@ -51,7 +68,7 @@ pub const STABLE_VEC: Calls = &[
     ("`Send`, `Sync`", Never(CUT)),
 ];
 
-pub const STABLE_ARENA: Calls = &[
+const STABLE_ARENA: Calls = &[
     ("`new`", By(&["on"])),
     ("`len`", By(&["len"])),
     ("`is_empty`", By(&["is_empty"])),
@@ -77,6 +94,65 @@ pub const STABLE_ARENA: Calls = &[
     ("`Debug`", Never(OTHER_TEXT)),
     ("`get_mut_ptr`", Never(CUT)),
     ("`size_hint` and `Debug` of an iterator", Never(CUT)),
+    ("`Send`, `Sync`", Never(CUT)),
+];
+
+const ARENA: Calls = &[
+    ("`new`", By(&["on"])),
+    ("`len`", By(&["len"])),
+    ("`is_empty`", By(&["is_empty"])),
+    ("`clear`", By(&["clear"])),
+    ("`alloc`", By(&["alloc"])),
+    ("`alloc_many`", By(&["alloc_many"])),
+    ("`from_iter`", By(&["from_iter"])),
+    ("`get`", By(&["get"])),
+    ("`get_mut`", By(&["get_mut", "put"])),
+    ("`get_disjoint_mut`", By(&["get_disjoint_mut", "swap"])),
+    ("`arena[key]`", By(&["index"])),
+    ("`arena[key] = item`", By(&["index_mut"])),
+    ("`iter`, its `next`, `next_back` and `len`", By(&["iter"])),
+    ("`for` over `&`", By(&["for"])),
+    (
+        "`iter_mut`, its `next`, `next_back` and `len`",
+        By(&["iter_mut", "rev_mut"]),
+    ),
+    ("`for` over `&mut`", By(&["for_mut"])),
+    ("`==`", By(&["eq"])),
+    ("`default`", Never(CUT)),
+    ("`Debug`", Never(OTHER_ARENA_TEXT)),
+    ("`size_hint` and `Debug` of an iterator", Never(CUT)),
+    ("`Send`, `Sync`", Never(CUT)),
+];
+
+const COMPONENT_VEC: Calls = &[
+    ("`new`", By(&["on"])),
+    ("`clear`", By(&["clear"])),
+    ("`set`", By(&["set"])),
+    ("`unset`", By(&["unset"])),
+    ("`get`", By(&["get"])),
+    ("`get_mut`", By(&["get_mut"])),
+    ("`components[key]`", By(&["index"])),
+    ("`components[key] = item`", By(&["index_mut"])),
+    ("`==`", By(&["eq"])),
+    ("`Debug`", By(&["debug"])),
+    ("`default`", Never(CUT)),
+    ("`Send`, `Sync`", Never(CUT)),
+];
+
+const HEAD_VEC: Calls = &[
+    ("`default`", By(&["on"])),
+    ("`clear`", By(&["clear"])),
+    ("`len`", By(&["len"])),
+    ("`is_empty`", By(&["is_empty"])),
+    ("`last`", By(&["last"])),
+    ("`last_mut`", By(&["last_mut"])),
+    ("`push`", By(&["push"])),
+    ("`pop`", By(&["pop"])),
+    ("`clone`", By(&["clone"])),
+    ("`==`", By(&["eq"])),
+    ("`partial_cmp`", By(&["partial_cmp"])),
+    ("`cmp`", By(&["cmp"])),
+    ("`Debug`", Never(OTHER_HEAD_TEXT)),
     ("`Send`, `Sync`", Never(CUT)),
 ];
 

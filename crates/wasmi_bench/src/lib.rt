@@ -6,6 +6,10 @@
 #![tactic(auto)]
 
 mod arena_rows;
+mod component_rows;
+mod dense_rows;
+mod head_rows;
+mod random;
 mod vec_rows;
 
 use std::alloc::Global;
@@ -98,4 +102,70 @@ pub extern "C" fn wasmi_bench_arena_iter_usize(alloc: Global, n: u64, rounds: u6
 #[unsafe(no_mangle)]
 pub extern "C" fn wasmi_bench_arena_iter_u32(alloc: Global, n: u64, rounds: u64) -> u64 {
     arena_rows::iter::<u32>(alloc, n, rounds).unwrap_or(0)
+}
+
+/// Puts `n` items into an empty arena in one vector and drops it.
+#[unsafe(no_mangle)]
+pub extern "C" fn wasmi_bench_dense_alloc(alloc: Global, n: u64, rounds: u64) -> u64 {
+    dense_rows::alloc::<usize>(alloc, n, rounds).unwrap_or(0)
+}
+
+/// Puts `n` items into an empty arena in one vector by one call, each the default, and drops it.
+#[unsafe(no_mangle)]
+pub extern "C" fn wasmi_bench_dense_alloc_many(alloc: Global, n: u64, rounds: u64) -> u64 {
+    dense_rows::alloc_many::<usize>(alloc, n, rounds).unwrap_or(0)
+}
+
+/// Reads `n` items of an arena in one vector by their keys, which jump about.
+#[unsafe(no_mangle)]
+pub extern "C" fn wasmi_bench_dense_get(alloc: Global, n: u64, rounds: u64) -> u64 {
+    dense_rows::get(alloc, n, rounds).unwrap_or(0)
+}
+
+/// Walks over the keys and items of an arena in one vector with keys of 64 bits.
+#[unsafe(no_mangle)]
+pub extern "C" fn wasmi_bench_dense_iter_usize(alloc: Global, n: u64, rounds: u64) -> u64 {
+    dense_rows::iter::<usize>(alloc, n, rounds).unwrap_or(0)
+}
+
+/// Walks over the keys and items of an arena in one vector with keys of 32 bits.
+#[unsafe(no_mangle)]
+pub extern "C" fn wasmi_bench_dense_iter_u32(alloc: Global, n: u64, rounds: u64) -> u64 {
+    dense_rows::iter::<u32>(alloc, n, rounds).unwrap_or(0)
+}
+
+/// Adds its key and 1 to each item of an arena in one vector.
+#[unsafe(no_mangle)]
+pub extern "C" fn wasmi_bench_dense_iter_mut(alloc: Global, n: u64, rounds: u64) -> u64 {
+    dense_rows::iter_mut::<usize>(alloc, n, rounds).unwrap_or(0)
+}
+
+/// Sets `n` components under the keys from 0 on, and drops them.
+#[unsafe(no_mangle)]
+pub extern "C" fn wasmi_bench_component_set_new(alloc: Global, n: u64, rounds: u64) -> u64 {
+    component_rows::set_new(alloc, n, rounds).unwrap_or(0)
+}
+
+/// Sets `n` components anew under keys that jump about.
+#[unsafe(no_mangle)]
+pub extern "C" fn wasmi_bench_component_set(alloc: Global, n: u64, rounds: u64) -> u64 {
+    component_rows::set(alloc, n, rounds).unwrap_or(0)
+}
+
+/// Reads `n` components by their keys, which jump about.
+#[unsafe(no_mangle)]
+pub extern "C" fn wasmi_bench_component_get(alloc: Global, n: u64, rounds: u64) -> u64 {
+    component_rows::get(alloc, n, rounds).unwrap_or(0)
+}
+
+/// Pushes `n` items onto an empty list and drops it.
+#[unsafe(no_mangle)]
+pub extern "C" fn wasmi_bench_head_push(alloc: Global, n: u64, rounds: u64) -> u64 {
+    head_rows::push(alloc, n, rounds).unwrap_or(0)
+}
+
+/// Pushes `n` items onto a list, and pops them.
+#[unsafe(no_mangle)]
+pub extern "C" fn wasmi_bench_head_push_pop(alloc: Global, n: u64, rounds: u64) -> u64 {
+    head_rows::push_pop(alloc, n, rounds).unwrap_or(0)
 }

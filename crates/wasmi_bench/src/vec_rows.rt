@@ -3,6 +3,7 @@
 //! What a round does to a vector stands in a function that isn't inlined, as a caller has it that is lent the
 //! vector. A round begins with the checksum of the one before, so none can be left out.
 
+use crate::random::next_index;
 use std::alloc::Global;
 use std::mem::size_of;
 use wasmi_arena::{ArenaError, StableVec};
@@ -33,18 +34,13 @@ pub fn push(alloc: Global, n: u64, rounds: u64) -> Result<u64, ArenaError> {
     Ok(sum)
 }
 
-// Adds as many items as there are. `n`, their number, is a power of two, so that an index is some bits of the
-// state of a generator of random numbers.
+// Adds as many items as there are, by random indices. `n`, their number, is a power of two.
 #[inline(never)]
 fn get_all(vec: &StableVec<u64>, n: u64, before: u64) -> u64 {
-    let mask = n.wrapping_sub(1);
     let mut state: u64 = 1;
     let mut sum = before;
     for _ in 0..n {
-        state = state
-            .wrapping_mul(6364136223846793005)
-            .wrapping_add(1442695040888963407);
-        if let Some(item) = vec.get(((state >> 32) & mask) as usize) {
+        if let Some(item) = vec.get(next_index(&mut state, n)) {
             sum = sum.wrapping_add(*item);
         }
     }
@@ -139,13 +135,9 @@ pub fn iter_mut(alloc: Global, n: u64, rounds: u64) -> Result<u64, ArenaError> {
 // Exchanges as many pairs of items as there are items, each the next index and one that jumps about.
 #[inline(never)]
 fn swap_all(vec: &mut StableVec<u64>, n: u64) {
-    let mask = n.wrapping_sub(1);
     let mut state: u64 = 1;
     for i in 0..n {
-        state = state
-            .wrapping_mul(6364136223846793005)
-            .wrapping_add(1442695040888963407);
-        let _ = vec.swap(i as usize, ((state >> 32) & mask) as usize);
+        let _ = vec.swap(i as usize, next_index(&mut state, n));
     }
 }
 

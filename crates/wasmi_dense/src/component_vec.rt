@@ -60,6 +60,7 @@ impl<Key, T, A: Allocator> ComponentVec<Key, T, A> {
 }
 
 // Adds places without a component up to that of `index`: one request for memory, then a fill.
+#[cold]
 fn raise_extent<T: Drop, A: Allocator>(
     slots: &mut Vec<Option<T>, A>,
     index: usize,
@@ -107,7 +108,12 @@ impl<Key: ArenaKey, T, A: Allocator> ComponentVec<Key, T, A> {
         ensures err { OnErr result (self.new ≡ self.old) }
     {
         let index = index.into_usize();
-        if index >= self.components.len() {
+        let extent = self.components.len();
+        if index >= extent {
+            if index == extent && extent < self.components.capacity() {
+                self.components.push_reserved(Some(component));
+                return Ok(None);
+            }
             raise_extent(&mut self.components, index)?;
         }
         Ok(self.components[index].replace(component))

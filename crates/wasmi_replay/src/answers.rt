@@ -3,7 +3,7 @@
 use std::fmt::{Debug, Display};
 use std::io;
 use std::io::{ErrorKind, Write};
-use wasmi_arena::ArenaError;
+use wasmi_arena::{ArenaError, ArenaKey};
 
 /// Writes what a call returned.
 pub fn value<W: Write, V: Display + Drop>(out: &mut W, value: V) -> io::Result<()> {
@@ -39,6 +39,14 @@ pub fn refusal<W: Write>(out: &mut W, error: ArenaError) -> io::Result<()> {
     match error {
         ArenaError::OutOfSystemMemory => Err(ErrorKind::OutOfMemory.into()),
         error => writeln!(out, "error {error}"),
+    }
+}
+
+/// Writes an item with the number of its key, or `none`, and a space.
+pub fn entry<Key: ArenaKey, W: Write>(out: &mut W, given: Option<(Key, &i64)>) -> io::Result<()> {
+    match given {
+        Some((key, item)) => write!(out, "{}={item} ", key.into_usize()),
+        None => write!(out, "none "),
     }
 }
 

@@ -7,12 +7,22 @@ use std::str::{FromStr, Split};
 pub enum Call<'a> {
     Len,
     IsEmpty,
+    Extent,
+    Clear,
+    /// Make room for so many items.
+    Reserve(u16),
     Push(i64),
+    Pop,
+    Last,
+    /// Write through `last_mut`.
+    LastMut(i64),
     Alloc(i64),
     AllocMany(u16),
     /// A call on the item at an index, or under the key of that number.
     Item(usize, ItemCall),
     Swap(usize, usize),
+    /// Write the items under two keys: a number, and the one after it.
+    GetDisjointMut(usize, usize, i64),
     /// So many numbers, from the first one on.
     Extend(i64, u16),
     FromIter(i64, u16),
@@ -59,6 +69,8 @@ pub enum ItemCall {
     GetMut(i64),
     Put(i64),
     Has,
+    Set(i64),
+    Unset,
     /// Read by `container[key]`.
     Index,
     /// Write by `container[key] = item`.
@@ -82,16 +94,27 @@ impl<'a> Call<'a> {
         let call = match name {
             "len" => Call::Len,
             "is_empty" => Call::IsEmpty,
+            "extent" => Call::Extent,
+            "clear" => Call::Clear,
+            "reserve" => Call::Reserve(number(words)?),
             "push" => Call::Push(number(words)?),
+            "pop" => Call::Pop,
+            "last" => Call::Last,
+            "last_mut" => Call::LastMut(number(words)?),
             "alloc" => Call::Alloc(number(words)?),
             "alloc_many" => Call::AllocMany(number(words)?),
             "get" => Call::Item(number(words)?, ItemCall::Get),
             "get_mut" => Call::Item(number(words)?, ItemCall::GetMut(number(words)?)),
             "put" => Call::Item(number(words)?, ItemCall::Put(number(words)?)),
             "has" => Call::Item(number(words)?, ItemCall::Has),
+            "set" => Call::Item(number(words)?, ItemCall::Set(number(words)?)),
+            "unset" => Call::Item(number(words)?, ItemCall::Unset),
             "index" => Call::Item(number(words)?, ItemCall::Index),
             "index_mut" => Call::Item(number(words)?, ItemCall::IndexMut(number(words)?)),
             "swap" => Call::Swap(number(words)?, number(words)?),
+            "get_disjoint_mut" => {
+                Call::GetDisjointMut(number(words)?, number(words)?, number(words)?)
+            }
             "extend" => Call::Extend(number(words)?, number(words)?),
             "from_iter" => Call::FromIter(number(words)?, number(words)?),
             "clone" => Call::Clone,

@@ -2,10 +2,15 @@
 #![tactic(auto)]
 
 mod answers;
+mod arena;
 mod call;
+mod component_vec;
 mod counted;
 mod few_keys;
+mod head_vec;
 mod lines;
+mod named;
+mod pair_key;
 mod replay;
 mod stable_arena;
 mod stable_vec;

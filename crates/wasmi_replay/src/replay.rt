@@ -1,12 +1,18 @@
 //! The loop over the input.
 
 use crate::answers::{bad, value};
+use crate::arena::ArenaReplay;
 use crate::call::Call;
+use crate::component_vec::ComponentReplay;
 use crate::few_keys::FewKeys;
+use crate::head_vec::HeadReplay;
 use crate::lines::Lines;
-use crate::stable_arena::ArenaReplay;
+use crate::named::{Keyed, Keys, Named};
+use crate::pair_key::PairKey;
+use crate::stable_arena::StableArenaReplay;
 use crate::stable_vec::VecReplay;
 use std::alloc::Global;
+use std::fmt::Debug;
 use std::io;
 use std::io::{BufWriter, Read, Write};
 use std::num::NonZero;
@@ -29,36 +35,50 @@ pub fn run<R: Read + Drop, W: Write + Drop>(alloc: Global, reader: R, writer: W)
         if !more {
             break;
         }
-        more = match lines.text().unwrap_or("") {
-            "on stable_vec" => serve(VecReplay::new(alloc), &mut lines, &mut out)?,
-            "on stable_arena u32" => serve(ArenaReplay::<u32>::new(alloc), &mut lines, &mut out)?,
-            "on stable_arena usize" => {
-                serve(ArenaReplay::<usize>::new(alloc), &mut lines, &mut out)?
+        more = match Named::parse(lines.text().unwrap_or("")) {
+            Some(Named::StableVec) => serve(VecReplay::new(alloc), &mut lines, &mut out)?,
+            Some(Named::HeadVec) => serve(HeadReplay::new(alloc), &mut lines, &mut out)?,
+            Some(Named::Keyed(keyed, keys)) => {
+                serve_under(keyed, keys, alloc, &mut lines, &mut out)?
             }
-            "on stable_arena non_zero_u32" => {
-                serve(
-                    ArenaReplay::<NonZero<u32>>::new(alloc),
-                    &mut lines,
-                    &mut out,
-                )?
-            }
-            "on stable_arena non_zero_usize" => {
-                serve(
-                    ArenaReplay::<NonZero<usize>>::new(alloc),
-                    &mut lines,
-                    &mut out,
-                )?
-            }
-            "on stable_arena few" => {
-                serve(ArenaReplay::<FewKeys>::new(alloc), &mut lines, &mut out)?
-            }
-            _ => {
+            None => {
                 bad(&mut out)?;
                 lines.advance()?
             }
         };
     }
     out.flush()
+}
+
+// The same as `serve`, on a new container with keys of the type named.
+fn serve_under<R: Read + Drop, W: Write>(
+    keyed: Keyed,
+    keys: Keys,
+    alloc: Global,
+    lines: &mut Lines<R>,
+    out: &mut W,
+) -> io::Result<bool> {
+    match keys {
+        Keys::U32 => serve_keyed::<u32, R, W>(keyed, alloc, lines, out),
+        Keys::Usize => serve_keyed::<usize, R, W>(keyed, alloc, lines, out),
+        Keys::NonZeroU32 => serve_keyed::<NonZero<u32>, R, W>(keyed, alloc, lines, out),
+        Keys::NonZeroUsize => serve_keyed::<NonZero<usize>, R, W>(keyed, alloc, lines, out),
+        Keys::Few => serve_keyed::<FewKeys, R, W>(keyed, alloc, lines, out),
+    }
+}
+
+// The same for a type of keys.
+fn serve_keyed<Key: PairKey + Debug, R: Read + Drop, W: Write>(
+    keyed: Keyed,
+    alloc: Global,
+    lines: &mut Lines<R>,
+    out: &mut W,
+) -> io::Result<bool> {
+    match keyed {
+        Keyed::StableArena => serve(StableArenaReplay::<Key>::new(alloc), lines, out),
+        Keyed::Arena => serve(ArenaReplay::<Key>::new(alloc), lines, out),
+        Keyed::ComponentVec => serve(ComponentReplay::<Key>::new(alloc), lines, out),
+    }
 }
 
 // Answers the line that the reader came to, which named the container, and the lines after it up to the

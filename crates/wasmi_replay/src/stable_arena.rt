@@ -1,6 +1,6 @@
 //! Calls on a `StableArena`.
 
-use crate::answers::{bad, debug, refusal, result, value};
+use crate::answers::{bad, debug, entry, refusal, result, value};
 use crate::call::{Call, ItemCall};
 use crate::counted::Counted;
 use crate::replay::Container;
@@ -14,15 +14,15 @@ use wasmi_arena::{ArenaError, ArenaKey, StableArena};
 
 /// An arena of numbers at work, and another one beside it. A line names a key by its number.
 #[derive(Drop)]
-pub struct ArenaReplay<Key: ArenaKey> {
+pub struct StableArenaReplay<Key: ArenaKey> {
     arena: StableArena<Key, i64>,
     other: StableArena<Key, i64>,
     alloc: Global,
 }
 
-impl<Key: ArenaKey> ArenaReplay<Key> {
+impl<Key: ArenaKey> StableArenaReplay<Key> {
     pub fn new(alloc: Global) -> Self {
-        ArenaReplay {
+        StableArenaReplay {
             arena: StableArena::new(alloc),
             other: StableArena::new(alloc),
             alloc,
@@ -66,6 +66,7 @@ impl<Key: ArenaKey> ArenaReplay<Key> {
                 value(out, "written")
             }
             ItemCall::Index | ItemCall::IndexMut(_) => value(out, "no item"),
+            ItemCall::Set(_) | ItemCall::Unset => bad(out),
         }
     }
 
@@ -80,7 +81,7 @@ impl<Key: ArenaKey> ArenaReplay<Key> {
     }
 }
 
-impl<Key: ArenaKey + Debug> Container for ArenaReplay<Key> {
+impl<Key: ArenaKey + Debug> Container for StableArenaReplay<Key> {
     fn answer<W: Write>(&mut self, call: Call<'_>, out: &mut W) -> io::Result<()> {
         match call {
             Call::Len => value(out, self.arena.len()),
@@ -121,12 +122,7 @@ impl<Key: ArenaKey + Debug> Container for ArenaReplay<Key> {
             Call::Bucket(number) => bucket(self.arena.items(), number, out),
             Call::Place(index) => place(index, out),
             Call::SizeOfBucketAt(number) => size_of_bucket_at(number, out),
-            Call::Push(_)
-            | Call::Extend(_, _)
-            | Call::PartialCmp
-            | Call::Cmp
-            | Call::Hash
-            | Call::SlicesMut(_, _) => bad(out),
+            _ => bad(out),
         }
     }
 }
@@ -139,15 +135,12 @@ fn iter<Key: ArenaKey, W: Write>(
 ) -> io::Result<()> {
     let mut entries = arena.iter();
     for step in steps.bytes() {
-        let entry = if step == b'f' {
+        let given = if step == b'f' {
             entries.next()
         } else {
             entries.next_back()
         };
-        match entry {
-            Some((key, item)) => write!(out, "{}={item} ", key.into_usize())?,
-            None => write!(out, "none ")?,
-        }
+        entry(out, given)?;
     }
     writeln!(out, "left {}", entries.len())
 }
@@ -172,12 +165,12 @@ fn iter_mut<Key: ArenaKey, W: Write>(
     let mut new = first;
     let mut entries = arena.iter_mut();
     for step in steps.bytes() {
-        let entry = if step == b'f' {
+        let given = if step == b'f' {
             entries.next()
         } else {
             entries.next_back()
         };
-        match entry {
+        match given {
             Some((key, item)) => {
                 write!(out, "{}={item} ", key.into_usize())?;
                 *item = new;

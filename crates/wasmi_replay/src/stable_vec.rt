@@ -96,7 +96,7 @@ impl Container for VecReplay {
             Call::Bucket(number) => bucket(&self.vec, number, out),
             Call::Place(index) => place(index, out),
             Call::SizeOfBucketAt(number) => size_of_bucket_at(number, out),
-            Call::Alloc(_) | Call::AllocMany(_) | Call::Item(_, _) | Call::NextKey => bad(out),
+            _ => bad(out),
         }
     }
 }

@@ -2,7 +2,7 @@
 
 use crate::call::{Call, ItemCall};
 use crate::twin::answers::{bad, counted, option, result};
-use crate::twin::{buckets, Container};
+use crate::twin::{answers, buckets, Container};
 use std::hash::{DefaultHasher, Hash, Hasher};
 use std::io::{self, Write};
 use std::mem;
@@ -85,7 +85,7 @@ impl Container for VecTwin {
             }
             Call::Place(index) => buckets::write_place(index, out),
             Call::SizeOfBucketAt(bucket) => option(out, buckets::size_of_bucket_at(bucket)),
-            Call::Alloc(_) | Call::AllocMany(_) | Call::Item(..) | Call::NextKey => bad(out),
+            _ => bad(out),
         }
     }
 }
@@ -100,12 +100,7 @@ fn hash_of(vec: &StableVec<i64>) -> u64 {
 fn iter(vec: &StableVec<i64>, steps: &str, out: &mut impl Write) -> io::Result<()> {
     let mut items = vec.iter();
     for step in steps.chars() {
-        let item = if step == 'f' {
-            items.next()
-        } else {
-            items.next_back()
-        };
-        match item {
+        match answers::step(&mut items, step) {
             Some(item) => write!(out, "{item} ")?,
             None => write!(out, "none ")?,
         }
@@ -130,12 +125,7 @@ fn iter_mut(
     let mut new = first;
     let mut items = vec.iter_mut();
     for step in steps.chars() {
-        let item = if step == 'f' {
-            items.next()
-        } else {
-            items.next_back()
-        };
-        match item {
+        match answers::step(&mut items, step) {
             Some(item) => {
                 write!(out, "{item} ")?;
                 *item = new;

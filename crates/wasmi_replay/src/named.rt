@@ -1,0 +1,62 @@
+//! The container that a line names.
+
+/// What a line `on ..` names.
+#[derive(Clone, Copy, Debug)]
+pub enum Named {
+    StableVec,
+    HeadVec,
+    Keyed(Keyed, Keys),
+}
+
+/// A container whose items have keys.
+#[derive(Clone, Copy, Debug)]
+pub enum Keyed {
+    StableArena,
+    Arena,
+    ComponentVec,
+}
+
+/// A type of keys.
+#[derive(Clone, Copy, Debug)]
+pub enum Keys {
+    U32,
+    Usize,
+    NonZeroU32,
+    NonZeroUsize,
+    Few,
+}
+
+impl Named {
+    /// Reads a line, given without its line feed. `None` if it names no container.
+    pub fn parse(line: &str) -> Option<Named> {
+        let mut words = line.split(' ');
+        if words.next()? != "on" {
+            return None;
+        }
+        let named = match words.next()? {
+            "stable_vec" => Named::StableVec,
+            "head_vec" => Named::HeadVec,
+            "stable_arena" => Named::Keyed(Keyed::StableArena, Keys::parse(words.next()?)?),
+            "arena" => Named::Keyed(Keyed::Arena, Keys::parse(words.next()?)?),
+            "component_vec" => Named::Keyed(Keyed::ComponentVec, Keys::parse(words.next()?)?),
+            _ => return None,
+        };
+        match words.next() {
+            None => Some(named),
+            Some(_) => None,
+        }
+    }
+}
+
+impl Keys {
+    fn parse(name: &str) -> Option<Keys> {
+        match name {
+            "u32" => Some(Keys::U32),
+            "usize" => Some(Keys::Usize),
+            "non_zero_u32" => Some(Keys::NonZeroU32),
+            "non_zero_usize" => Some(Keys::NonZeroUsize),
+            "few" => Some(Keys::Few),
+            _ => None,
+        }
+    }
+}
