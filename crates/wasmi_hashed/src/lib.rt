@@ -1,0 +1,7 @@
+//! Maps and sets whose keys are found by their hash.
+#![tactic(auto)]
+
+pub mod hash;
+pub mod map;
+
+pub use map::Map;
