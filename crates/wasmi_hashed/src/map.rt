@@ -7,6 +7,12 @@ ghost use Rattle.std.specs.Map.Calls.{CalledAtPair, TakesPair, CallableOnEachPai
 ghost use Rattle.std.specs.Option.{option_copied_mut};
 ghost use Rattle.wasmi_finite.specs.Maps.{value_at, ChangesAt};
 
+mod compared;
+mod grow;
+mod walks;
+
+pub use walks::{IntoIter, IntoKeys, IntoValues, Iter, IterMut, Keys, Values, ValuesMut};
+
 use crate::hash::FixedState;
 use std::alloc::{Allocator, Global};
 use std::collections::HashMap;
