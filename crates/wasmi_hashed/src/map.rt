@@ -51,6 +51,9 @@ impl<K: Eq + Hash, V, A: Allocator> Map<K, V, FixedState, A> {
 }
 
 impl<K: Eq + Hash, V, S: BuildHasher, A: Allocator> Map<K, V, S, A> {
+    ghost use Rattle.std.specs.Borrow.{sem};
+    ghost use Rattle.wasmi_hashed.specs.MapLend.{lends_get};
+
     /// The same, whose keys are hashed by `state`.
     pub fn with_hasher(alloc: A, state: S) -> Self
         ensures { result ≡ record { entries = []; hasher = state } }
@@ -126,6 +129,15 @@ impl<K: Eq + Hash, V, S: BuildHasher, A: Allocator> Map<K, V, S, A> {
         ensures value { option_map (λ pair. pair.1.now) result ≡ value_at K.eq self.now.entries key.now }
     {
         self.table.get_key_value(key)
+    }
+
+    /// The value under a key to write to, if there is one. One search, and no allocation.
+    #[inline]
+    pub fn get_mut(&mut self, key: &K) -> Option<&mut V>
+        ensures* writes_back { sem 𝓛 (lends_get K.row V.row S.row A.row S.Hasher.row K.Hash S.BuildHasher S.Hasher.Hasher A.Allocator self.entry key.now result) }
+        ensures value { option_copied_mut result ≡ value_at K.eq self.old.entries key.now }
+    {
+        self.table.get_mut(key)
     }
 
     /// Puts a value under a key, and returns the one that was there. A key that is there is kept.
