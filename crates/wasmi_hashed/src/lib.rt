@@ -3,5 +3,7 @@
 
 pub mod hash;
 pub mod map;
+pub mod set;
 
 pub use map::Map;
+pub use set::Set;

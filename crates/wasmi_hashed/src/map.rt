@@ -1,8 +1,8 @@
 //! A map whose keys are found by their hash.
-ghost use Rattle.std.specs.Prelude.{◌≡◌, ◌==◌, ◌<◌, ◌^◌, ◌+◌, [], length, IfOk, OnOk, OnErr, IsOk, IsOkUnless, IsSome, Some, None, is_some, option_map, option_copied, if◌then◌else◌};
+ghost use Rattle.std.specs.Prelude.{◌≡◌, ◌==◌, ◌<◌, ◌^◌, ◌+◌, [], ◌∷◌, length, MatchOption, IfOk, OnOk, OnErr, IsOk, IsOkUnless, IsSome, Some, None, is_some, option_map, option_copied, if◌then◌else◌};
 ghost use Rattle.std.specs.List.{IsDistinct};
 ghost use Rattle.std.specs.List.Sorted.{IsPermutation};
-ghost use Rattle.std.specs.Map.{keys_of, lookup_key, remove_entry};
+ghost use Rattle.std.specs.Map.{keys_of, lookup_key, remove_entry, set_value};
 ghost use Rattle.std.specs.Map.Calls.{CalledAtPair, TakesPair, CallableOnEachPair, RetainsPairs};
 ghost use Rattle.std.specs.Option.{option_copied_mut};
 ghost use Rattle.wasmi_finite.specs.Maps.{value_at, ChangesAt};
@@ -152,8 +152,9 @@ impl<K: Eq + Hash, V, S: BuildHasher, A: Allocator> Map<K, V, S, A> {
         A: Clone,
         ensures old { IfOk result (λ old. old ≡ value_at K.eq self.old.entries key) }
         ensures changes { OnOk result (ChangesAt K.eq self.old.entries key (Some value) self.new.entries) }
-        ensures keys { IfOk result (λ old. IsSome old
-            → keys_of self.new.entries ≡ keys_of self.old.entries) }
+        ensures entries { IfOk result (λ old. MatchOption old
+            (IsPermutation ((key, value) ∷ self.old.entries) self.new.entries)
+            (λ _. self.new.entries ≡ set_value (K.eq key) self.old.entries value)) }
         ensures len { IfOk result (λ old. length self.new.entries
             ≡ length self.old.entries + (if is_some old then 0 else 1)) }
         ensures hasher { self.new.hasher ≡ self.old.hasher }
