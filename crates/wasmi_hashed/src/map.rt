@@ -8,9 +8,11 @@ ghost use Rattle.std.specs.Option.{option_copied_mut};
 ghost use Rattle.wasmi_finite.specs.Maps.{value_at, ChangesAt};
 
 mod compared;
+mod entry;
 mod grow;
 mod walks;
 
+pub use entry::{Entry, OccupiedEntry, VacantEntry};
 pub use walks::{IntoIter, IntoKeys, IntoValues, Iter, IterMut, Keys, Values, ValuesMut};
 
 use crate::hash::FixedState;
