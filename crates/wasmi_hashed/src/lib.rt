@@ -7,3 +7,6 @@ pub mod set;
 
 pub use map::Map;
 pub use set::Set;
+
+#[cfg(test)]
+mod tests;

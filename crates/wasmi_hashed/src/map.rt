@@ -12,15 +12,14 @@ mod entry;
 mod grow;
 mod walks;
 
-pub use entry::{Entry, OccupiedEntry, VacantEntry};
-pub use walks::{IntoIter, IntoKeys, IntoValues, Iter, IterMut, Keys, Values, ValuesMut};
-
 use crate::hash::FixedState;
+pub use entry::{Entry, OccupiedEntry, VacantEntry};
 use std::alloc::{Allocator, Global};
 use std::collections::HashMap;
 use std::hash::{BuildHasher, Hash};
 use std::marker::Model;
 use std::ops::Index;
+pub use walks::{IntoIter, IntoKeys, IntoValues, Iter, IterMut, Keys, Values, ValuesMut};
 use wasmi_arena::ArenaError;
 
 /// A map from keys to values, which finds a key by its hash.

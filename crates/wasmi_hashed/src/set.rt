@@ -13,8 +13,8 @@ mod compared;
 mod grow;
 mod walks;
 
-pub use algebra::{Difference, Intersection, SymmetricDifference, Union};
 use crate::hash::FixedState;
+pub use algebra::{Difference, Intersection, SymmetricDifference, Union};
 use std::alloc::{Allocator, Global};
 use std::collections::HashSet;
 use std::hash::{BuildHasher, Hash};

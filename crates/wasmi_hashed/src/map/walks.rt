@@ -7,11 +7,10 @@ ghost use Rattle.std.specs.Map.Iter.{ShowsInOrder, ShowsValuesInOrder, GivesInOr
 
 use super::Map;
 use std::alloc::Allocator;
-use std::hash::{BuildHasher, Hash};
-
 pub use std::collections::hash_map::{
     IntoIter, IntoKeys, IntoValues, Iter, IterMut, Keys, Values, ValuesMut,
 };
+use std::hash::{BuildHasher, Hash};
 
 impl<K: Eq + Hash, V, S: BuildHasher, A: Allocator> Map<K, V, S, A> {
     /// Each key with its value.
@@ -90,7 +89,8 @@ impl<K: Eq + Hash, V, S: BuildHasher, A: Allocator> Map<K, V, S, A> {
     }
 }
 
-impl<K: Eq + Hash + Drop, V: Drop, S: BuildHasher + Drop, A: Allocator> IntoIterator for Map<K, V, S, A> {
+impl<K: Eq + Hash + Drop, V: Drop, S: BuildHasher + Drop, A: Allocator> IntoIterator
+    for Map<K, V, S, A> {
     type Item = (K, V);
 
     type IntoIter = IntoIter<K, V, A>;
