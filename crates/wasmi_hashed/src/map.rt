@@ -1,0 +1,227 @@
+//! A map whose keys are found by their hash.
+ghost use Rattle.std.specs.Prelude.{◌≡◌, ◌==◌, ◌<◌, ◌^◌, ◌+◌, [], ◌∷◌, length, MatchOption, IfOk, OnOk, OnErr, IsOk, IsOkUnless, IsSome, Some, None, is_some, option_map, option_copied, if◌then◌else◌};
+ghost use Rattle.std.specs.List.{IsDistinct};
+ghost use Rattle.std.specs.List.Sorted.{IsPermutation};
+ghost use Rattle.std.specs.Map.{keys_of, lookup_key, remove_entry, set_value};
+ghost use Rattle.std.specs.Map.Calls.{CalledAtPair, TakesPair, CallableOnEachPair, RetainsPairs};
+ghost use Rattle.std.specs.Option.{option_copied_mut};
+ghost use Rattle.wasmi_finite.specs.Maps.{value_at, ChangesAt};
+
+mod compared;
+mod entry;
+mod grow;
+mod walks;
+
+use crate::hash::FixedState;
+pub use entry::{Entry, OccupiedEntry, VacantEntry};
+use std::alloc::{Allocator, Global};
+use std::collections::HashMap;
+use std::hash::{BuildHasher, Hash};
+use std::marker::Model;
+use std::ops::Index;
+pub use walks::{IntoIter, IntoKeys, IntoValues, Iter, IterMut, Keys, Values, ValuesMut};
+use wasmi_arena::ArenaError;
+
+/// A map from keys to values, which finds a key by its hash.
+///
+/// A call that looks for a key hashes it once, and takes expected constant time. A walk gives the
+/// entries in an open order.
+#[derive(Drop)]
+pub struct Map<K: Eq + Hash, V, S: BuildHasher = FixedState, A: Allocator = Global> {
+    table: HashMap<K, V, S, A>,
+}
+
+impl<K: Eq + Hash, V, S: BuildHasher, A: Allocator> Model for Map<K, V, S, A> {
+    ghost use Rattle.std.specs.HashMap.{hasher_of};
+    ghost use Rattle.wasmi_hashed.specs.Entries.{Entries};
+
+    ghost Value = { Entries K V S };
+
+    ghost view = { λ map. record { entries = map.table.entries; hasher = hasher_of map.table } };
+}
+
+impl<K: Eq + Hash, V, A: Allocator> Map<K, V, FixedState, A> {
+    /// An empty map, which asks `alloc` for memory when an entry comes.
+    pub fn new(alloc: A) -> Self
+        ensures { result.entries ≡ [] }
+    {
+        Map {
+            table: HashMap::new(alloc),
+        }
+    }
+}
+
+impl<K: Eq + Hash, V, S: BuildHasher, A: Allocator> Map<K, V, S, A> {
+    ghost use Rattle.std.specs.Borrow.{sem};
+    ghost use Rattle.wasmi_hashed.specs.MapLend.{lends_get};
+
+    /// The same, whose keys are hashed by `state`.
+    pub fn with_hasher(alloc: A, state: S) -> Self
+        ensures { result ≡ record { entries = []; hasher = state } }
+    {
+        Map {
+            table: HashMap::with_hasher(alloc, state),
+        }
+    }
+
+    /// Drops all entries. Linear in their number.
+    pub fn clear(&mut self)
+    where
+        K: Drop,
+        V: Drop,
+        ensures { self.new ≡ record { entries = []; hasher = self.old.hasher } }
+    {
+        self.table.clear();
+    }
+
+    /// The number of entries. Constant time.
+    #[inline]
+    pub fn len(&self) -> usize
+        ensures value { result ≡ length self.now.entries }
+        ensures small { result < 2 ^ 63 }
+        ensures distinct { IsDistinct K.eq (keys_of self.now.entries) }
+    {
+        self.table.len()
+    }
+
+    /// Whether there is no entry. Constant time.
+    #[inline]
+    pub fn is_empty(&self) -> bool
+        ensures { result ≡ (length self.now.entries == 0) }
+    {
+        self.table.len() == 0
+    }
+
+    /// Makes room for so many more entries.
+    ///
+    /// Fails with `OutOfSystemMemory` if there is no memory for it, and then the map is as before.
+    pub fn reserve(&mut self, additional: usize) -> Result<(), ArenaError>
+    where
+        A: Clone,
+        ensures same { IsPermutation self.old.entries self.new.entries }
+        ensures hasher { self.new.hasher ≡ self.old.hasher }
+        ensures errors { IsOkUnless result ArenaError.OutOfSystemMemory }
+        ensures err { OnErr result (self.new ≡ self.old) }
+    {
+        self.table.reserve(additional)?;
+        Ok(())
+    }
+
+    /// Whether the key is there. One search, and no allocation.
+    #[inline]
+    pub fn contains_key(&self, key: &K) -> bool
+        ensures { result ≡ is_some (value_at K.eq self.now.entries key.now) }
+    {
+        self.table.contains_key(key)
+    }
+
+    /// The value under a key, if there is one. One search, and no allocation.
+    #[inline]
+    pub fn get(&self, key: &K) -> Option<&V>
+        ensures { option_copied result ≡ value_at K.eq self.now.entries key.now }
+    {
+        self.table.get(key)
+    }
+
+    /// The key that is kept and its value, if it is there. One search, and no allocation.
+    #[inline]
+    pub fn get_key_value(&self, key: &K) -> Option<(&K, &V)>
+        ensures key { option_map (λ pair. pair.0.now) result ≡ lookup_key (K.eq key.now) self.now.entries }
+        ensures value { option_map (λ pair. pair.1.now) result ≡ value_at K.eq self.now.entries key.now }
+    {
+        self.table.get_key_value(key)
+    }
+
+    /// The value under a key to write to, if there is one. One search, and no allocation.
+    #[inline]
+    pub fn get_mut(&mut self, key: &K) -> Option<&mut V>
+        ensures* writes_back { sem 𝓛 (lends_get K.row V.row S.row A.row S.Hasher.row K.Hash S.BuildHasher S.Hasher.Hasher A.Allocator self.entry key.now result) }
+        ensures value { option_copied_mut result ≡ value_at K.eq self.old.entries key.now }
+    {
+        self.table.get_mut(key)
+    }
+
+    /// Puts a value under a key, and returns the one that was there. A key that is there is kept.
+    ///
+    /// Fails with `OutOfSystemMemory` if the key isn't there and there is no memory for it, and then the
+    /// map is as before, and the pair is dropped. One search.
+    #[inline]
+    pub fn insert(&mut self, key: K, value: V) -> Result<Option<V>, ArenaError>
+    where
+        K: Drop,
+        V: Drop,
+        A: Clone,
+        ensures old { IfOk result (λ old. old ≡ value_at K.eq self.old.entries key) }
+        ensures changes { OnOk result (ChangesAt K.eq self.old.entries key (Some value) self.new.entries) }
+        ensures entries { IfOk result (λ old. MatchOption old
+            (IsPermutation ((key, value) ∷ self.old.entries) self.new.entries)
+            (λ _. self.new.entries ≡ set_value (K.eq key) self.old.entries value)) }
+        ensures len { IfOk result (λ old. length self.new.entries
+            ≡ length self.old.entries + (if is_some old then 0 else 1)) }
+        ensures hasher { self.new.hasher ≡ self.old.hasher }
+        ensures absent { OnErr result (value_at K.eq self.old.entries key ≡ None) }
+        ensures there { IsSome (value_at K.eq self.old.entries key) → IsOk result }
+        ensures errors { IsOkUnless result ArenaError.OutOfSystemMemory }
+        ensures err { OnErr result (self.new ≡ self.old) }
+    {
+        let old = self.table.insert(key, value)?;
+        Ok(old)
+    }
+
+    /// Takes a key out, and returns its value, if it is there. One search, and never fails.
+    #[inline]
+    pub fn remove(&mut self, key: &K) -> Option<V>
+    where
+        K: Drop,
+        ensures old { result ≡ value_at K.eq self.old.entries key.now }
+        ensures changes { ChangesAt K.eq self.old.entries key.now None self.new.entries }
+        ensures entries { IsPermutation (remove_entry (K.eq key.now) self.old.entries) self.new.entries }
+        ensures len { length self.new.entries + (if is_some result then 1 else 0) ≡ length self.old.entries }
+        ensures hasher { self.new.hasher ≡ self.old.hasher }
+    {
+        self.table.remove(key)
+    }
+
+    /// Takes a key out, and returns it with its value, if it is there. One search, and never fails.
+    #[inline]
+    pub fn remove_entry(&mut self, key: &K) -> Option<(K, V)>
+        ensures key { option_map (λ pair. pair.0) result ≡ lookup_key (K.eq key.now) self.old.entries }
+        ensures value { option_map (λ pair. pair.1) result ≡ value_at K.eq self.old.entries key.now }
+        ensures changes { ChangesAt K.eq self.old.entries key.now None self.new.entries }
+        ensures entries { IsPermutation (remove_entry (K.eq key.now) self.old.entries) self.new.entries }
+        ensures len { length self.new.entries + (if is_some result then 1 else 0) ≡ length self.old.entries }
+        ensures hasher { self.new.hasher ≡ self.old.hasher }
+    {
+        self.table.remove_entry(key)
+    }
+
+    /// Keeps the entries for which the closure returns `true`, and drops the others. It visits each entry
+    /// once, in an open order, and may write to the values. Linear, and never fails.
+    pub fn retain<F: FnMut(&K, &mut V) -> bool>(&mut self, keep: F)
+    where
+        K: Drop,
+        V: Drop,
+        requires { CallableOnEachPair (CalledAtPair F.FnMut) (TakesPair F.FnMut) keep self.old.entries }
+        ensures entries { RetainsPairs (CalledAtPair F.FnMut) keep self.old.entries self.new.entries }
+        ensures hasher { self.new.hasher ≡ self.old.hasher }
+    {
+        self.table.retain(keep);
+    }
+}
+
+/// `map[&key]` is the value under the key, which is there.
+impl<K: Eq + Hash, V, S: BuildHasher, A: Allocator> Index<&K> for Map<K, V, S, A> {
+    ghost use Rattle.std.specs.Prelude.{◌≡◌, IsSome, Some};
+    ghost use Rattle.wasmi_finite.specs.Maps.{value_at};
+
+    type Output = V;
+
+    // The key is there.
+    ghost can_index = { λ map key. IsSome (value_at K.eq map.entries key.now) };
+
+    ghost index_gives = { λ map key value. value_at K.eq map.entries key.now ≡ Some value };
+
+    fn index(&self, key: &K) -> &V {
+        &self.table[key]
+    }
+}

@@ -1,0 +1,167 @@
+//! The place of a key in a map, found by one search.
+ghost use Rattle.std.specs.Prelude.{◌≡◌, IfOk, IsOk, IsOkUnless, OnErr, IsTrue, MatchOption, ◌∷◌, Some, None, unwrap_or};
+ghost use Rattle.std.specs.Borrow.{Bor, MutBor};
+ghost use Rattle.std.specs.HashMap.Entry.{entry_key, entry_value, entry_map_ref, map_with_value, map_without_entry};
+ghost use Rattle.std.specs.Fn.{FnOnceReturnsAt};
+ghost use Rattle.std.specs.List.Sorted.{IsPermutation};
+ghost use Rattle.std.specs.Map.{remove_entry, set_value};
+ghost use Rattle.std.specs.Map.Calls.{ModifiesValue};
+ghost use Rattle.std.specs.Option.{UnwrapsOrElse};
+ghost use Rattle.wasmi_finite.specs.Maps.{value_at};
+ghost use Rattle.wasmi_hashed.specs.MapEntry.{place};
+ghost use Rattle.wasmi_hashed.specs.declared.map.entry.Entry.TheVariants.{Vacant};
+
+use super::Map;
+use crate::hash::FixedState;
+use std::alloc::{Allocator, Global};
+use std::collections::hash_map;
+pub use std::collections::hash_map::OccupiedEntry;
+use std::default::MadeWith;
+use std::hash::{BuildHasher, Hash};
+use wasmi_arena::ArenaError;
+
+/// The place of a key in a map: with its value, or free.
+#[derive(Drop)]
+pub enum Entry<'a, K: Eq + Hash, V, S: BuildHasher = FixedState, A: Allocator = Global> {
+    /// The key is there.
+    Occupied(OccupiedEntry<'a, K, V, S, A>),
+    /// The key isn't there.
+    Vacant(VacantEntry<'a, K, V, S, A>),
+}
+
+/// The place of a key that isn't there, with room for it.
+#[derive(Drop)]
+pub struct VacantEntry<'a, K: Eq + Hash, V, S: BuildHasher = FixedState, A: Allocator = Global> {
+    entry: hash_map::VacantEntry<'a, K, V, S, A>,
+}
+
+impl<K: Eq + Hash, V, S: BuildHasher, A: Allocator> Map<K, V, S, A> {
+    /// The place of a key.
+    ///
+    /// Fails with `OutOfSystemMemory` if the key isn't there and there is no memory for it, and then the
+    /// map is as before, and the key is dropped. One search: what is done with the place needs none, and
+    /// no memory.
+    #[inline]
+    pub fn entry(&mut self, key: K) -> Result<Entry<'_, K, V, S, A>, ArenaError>
+    where
+        K: Drop,
+        A: Clone,
+        ensures key { IfOk result (λ entry. entry_value (place entry) ≡ None → entry_key (place entry) ≡ key) }
+        ensures same_key { IfOk result (λ entry. IsTrue (K.eq key (entry_key (place entry)))) }
+        ensures value { IfOk result (λ entry. entry_value (place entry)
+            ≡ value_at K.eq self.old.entries key) }
+        ensures entries { IfOk result (λ entry. (entry_map_ref (place entry)).now.entries ≡ self.old.entries) }
+        ensures written { IfOk result (λ entry. (last : V) → MatchOption (value_at K.eq self.old.entries key)
+            (IsPermutation ((key, last) ∷ self.old.entries) (map_with_value (place entry) last).entries)
+            (λ _. (map_with_value (place entry) last).entries ≡ set_value (K.eq key) self.old.entries last)) }
+        ensures removed { IfOk result (λ entry. IsPermutation (remove_entry (K.eq key) self.old.entries)
+            (map_without_entry (place entry)).entries) }
+        ensures absent { OnErr result (value_at K.eq self.old.entries key ≡ None) }
+        ensures errors { IsOkUnless result ArenaError.OutOfSystemMemory }
+    {
+        let entry = self.table.entry(key)?;
+        Ok(Entry::of(entry))
+    }
+}
+
+impl<'a, K: Eq + Hash, V, S: BuildHasher, A: Allocator> Entry<'a, K, V, S, A> {
+    fn of(entry: hash_map::Entry<'a, K, V, S, A>) -> Self
+        ensures { place result ≡ entry.entry }
+    {
+        match entry {
+            hash_map::Entry::Occupied(entry) => Entry::Occupied(entry),
+            hash_map::Entry::Vacant(entry) => Entry::Vacant(VacantEntry { entry }),
+        }
+    }
+
+    fn into_table(self) -> hash_map::Entry<'a, K, V, S, A>
+        ensures { result ≡ place self.entry }
+    {
+        match self {
+            Entry::Occupied(occupied) => hash_map::Entry::Occupied(occupied),
+            Entry::Vacant(vacant) => hash_map::Entry::Vacant(vacant.entry),
+        }
+    }
+
+    /// The key: the one that is kept, or else the one that was asked for.
+    pub fn key(&self) -> &K
+        ensures { result.now ≡ entry_key (place self.now) }
+    {
+        match self {
+            Entry::Occupied(occupied) => occupied.key(),
+            Entry::Vacant(vacant) => vacant.key(),
+        }
+    }
+
+    /// The value that is there, or else this one, which is put in. Doesn't fail, since the place has room.
+    #[inline]
+    pub fn or_insert(self, default: V) -> Result<&'a mut V, ArenaError>
+    where
+        V: Drop,
+        ensures value { IfOk result (λ value. value.now ≡ unwrap_or (entry_value (place self.entry)) default) }
+        ensures ok { IsOk result }
+    {
+        Ok(self.into_table().or_insert(default))
+    }
+
+    /// The value that is there, or else what the closure returns, which is put in. The closure isn't called
+    /// where the key is there.
+    #[inline]
+    pub fn or_insert_with<F: FnOnce() -> V>(self, default: F) -> Result<&'a mut V, ArenaError>
+        requires { entry_value (place self) ≡ None → F.pre default }
+        ensures value { IfOk result (λ value. UnwrapsOrElse (entry_value (place self.entry)) (F.post default) value.now) }
+        ensures ok { IsOk result }
+    {
+        Ok(self.into_table().or_insert_with(default))
+    }
+
+    /// The same, with the key handed to the closure.
+    #[inline]
+    pub fn or_insert_with_key<F: FnOnce(&K) -> V>(self, default: F) -> Result<&'a mut V, ArenaError>
+        requires { entry_value (place self) ≡ None → (p : Bor K) → p.now ≡ entry_key (place self) → F.pre default p }
+        ensures value { IfOk result (λ value. UnwrapsOrElse (entry_value (place self.entry))
+            (FnOnceReturnsAt F.FnOnce default (entry_key (place self.entry))) value.now) }
+        ensures ok { IsOk result }
+    {
+        Ok(self.into_table().or_insert_with_key(default))
+    }
+
+    /// The value that is there, or else the default, which is put in.
+    #[inline]
+    pub fn or_default(self) -> Result<&'a mut V, ArenaError>
+    where
+        V: MadeWith<A>,
+        ensures value { IfOk result (λ value. UnwrapsOrElse (entry_value (place self.entry)) V.is_made_with value.now) }
+        ensures ok { IsOk result }
+    {
+        Ok(self.into_table().or_default())
+    }
+
+    /// The same place, with its value changed by the closure, if there is one.
+    #[inline]
+    pub fn and_modify<F: FnOnce(&mut V)>(self, modify: F) -> Self
+        requires { (p : MutBor V) → entry_value (place self) ≡ Some p.now → F.pre modify p }
+        ensures key { entry_key (place result) ≡ entry_key (place self.entry) }
+        ensures value { ModifiesValue F.FnOnce modify (entry_value (place self.entry)) (entry_value (place result)) }
+        ensures written { (last : V) → map_with_value (place result) last ≡ map_with_value (place self.entry) last }
+    {
+        Entry::of(self.into_table().and_modify(modify))
+    }
+}
+
+impl<'a, K: Eq + Hash, V, S: BuildHasher, A: Allocator> VacantEntry<'a, K, V, S, A> {
+    /// The key that was asked for.
+    pub fn key(&self) -> &K
+        ensures { result.now ≡ entry_key (place (Vacant self.now)) }
+    {
+        self.entry.key()
+    }
+
+    /// Puts a value under the key. Doesn't fail, since the place has room.
+    pub fn insert(self, value: V) -> Result<&'a mut V, ArenaError>
+        ensures value { IfOk result (λ there. there.now ≡ value) }
+        ensures ok { IsOk result }
+    {
+        Ok(self.entry.insert(value))
+    }
+}

@@ -1,0 +1,213 @@
+//! A set whose elements are found by their hash.
+ghost use Rattle.std.specs.Prelude.{◌≡◌, ◌==◌, ◌<◌, ◌^◌, ◌+◌, [], ◌∷◌, true, false, not, length, MatchOption, find, IfOk, OnOk, OnErr, IsOk, IsOkUnless, IsTrue, is_some, option_copied, if◌then◌else◌};
+ghost use Rattle.std.specs.Bool.{MatchBool};
+ghost use Rattle.std.specs.Fn.{CalledAt};
+ghost use Rattle.std.specs.List.Retain.{IsFiltered};
+ghost use Rattle.std.specs.List.{IsDistinct};
+ghost use Rattle.std.specs.List.Sorted.{IsPermutation};
+ghost use Rattle.std.specs.Set.{is_member, remove_key, swap_key};
+ghost use Rattle.wasmi_finite.specs.Sets.{ChangesAt};
+
+mod algebra;
+mod compared;
+mod grow;
+mod walks;
+
+use crate::hash::FixedState;
+pub use algebra::{Difference, Intersection, SymmetricDifference, Union};
+use std::alloc::{Allocator, Global};
+use std::collections::HashSet;
+use std::hash::{BuildHasher, Hash};
+use std::marker::Model;
+pub use walks::{IntoIter, Iter};
+use wasmi_arena::ArenaError;
+
+/// A set of elements, each found by its hash.
+///
+/// A call that looks for an element hashes it once, and takes expected constant time. A walk gives the
+/// elements in an open order.
+#[derive(Drop)]
+pub struct Set<T: Eq + Hash, S: BuildHasher = FixedState, A: Allocator = Global> {
+    table: HashSet<T, S, A>,
+}
+
+impl<T: Eq + Hash, S: BuildHasher, A: Allocator> Model for Set<T, S, A> {
+    ghost use Rattle.std.specs.HashSet.{hasher_of};
+    ghost use Rattle.wasmi_hashed.specs.Entries.{Elements};
+
+    ghost Value = { Elements T S };
+
+    ghost view = { λ set. record { elements = set.table.keys; hasher = hasher_of set.table } };
+}
+
+impl<T: Eq + Hash, A: Allocator> Set<T, FixedState, A> {
+    /// An empty set, which asks `alloc` for memory when an element comes.
+    pub fn new(alloc: A) -> Self
+        ensures { result.elements ≡ [] }
+    {
+        Set {
+            table: HashSet::new(alloc),
+        }
+    }
+}
+
+impl<T: Eq + Hash, S: BuildHasher, A: Allocator> Set<T, S, A> {
+    /// The same, whose elements are hashed by `state`.
+    pub fn with_hasher(alloc: A, state: S) -> Self
+        ensures { result ≡ record { elements = []; hasher = state } }
+    {
+        Set {
+            table: HashSet::with_hasher(alloc, state),
+        }
+    }
+
+    /// Drops all elements. Linear in their number.
+    pub fn clear(&mut self)
+    where
+        T: Drop,
+        ensures { self.new ≡ record { elements = []; hasher = self.old.hasher } }
+    {
+        self.table.clear();
+    }
+
+    /// The number of elements. Constant time.
+    #[inline]
+    pub fn len(&self) -> usize
+        ensures value { result ≡ length self.now.elements }
+        ensures small { result < 2 ^ 63 }
+        ensures distinct { IsDistinct T.eq self.now.elements }
+    {
+        self.table.len()
+    }
+
+    /// Whether there is no element. Constant time.
+    #[inline]
+    pub fn is_empty(&self) -> bool
+        ensures { result ≡ (length self.now.elements == 0) }
+    {
+        self.table.len() == 0
+    }
+
+    /// Makes room for so many more elements.
+    ///
+    /// Fails with `OutOfSystemMemory` if there is no memory for it, and then the set is as before.
+    pub fn reserve(&mut self, additional: usize) -> Result<(), ArenaError>
+    where
+        A: Clone,
+        ensures same { IsPermutation self.old.elements self.new.elements }
+        ensures hasher { self.new.hasher ≡ self.old.hasher }
+        ensures errors { IsOkUnless result ArenaError.OutOfSystemMemory }
+        ensures err { OnErr result (self.new ≡ self.old) }
+    {
+        self.table.reserve(additional)?;
+        Ok(())
+    }
+
+    /// Whether the element is there. One search, and no allocation.
+    #[inline]
+    pub fn contains(&self, value: &T) -> bool
+        ensures { result ≡ is_member T.eq self.now.elements value.now }
+    {
+        self.table.contains(value)
+    }
+
+    /// The element that is kept, if it is there. One search, and no allocation.
+    #[inline]
+    pub fn get(&self, value: &T) -> Option<&T>
+        ensures element { option_copied result ≡ find (T.eq value.now) self.now.elements }
+        ensures there { is_some result ≡ is_member T.eq self.now.elements value.now }
+    {
+        self.table.get(value)
+    }
+
+    /// Puts an element in, and returns whether it is new. An element that is there is kept.
+    ///
+    /// Fails with `OutOfSystemMemory` if it isn't there and there is no memory for it, and then the set is
+    /// as before, and the element is dropped. One search.
+    #[inline]
+    pub fn insert(&mut self, value: T) -> Result<bool, ArenaError>
+    where
+        T: Drop,
+        A: Clone,
+        ensures added { IfOk result (λ added. added ≡ not (is_member T.eq self.old.elements value)) }
+        ensures changes { OnOk result (ChangesAt T.eq self.old.elements value true self.new.elements) }
+        ensures elements { IfOk result (λ added. MatchBool added
+            (IsPermutation (value ∷ self.old.elements) self.new.elements)
+            (self.new.elements ≡ self.old.elements)) }
+        ensures hasher { self.new.hasher ≡ self.old.hasher }
+        ensures len { IfOk result (λ added. length self.new.elements
+            ≡ length self.old.elements + (if added then 1 else 0)) }
+        ensures absent { OnErr result (is_member T.eq self.old.elements value ≡ false) }
+        ensures there { IsTrue (is_member T.eq self.old.elements value) → IsOk result }
+        ensures errors { IsOkUnless result ArenaError.OutOfSystemMemory }
+        ensures err { OnErr result (self.new ≡ self.old) }
+    {
+        let added = self.table.insert(value)?;
+        Ok(added)
+    }
+
+    /// Puts an element in, in the place of the one that is there, and returns that one.
+    ///
+    /// Fails as [`insert`](Set::insert) does. One search where the element is there, and else two.
+    #[inline]
+    pub fn replace(&mut self, value: T) -> Result<Option<T>, ArenaError>
+    where
+        T: Drop,
+        A: Clone,
+        ensures old { IfOk result (λ old. old ≡ find (T.eq value) self.old.elements) }
+        ensures changes { OnOk result (ChangesAt T.eq self.old.elements value true self.new.elements) }
+        ensures elements { IfOk result (λ old. MatchOption old
+            (IsPermutation (value ∷ self.old.elements) self.new.elements)
+            (λ _. self.new.elements ≡ swap_key (T.eq value) self.old.elements value)) }
+        ensures hasher { self.new.hasher ≡ self.old.hasher }
+        ensures len { IfOk result (λ old. length self.new.elements
+            ≡ length self.old.elements + (if is_some old then 0 else 1)) }
+        ensures absent { OnErr result (is_member T.eq self.old.elements value ≡ false) }
+        ensures there { IsTrue (is_member T.eq self.old.elements value) → IsOk result }
+        ensures errors { IsOkUnless result ArenaError.OutOfSystemMemory }
+        ensures err { OnErr result (self.new ≡ self.old) }
+    {
+        let old = self.table.replace(value)?;
+        Ok(old)
+    }
+
+    /// Drops the element, and returns whether it was there. One search, and never fails.
+    #[inline]
+    pub fn remove(&mut self, value: &T) -> bool
+    where
+        T: Drop,
+        ensures there { result ≡ is_member T.eq self.old.elements value.now }
+        ensures changes { ChangesAt T.eq self.old.elements value.now false self.new.elements }
+        ensures elements { IsPermutation (remove_key (T.eq value.now) self.old.elements) self.new.elements }
+        ensures hasher { self.new.hasher ≡ self.old.hasher }
+        ensures len { length self.new.elements + (if result then 1 else 0) ≡ length self.old.elements }
+    {
+        self.table.remove(value)
+    }
+
+    /// Takes the element out, and returns the one that was kept, if it was there. One search, and never
+    /// fails.
+    #[inline]
+    pub fn take(&mut self, value: &T) -> Option<T>
+        ensures element { result ≡ find (T.eq value.now) self.old.elements }
+        ensures there { is_some result ≡ is_member T.eq self.old.elements value.now }
+        ensures changes { ChangesAt T.eq self.old.elements value.now false self.new.elements }
+        ensures elements { IsPermutation (remove_key (T.eq value.now) self.old.elements) self.new.elements }
+        ensures hasher { self.new.hasher ≡ self.old.hasher }
+        ensures len { length self.new.elements + (if is_some result then 1 else 0) ≡ length self.old.elements }
+    {
+        self.table.take(value)
+    }
+
+    /// Keeps the elements for which the closure returns `true`, and drops the others. It visits each
+    /// element once, in an open order. Linear, and never fails.
+    pub fn retain<F: FnMut(&T) -> bool>(&mut self, keep: F)
+    where
+        T: Drop,
+        requires { F.IsAlwaysCallable keep }
+        ensures elements { IsFiltered (CalledAt F.FnMut) keep self.old.elements self.new.elements }
+        ensures hasher { self.new.hasher ≡ self.old.hasher }
+    {
+        self.table.retain(keep);
+    }
+}

@@ -1,0 +1,126 @@
+//! Set theory: tests and walks over two sets, and sets made of two.
+ghost use Rattle.std.specs.Prelude.{◌<◌, ◌^◌, ◌↔◌, length, IfOk, IsOkUnless, IsTrue};
+ghost use Rattle.std.specs.List.{IsDistinct};
+ghost use Rattle.std.specs.Map.Iter.{ShowsInOrder, deref};
+ghost use Rattle.std.specs.Set.{IsUnion, IsIntersection, IsDifference, IsSymmetricDifference};
+ghost use Rattle.wasmi_finite.specs.Sets.{IsSubset, IsDisjoint, HoldsClones};
+
+use super::Set;
+use crate::hash::FixedState;
+use std::alloc::Allocator;
+pub use std::collections::hash_set::{Difference, Intersection, SymmetricDifference, Union};
+use std::hash::{BuildHasher, Hash};
+use wasmi_arena::ArenaError;
+
+impl<T: Eq + Hash, S: BuildHasher, A: Allocator> Set<T, S, A> {
+    /// Whether the two sets have no element in common. No allocation.
+    pub fn is_disjoint(&self, other: &Self) -> bool
+        ensures { IsTrue result ↔ IsDisjoint T.eq self.now.elements other.now.elements }
+    {
+        self.table.is_disjoint(&other.table)
+    }
+
+    /// Whether each element of this set is in the other. No allocation.
+    pub fn is_subset(&self, other: &Self) -> bool
+        ensures { IsTrue result ↔ IsSubset T.eq self.now.elements other.now.elements }
+    {
+        self.table.is_subset(&other.table)
+    }
+
+    /// Whether each element of the other set is in this one. No allocation.
+    pub fn is_superset(&self, other: &Self) -> bool
+        ensures { IsTrue result ↔ IsSubset T.eq other.now.elements self.now.elements }
+    {
+        self.table.is_superset(&other.table)
+    }
+
+    /// The elements of this set that the other lacks. No allocation.
+    pub fn difference<'a>(&'a self, other: &'a Self) -> Difference<'a, T, S, A>
+        ensures members { IsDifference T.eq self.now.elements other.now.elements result }
+        ensures distinct { IsDistinct T.eq result }
+        ensures bound { length result < 2 ^ 63 }
+        ensures runs { ShowsInOrder (deref {X = T}) }
+    {
+        self.table.difference(&other.table)
+    }
+
+    /// The elements that exactly one of the two sets has. No allocation.
+    pub fn symmetric_difference<'a>(&'a self, other: &'a Self) -> SymmetricDifference<'a, T, S, A>
+        ensures members { IsSymmetricDifference T.eq self.now.elements other.now.elements result }
+        ensures distinct { IsDistinct T.eq result }
+        ensures bound { length result < 2 ^ 64 }
+        ensures runs { ShowsInOrder (deref {X = T}) }
+    {
+        self.table.symmetric_difference(&other.table)
+    }
+
+    /// The elements that both sets have. No allocation.
+    pub fn intersection<'a>(&'a self, other: &'a Self) -> Intersection<'a, T, S, A>
+        ensures members { IsIntersection T.eq self.now.elements other.now.elements result }
+        ensures distinct { IsDistinct T.eq result }
+        ensures bound { length result < 2 ^ 63 }
+        ensures runs { ShowsInOrder (deref {X = T}) }
+    {
+        self.table.intersection(&other.table)
+    }
+
+    /// The elements that one of the sets has, or both, each once. No allocation.
+    pub fn union<'a>(&'a self, other: &'a Self) -> Union<'a, T, S, A>
+        ensures members { IsUnion T.eq self.now.elements other.now.elements result }
+        ensures distinct { IsDistinct T.eq result }
+        ensures bound { length result < 2 ^ 64 }
+        ensures runs { ShowsInOrder (deref {X = T}) }
+    {
+        self.table.union(&other.table)
+    }
+}
+
+impl<T: Eq + Hash + Clone, A: Allocator + Clone> Set<T, FixedState, A> {
+    /// A set of clones of the elements that both sets have.
+    ///
+    /// Fails with `OutOfSystemMemory` if there is no memory, or a clone fails. Linear.
+    pub fn bitand(&self, other: &Self) -> Result<Self, ArenaError>
+        ensures ok { IfOk result (λ set. HoldsClones T.eq T.is_clone
+            (IsIntersection T.eq self.now.elements other.now.elements) set.elements) }
+        ensures errors { IsOkUnless result ArenaError.OutOfSystemMemory }
+    {
+        let table = (&self.table & &other.table)?;
+        Ok(Set { table })
+    }
+
+    /// A set of clones of the elements that one of the sets has, or both.
+    ///
+    /// Fails as [`bitand`](Set::bitand) does. Linear.
+    pub fn bitor(&self, other: &Self) -> Result<Self, ArenaError>
+        ensures ok { IfOk result (λ set. HoldsClones T.eq T.is_clone
+            (IsUnion T.eq self.now.elements other.now.elements) set.elements) }
+        ensures errors { IsOkUnless result ArenaError.OutOfSystemMemory }
+    {
+        let table = (&self.table | &other.table)?;
+        Ok(Set { table })
+    }
+
+    /// A set of clones of the elements that exactly one of the sets has.
+    ///
+    /// Fails as [`bitand`](Set::bitand) does. Linear.
+    pub fn bitxor(&self, other: &Self) -> Result<Self, ArenaError>
+        ensures ok { IfOk result (λ set. HoldsClones T.eq T.is_clone
+            (IsSymmetricDifference T.eq self.now.elements other.now.elements) set.elements) }
+        ensures errors { IsOkUnless result ArenaError.OutOfSystemMemory }
+    {
+        let table = (&self.table ^ &other.table)?;
+        Ok(Set { table })
+    }
+
+    /// A set of clones of the elements of this set that the other lacks.
+    ///
+    /// Fails as [`bitand`](Set::bitand) does. Linear.
+    pub fn sub(&self, other: &Self) -> Result<Self, ArenaError>
+        ensures ok { IfOk result (λ set. HoldsClones T.eq T.is_clone
+            (IsDifference T.eq self.now.elements other.now.elements) set.elements) }
+        ensures errors { IsOkUnless result ArenaError.OutOfSystemMemory }
+    {
+        let table = (&self.table - &other.table)?;
+        Ok(Set { table })
+    }
+}
