@@ -1,1 +1,2 @@
 mod LastItem
+mod Runs

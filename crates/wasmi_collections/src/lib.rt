@@ -5,11 +5,18 @@
 //! - [`Arena`]: a list under typed keys, in one vector
 //! - [`ComponentVec`]: properties of the entities that an arena has, by key
 //! - [`HeadVec`]: a list with fast access to its last item
+//! - [`Map`], [`Set`]: a map and a set kept in the order of their keys; [`hashed`] has those that hash
+//! - [`run`]: lists of commands to any map and any set
 #![tactic(auto)]
 
 pub mod arena;
+pub mod hashed;
 mod head_vec;
 pub mod laws;
+pub mod ordered;
+pub mod run;
 
 pub use arena::{Arena, ComponentVec, StableArena, StableVec};
 pub use head_vec::HeadVec;
+pub use wasmi_hashed::hash;
+pub use wasmi_ordered::{Map, Set, map, set};

@@ -1,0 +1,33 @@
+-- The steps of a set, what each command may be replied to, and what it leaves.
+use Rattle.std.specs.Prelude.{◌≡◌, Bool, List, [], length}
+use Rattle.std.specs.Set.{is_member}
+use Rattle.wasmi_collections.specs.SetCalls.{PutsElement, TakesElement, RefusesElement}
+use Rattle.wasmi_collections.specs.declared.run.set.SetCommand.{SetCommand}
+use Rattle.wasmi_collections.specs.declared.run.set.SetCommand.TheVariants.{Insert, Remove, Has, Len, Clear}
+use Rattle.wasmi_collections.specs.declared.run.set.SetReply.{SetReply}
+use Rattle.wasmi_collections.specs.declared.run.set.SetReply.TheVariants.{Flag, Len as LenReply, Done, Refused}
+
+module _ {T : Type 0} (eq : T → T → Bool) where
+  -- from old, the set may give this reply to the command and go on to new
+  abbrev pub SetStep : List T → SetCommand T → SetReply → List T → Type 0
+  SetStep old (Insert element) (Flag added) new = PutsElement eq old element added new
+  SetStep old (Insert element) (Refused error) new = RefusesElement eq old element error × (new ≡ old)
+  SetStep old (Remove element) (Flag there) new = TakesElement eq old element there new
+  SetStep old (Has element) (Flag found) new = (found ≡ is_member eq old element) × (new ≡ old)
+  SetStep old Len (LenReply len) new = (len ≡ length old) × (new ≡ old)
+  SetStep old Clear Done new = new ≡ []
+  -- no other reply is given
+  SetStep old (Insert element) (LenReply len) new = ⊥
+  SetStep old (Insert element) Done new = ⊥
+  SetStep old (Remove element) (LenReply len) new = ⊥
+  SetStep old (Remove element) Done new = ⊥
+  SetStep old (Remove element) (Refused error) new = ⊥
+  SetStep old (Has element) (LenReply len) new = ⊥
+  SetStep old (Has element) Done new = ⊥
+  SetStep old (Has element) (Refused error) new = ⊥
+  SetStep old Len (Flag found) new = ⊥
+  SetStep old Len Done new = ⊥
+  SetStep old Len (Refused error) new = ⊥
+  SetStep old Clear (Flag found) new = ⊥
+  SetStep old Clear (LenReply len) new = ⊥
+  SetStep old Clear (Refused error) new = ⊥
