@@ -1,5 +1,6 @@
 //! Each caller on its happy path.
 
+use crate::define::define;
 use crate::frames::tail_call;
 use crate::properties::set_once;
 use crate::reserve::put_both;
@@ -10,7 +11,7 @@ use crate::tables::{add_once, reset};
 use crate::write::put_or_alloc;
 use std::test::Fail;
 use wasmi_arena::{StableArena, StableVec};
-use wasmi_collections::HeadVec;
+use wasmi_collections::{HeadVec, hashed, ordered};
 use wasmi_dense::{Arena, ComponentVec};
 use wasmi_ordered::Map;
 
@@ -112,5 +113,19 @@ fn a_table_of_counts(rt: HostRuntime) -> Result<(), Fail> {
     assert_eq!(rt; reset(&mut counts, &7), Some(3));
     assert_eq!(rt; reset(&mut counts, &9), None);
     assert_eq!(rt; (counts.get(&7), counts.get(&8)), (Some(&0), Some(&4)));
+    Ok(())
+}
+
+#[test]
+fn names_are_defined_once(rt: HostRuntime) -> Result<(), Fail> {
+    let mut sorted = ordered::Map::new(rt.alloc());
+    assert_eq!(rt; define(&mut sorted, 1, "one")?, 1);
+    assert_eq!(rt; define(&mut sorted, 2, "two")?, 2);
+    assert_eq!(rt; define(&mut sorted, 1, "uno")?, 2);
+    assert_eq!(rt; sorted.get(&1), Some(&"one"));
+    let mut scattered = hashed::Map::new(rt.alloc());
+    assert_eq!(rt; define(&mut scattered, 1, "one")?, 1);
+    assert_eq!(rt; define(&mut scattered, 1, "uno")?, 1);
+    assert_eq!(rt; scattered.get(&1), Some(&"one"));
     Ok(())
 }

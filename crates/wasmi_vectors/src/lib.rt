@@ -20,4 +20,6 @@ mod memory;
 pub mod observed;
 #[cfg(test)]
 mod ordered_memory;
+#[cfg(test)]
+mod runs;
 pub mod tiny;
