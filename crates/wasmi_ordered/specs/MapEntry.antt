@@ -7,8 +7,8 @@ use Rattle.std.specs.declared.cmp.PartialOrd as partial
 use Rattle.wasmi_ordered.specs.declared.map.entry.Entry.{Entry}
 use Rattle.wasmi_ordered.specs.declared.map.entry.Entry.TheVariants.{Occupied, Vacant}
 
-module _ {K V A : Type 0} {g : ord.Ghosts K} {g' : eq.Ghosts K} {g'' : partial.Ghosts K} where
+module _ {Key Value Heap : Type 0} {equal : eq.Ghosts Key} {total : ord.Ghosts Key} {order : partial.Ghosts Key} where
   -- the place in the tree
-  abbrev pub place : Entry K V A g' g g'' → Place K V A g g' g''
+  abbrev pub place : Entry Key Value Heap equal total order → Place Key Value Heap total equal order
   place (Occupied occupied) = tree.Occupied occupied
   place (Vacant vacant) = tree.Vacant vacant.entry

@@ -1,24 +1,25 @@
-//! A set whose elements are kept in order.
+//! A set that keeps its elements in order.
 ghost use Rattle.std.specs.Prelude.{◌≡◌, ◌==◌, ◌<◌, ◌^◌, ◌+◌, [], true, false, not, length, find, IfOk, OnOk, OnErr, IsOk, IsOkUnless, IsTrue, is_some, option_copied, if◌then◌else◌};
 ghost use Rattle.std.specs.BTreeSet.{insert_key, replace_key};
+ghost use Rattle.std.specs.Cmp.Lexicographic.{pointwise, lists_per, lists_equiv};
 ghost use Rattle.std.specs.Fn.{CalledAt};
 ghost use Rattle.std.specs.List.Retain.{IsFiltered};
 ghost use Rattle.std.specs.List.Sorted.{IsStrictlySortedBy};
+ghost use Rattle.std.specs.Map.Iter.{ShowsInOrder, deref};
 ghost use Rattle.std.specs.Ordering.{eq_by_cmp};
 ghost use Rattle.std.specs.Set.{is_member, remove_key};
 ghost use Rattle.wasmi_finite.specs.Sets.{ChangesAt};
 
 mod algebra;
-mod compared;
 mod grow;
-mod walks;
 
 pub use algebra::{Difference, Intersection, SymmetricDifference, Union};
 use std::alloc::{Allocator, Global};
 use std::collections::BTreeSet;
+pub use std::collections::btree_set::{IntoIter, Iter};
+use std::fmt::{self, Debug, Formatter, Write};
 use std::hash::Hash;
 use std::marker::Model;
-pub use walks::{IntoIter, Iter};
 use wasmi_arena::ArenaError;
 
 /// A set of elements, kept in their order.
@@ -73,6 +74,16 @@ impl<T: Hash + Ord, A: Allocator> Set<T, A> {
         ensures { result ≡ (length self.now == 0) }
     {
         self.tree.len() == 0
+    }
+
+    /// The elements, in order.
+    pub fn iter(&self) -> Iter<'_, T>
+        ensures ascending { IsStrictlySortedBy T.cmp self.now }
+        ensures bound { length self.now < 2 ^ 63 }
+        ensures elements { result ≡ self.now }
+        ensures runs { ShowsInOrder (deref {X = T}) }
+    {
+        self.tree.iter()
     }
 
     /// Does nothing: elements need no room beforehand. It is here since sets of the other backing have it.
@@ -180,5 +191,50 @@ impl<T: Hash + Ord, A: Allocator> Set<T, A> {
         ensures { IsFiltered (CalledAt F.FnMut) keep self.old self.new }
     {
         self.tree.retain(keep);
+    }
+}
+
+impl<T: Hash + Ord + Drop, A: Allocator> IntoIterator for Set<T, A> {
+    type Item = T;
+
+    type IntoIter = IntoIter<T, A>;
+
+    ghost into_iter_gives = { λ set it. (it ≡ set) × IsStrictlySortedBy T.cmp set × (length set < 2 ^ 63) };
+
+    fn into_iter(self) -> IntoIter<T, A> {
+        self.tree.into_iter()
+    }
+}
+
+impl<'a, T: Hash + Ord, A: Allocator> IntoIterator for &'a Set<T, A> {
+    type Item = &'a T;
+
+    type IntoIter = Iter<'a, T>;
+
+    ghost into_iter_gives = { λ set it. (it ≡ set.now) × IsStrictlySortedBy T.cmp set.now × (length set.now < 2 ^ 63) };
+
+    fn into_iter(self) -> Iter<'a, T> {
+        self.iter()
+    }
+}
+
+impl<T: Hash + Ord, A: Allocator> PartialEq for Set<T, A> {
+    ghost eq = { pointwise T.eq };
+
+    ghost laws = { lists_per T.PartialEq.laws };
+
+    fn eq(&self, other: &Self) -> bool {
+        self.tree == other.tree
+    }
+}
+
+impl<T: Hash + Ord, A: Allocator> Eq for Set<T, A> {
+    ghost laws = { lists_equiv T.Eq.laws };
+}
+
+/// A set of the elements, in order.
+impl<T: Hash + Ord + Debug, A: Allocator> Debug for Set<T, A> {
+    fn fmt<W: Write>(&self, f: &mut Formatter<W>) -> fmt::Result {
+        f.debug_set().entries(&self.tree).finish()
     }
 }

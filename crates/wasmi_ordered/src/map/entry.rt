@@ -1,8 +1,8 @@
 //! The place of a key in a map, found by one search.
-ghost use Rattle.std.specs.Prelude.{◌≡◌, IfOk, IsOk, IsOkUnless, OnErr, Some, None, unwrap_or};
+ghost use Rattle.std.specs.Prelude.{◌≡◌, IfOk, IsOk, IsOkUnless, IsSome, OnErr, Some, None, unwrap_or};
 ghost use Rattle.std.specs.Borrow.{Bor, MutBor};
 ghost use Rattle.std.specs.BTreeMap.{insert_entry};
-ghost use Rattle.std.specs.BTreeMap.Entry.{entry_key, entry_value, entry_map_ref, map_with_value, map_without_entry};
+ghost use Rattle.std.specs.BTreeMap.Entry.{entry_key, entry_value, entry_map_ref, map_with_value, map_without_entry, MatchEntry};
 ghost use Rattle.std.specs.Fn.{FnOnceReturnsAt};
 ghost use Rattle.std.specs.Map.{remove_entry};
 ghost use Rattle.std.specs.Map.Calls.{ModifiesValue};
@@ -51,6 +51,8 @@ impl<K: Hash + Ord, V, A: Allocator> Map<K, V, A> {
         ensures same_key { IfOk result (λ entry. K.cmp key (entry_key (place entry)) ≡ Equal) }
         ensures value { IfOk result (λ entry. entry_value (place entry)
             ≡ value_at (eq_by_cmp K.cmp) self.old key) }
+        ensures found { IfOk result (λ entry. MatchEntry (place entry)
+            (IsSome (value_at (eq_by_cmp K.cmp) self.old key)) (value_at (eq_by_cmp K.cmp) self.old key ≡ None)) }
         ensures entries { IfOk result (λ entry. (entry_map_ref (place entry)).now.entries ≡ self.old) }
         ensures written { IfOk result (λ entry. (last : V) → (map_with_value (place entry) last).entries
             ≡ insert_entry K.cmp self.old key last) }

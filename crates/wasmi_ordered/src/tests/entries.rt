@@ -24,7 +24,9 @@ fn a_free_place_takes_a_value(rt: HostRuntime) -> Result<(), Fail> {
     assert!(rt; map == Map::from_iter(rt.alloc(), [(1, "b"), (2, "c")])?);
     assert_eq!(rt; *map.entry(3)?.or_insert_with(|| "d")?, "d");
     assert_eq!(rt; map.entry(0)?.key(), &0);
-    let value = map.entry(4)?.or_insert_with_key(|key| if *key == 4 { "e" } else { "" })?;
+    let value = map
+        .entry(4)?
+        .or_insert_with_key(|key| if *key == 4 { "e" } else { "" })?;
     assert_eq!(rt; *value, "e");
     if let Entry::Vacant(vacant) = map.entry(5)? {
         let value = vacant.insert("f")?;

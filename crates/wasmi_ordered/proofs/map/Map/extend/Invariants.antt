@@ -4,5 +4,8 @@ use Rattle.wasmi_ordered.proofs.map.Map.extend.Given as goal
 
 -- what came so far is in
 abbrev pub invariant-loop-key : goal.invariant-loop-key
-invariant-loop-key g l = (goal.iterator-loop-key g).can_next l.key-iterator × (goal.iterator-loop-key g).is_finite l.key-iterator
-    × InsertsAll (eq_by_cmp g.K.Ord.cmp) l.fn.self l.yielded l.self
+invariant-loop-key g l = record {
+  inserted : InsertsAll (eq_by_cmp g.K.Ord.cmp) l.fn.self l.yielded l.self;
+  ready : (goal.iterator-loop-key g).can_next l.key-iterator;
+  ends : (goal.iterator-loop-key g).is_finite l.key-iterator;
+}

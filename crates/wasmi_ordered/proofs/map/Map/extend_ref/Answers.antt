@@ -13,7 +13,7 @@ returns-in_err-insert-clause-err g c =
       (c.in-Some.key.now, c.in-Some.value.now),
       c.into_iter-key-iterator.ensures.into_iter_gives,
       (c.loop-key.key-iterator, c.loop-key.yielded_by, c.in-Some.ensures.steps),
-      c.loop-key.invariant.2,
+      c.loop-key.invariant.inserted,
       refl,
       c.in_err-insert.ensures.absent,
     )

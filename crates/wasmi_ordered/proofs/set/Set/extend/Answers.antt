@@ -13,7 +13,7 @@ returns-in_err-insert-clause-err g c =
       c.in-Some.value,
       c.into_iter-value-iterator.ensures.into_iter_gives,
       (c.loop-value.value-iterator, c.loop-value.yielded_by, c.in-Some.ensures.steps),
-      c.loop-value.invariant.2,
+      c.loop-value.invariant.inserted,
       refl,
       c.in_err-insert.ensures.absent,
     )

@@ -4,5 +4,8 @@ use Rattle.wasmi_ordered.proofs.set.Set.extend.Given as goal
 
 -- what came so far is in
 abbrev pub invariant-loop-value : goal.invariant-loop-value
-invariant-loop-value g l = (goal.iterator-loop-value g).can_next l.value-iterator × (goal.iterator-loop-value g).is_finite l.value-iterator
-    × IsUnion (eq_by_cmp g.T.Ord.cmp) l.fn.self l.yielded l.self
+invariant-loop-value g l = record {
+  inserted : IsUnion (eq_by_cmp g.T.Ord.cmp) l.fn.self l.yielded l.self;
+  ready : (goal.iterator-loop-value g).can_next l.value-iterator;
+  ends : (goal.iterator-loop-value g).is_finite l.value-iterator;
+}
