@@ -120,9 +120,9 @@ module _ {K : Type 0} {eq : K → K → Bool} (laws : IsEquivalence eq) where
   pub same_set-decides : (a b : List K) → Decides (same_set eq a b) ((q : K) → is_member eq a q ≡ is_member eq b q)
   same_set-decides a b =
       let whole = list_all-decides (λ q. both_or_neither (is_member eq a q) (is_member eq b q))
-          (λ q x same i. both_or_neither (is_member-congr a q x same i) (is_member-congr b q x same i))
-          (a ++ b)
-          (λ q out. let rest = is_member-outside a b q out in λ i. both_or_neither (rest.0 i) (rest.1 i)) in
+      (λ q x same i. both_or_neither (is_member-congr a q x same i) (is_member-congr b q x same i))
+      (a ++ b)
+      (λ q out. let rest = is_member-outside a b q out in λ i. both_or_neither (rest.0 i) (rest.1 i)) in
       (λ same q. (alike (is_member eq a q) (is_member eq b q)).0 (whole.0 same q), λ each. whole.1 (λ q. (alike (is_member eq a q) (is_member eq b q)).1 (each q)))
 
   pub same_set-equiv : IsEquivalence (same_set eq)
