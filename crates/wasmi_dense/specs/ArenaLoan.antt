@@ -11,9 +11,10 @@ module _ {K T : Type 0} where
   abbrev pub left_entries : Keys K → IterMut K T → List (K × T)
   left_entries keys it = entries_from keys it.next (iter_mut_rest it.items)
 
-  -- each position that is left has a key, and the one behind them is a number too
+  -- where positions are left, each has a key, and the one behind them is a number too
   abbrev pub IsKeyed : Keys K → IterMut K T → Type 0
-  IsKeyed keys it = (it.next + length (iter_mut_rest it.items) ≤ keys.count) × (it.next + length (iter_mut_rest it.items) < 2 ^ 64)
+  IsKeyed keys it = 0 < length (iter_mut_rest it.items)
+      → (it.next + length (iter_mut_rest it.items) ≤ keys.count) × (it.next + length (iter_mut_rest it.items) < 2 ^ 64)
 
   -- the name under which what it lends is known
   abbrev pub loan_of : IterMut K T → GName
