@@ -1,5 +1,5 @@
 -- Facts on runs.
-use Rattle.std.proofs.Common.{◌≡◌, List, [], ◌∷◌, ◌++◌, refl, subst}
+use Rattle.std.proofs.Common.{List, [], ◌∷◌, ◌++◌, refl, subst}
 use Rattle.wasmi_collections.specs.Runs.{IsRun}
 
 -- a run goes on by one step to one more state
