@@ -1,4 +1,5 @@
 //! A set whose elements are found by their hash.
+ghost use Rattle.std.specs.Map.Iter.{ShowsInOrder, deref};
 ghost use Rattle.std.specs.Prelude.{◌≡◌, ◌==◌, ◌<◌, ◌^◌, ◌+◌, [], ◌∷◌, true, false, not, length, MatchOption, find, IfOk, OnOk, OnErr, IsOk, IsOkUnless, IsTrue, is_some, option_copied, if◌then◌else◌};
 ghost use Rattle.std.specs.Bool.{MatchBool};
 ghost use Rattle.std.specs.Fn.{CalledAt};
@@ -11,15 +12,14 @@ ghost use Rattle.wasmi_finite.specs.Sets.{ChangesAt};
 mod algebra;
 mod compared;
 mod grow;
-mod walks;
 
 use crate::hash::FixedState;
 pub use algebra::{Difference, Intersection, SymmetricDifference, Union};
 use std::alloc::{Allocator, Global};
 use std::collections::HashSet;
+pub use std::collections::hash_set::{IntoIter, Iter};
 use std::hash::{BuildHasher, Hash};
 use std::marker::Model;
-pub use walks::{IntoIter, Iter};
 use wasmi_arena::ArenaError;
 
 /// A set of elements, each found by its hash.
@@ -209,5 +209,41 @@ impl<T: Eq + Hash, S: BuildHasher, A: Allocator> Set<T, S, A> {
         ensures hasher { self.new.hasher ≡ self.old.hasher }
     {
         self.table.retain(keep);
+    }
+}
+
+impl<T: Eq + Hash, S: BuildHasher, A: Allocator> Set<T, S, A> {
+    /// The elements.
+    pub fn iter(&self) -> Iter<'_, T>
+        ensures elements { result ≡ self.now.elements }
+        ensures distinct { IsDistinct T.eq self.now.elements }
+        ensures bound { length self.now.elements < 2 ^ 63 }
+        ensures runs { ShowsInOrder (deref {X = T}) }
+    {
+        self.table.iter()
+    }
+}
+
+impl<T: Eq + Hash + Drop, S: BuildHasher + Drop, A: Allocator> IntoIterator for Set<T, S, A> {
+    type Item = T;
+
+    type IntoIter = IntoIter<T, A>;
+
+    ghost into_iter_gives = { λ set it. (it ≡ set.elements) × IsDistinct T.eq set.elements × (length set.elements < 2 ^ 63) };
+
+    fn into_iter(self) -> IntoIter<T, A> {
+        self.table.into_iter()
+    }
+}
+
+impl<'a, T: Eq + Hash, S: BuildHasher, A: Allocator> IntoIterator for &'a Set<T, S, A> {
+    type Item = &'a T;
+
+    type IntoIter = Iter<'a, T>;
+
+    ghost into_iter_gives = { λ set it. (it ≡ set.now.elements) × IsDistinct T.eq set.now.elements × (length set.now.elements < 2 ^ 63) };
+
+    fn into_iter(self) -> Iter<'a, T> {
+        self.iter()
     }
 }
