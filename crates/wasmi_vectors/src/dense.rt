@@ -1,6 +1,7 @@
 //! Arenas in one vector: worked rows, and the tests of the Rust crate's arena.
 use crate::tiny::Tiny;
 use std::alloc::Global;
+use std::num::NonZero;
 use std::test::Fail;
 use wasmi_arena::{
     AnyArena, ArenaCommand, ArenaError, ArenaKey, ArenaReply, StableArena, run_arena,
@@ -128,9 +129,12 @@ fn items_are_written_under_keys(rt: HostRuntime) -> Result<(), Fail> {
     assert_eq!(rt; arena.put(5, 50), Ok(5));
     assert_eq!(rt; arena.put(10, 0), Err(ArenaError::KeyOutOfBounds));
     assert_eq!(rt; arena.get_mut(10).err(), Some(ArenaError::KeyOutOfBounds));
+    arena.reserve(5)?;
+    let room = arena.room();
     let (one, eight) = arena.get_disjoint_mut([1, 8])?;
     *one = -1;
     *eight = -8;
+    assert_eq!(rt; arena.room(), room);
     let (nine, two) = arena.get_disjoint_mut([9, 2])?;
     assert_eq!(rt; (*nine, *two), (9, 2));
     *nine = -9;
@@ -149,6 +153,7 @@ fn items_are_written_under_keys(rt: HostRuntime) -> Result<(), Fail> {
 #[test]
 fn pairs_out_of_bounds_come_before_equal_ones(rt: HostRuntime) -> Result<(), Fail> {
     let mut arena: Arena<usize, u8> = Arena::from_iter(rt.alloc(), 0..3)?;
+    let room = arena.room();
     for (first, second, error) in [
         (5, 5, ArenaError::KeyOutOfBounds),
         (1, 1, ArenaError::AliasingPairAccess),
@@ -160,6 +165,11 @@ fn pairs_out_of_bounds_come_before_equal_ones(rt: HostRuntime) -> Result<(), Fai
         let refused = arena.get_disjoint_mut([first, second]).err();
         assert_eq!(rt; refused, Some(error), "{first} {second}");
         assert_eq!(rt; arena.swap(first, second), Err(error), "{first} {second}");
+        // Nothing has changed.
+        assert_eq!(rt;
+            (arena.get(0), arena.get(1), arena.get(2), arena.room()),
+            (Ok(&0), Ok(&1), Ok(&2), room)
+        );
     }
     Ok(())
 }
@@ -268,6 +278,14 @@ fn an_arena_prints_as_a_map(rt: HostRuntime) -> Result<(), Fail> {
     assert_eq!(rt;
         format!(in rt.alloc(); "{arena:?}")?.as_str(),
         "{0: 7, 1: 8}"
+    );
+    let empty: Arena<usize, i32> = Arena::new(rt.alloc());
+    assert_eq!(rt; format!(in rt.alloc(); "{empty:?}")?.as_str(), "{}");
+    // Its keys, and not its positions.
+    let keyed: Arena<NonZero<u32>, i32> = Arena::from_iter(rt.alloc(), 7..9)?;
+    assert_eq!(rt;
+        format!(in rt.alloc(); "{keyed:?}")?.as_str(),
+        "{1: 7, 2: 8}"
     );
     Ok(())
 }

@@ -2,6 +2,7 @@
 use crate::counted::Counted;
 use crate::memory::{counts, counts_are};
 use crate::observed::{Log, Observed};
+use crate::tiny::Tiny;
 use std::test::Fail;
 use wasmi_arena::{ArenaCommand, ArenaError, ArenaReply, run_arena};
 use wasmi_dense::Arena;
@@ -183,6 +184,37 @@ fn each_item_is_dropped_once(rt: HostRuntime) -> Result<(), Fail> {
         assert!(rt; counts_are(&drops, &[100, 2, 10, 1]));
     }
     assert_eq!(rt; (log.returned(), log.misplaced()), (log.given(), 0));
+    Ok(())
+}
+
+#[test]
+fn items_without_a_key_are_dropped(rt: HostRuntime) -> Result<(), Fail> {
+    let drops = counts(rt.alloc(), 2)?;
+    if let [kept, refused] = drops.as_slice() {
+        {
+            let mut arena: Arena<Tiny, Counted<'_>> = Arena::new(rt.alloc());
+            for _ in 0..4 {
+                arena.alloc(Counted::new(kept))?;
+            }
+            assert!(rt; arena.alloc(Counted::new(refused)).is_err());
+            assert!(rt; counts_are(&drops, &[0, 1]));
+        }
+        assert!(rt; counts_are(&drops, &[4, 1]));
+        // Five items for four keys, of which none stays.
+        let items = (0..5).map(|_| Counted::new(refused));
+        let more: Result<Arena<Tiny, Counted<'_>>, ArenaError> = Arena::from_iter(
+            rt.alloc(),
+            items,
+        );
+        assert!(rt; more.is_err());
+        assert!(rt; counts_are(&drops, &[4, 6]));
+        // A command that is refused drops its item.
+        let mut arena: Arena<usize, Counted<'_>> = Arena::new(rt.alloc());
+        let commands = Vec::from_array(rt.alloc(), [ArenaCommand::Put(3, Counted::new(refused))])?;
+        let replies = run_arena(rt.alloc(), &mut arena, commands)?;
+        assert_eq!(rt; (replies.len(), arena.len()), (1, 0));
+        assert!(rt; counts_are(&drops, &[4, 7]));
+    }
     Ok(())
 }
 

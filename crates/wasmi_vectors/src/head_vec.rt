@@ -96,6 +96,7 @@ fn items_come_back_from_the_end(rt: HostRuntime) -> Result<(), Fail> {
     assert_eq!(rt; copy, items);
     assert_eq!(rt; format!(in rt.alloc(); "{copy:?}")?.as_str(), "[]");
     let mut one = list(rt.alloc(), &[1])?;
+    assert_eq!(rt; format!(in rt.alloc(); "{one:?}")?.as_str(), "[1]");
     assert_eq!(rt; (one.pop(), one.pop()), (Some(1), None));
     Ok(())
 }
@@ -113,6 +114,21 @@ fn one_item_needs_no_memory(rt: HostRuntime) -> Result<(), Fail> {
         assert_eq!(rt; (items.pop(), items.clone()?.len()), (Some(5), 0));
     }
     assert_eq!(rt; log.requests(), 0);
+    Ok(())
+}
+
+#[test]
+fn a_pop_gives_no_memory_back(rt: HostRuntime) -> Result<(), Fail> {
+    let log = Log::new();
+    let mut items = HeadVec::new(Observed::new(rt.alloc(), &log));
+    for item in 0..40u32 {
+        items.push(item)?;
+    }
+    let returned = log.returned();
+    for _ in 0..40 {
+        assert!(rt; items.pop().is_some());
+    }
+    assert_eq!(rt; log.returned(), returned);
     Ok(())
 }
 
