@@ -1,2 +1,4 @@
 mod LastItem
+mod MapRuns
 mod Runs
+mod SetRuns

@@ -42,3 +42,16 @@ module _ {K V : Type 0} (eq : K → K → Bool) where
   MapStep old Clear (HasReply found) new = ⊥
   MapStep old Clear (LenReply len) new = ⊥
   MapStep old Clear (Refused error) new = ⊥
+
+  -- two lists of entries are one map: each key has in both the same value, or none, and there are as
+  -- many entries
+  abbrev pub SameEntries : List (K × V) → List (K × V) → Type 0
+  SameEntries a b = ((q : K) → value_at eq a q ≡ value_at eq b q) × (length a ≡ length b)
+
+-- the reply doesn't say that the command was refused
+abbrev pub AcceptsMapCommand : {V : Type 0} → MapReply V → Type 0
+AcceptsMapCommand (Old there) = Unit {0}
+AcceptsMapCommand (HasReply found) = Unit {0}
+AcceptsMapCommand (LenReply len) = Unit {0}
+AcceptsMapCommand Done = Unit {0}
+AcceptsMapCommand (Refused error) = ⊥

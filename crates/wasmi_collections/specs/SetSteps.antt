@@ -31,3 +31,14 @@ module _ {T : Type 0} (eq : T → T → Bool) where
   SetStep old Clear (Flag found) new = ⊥
   SetStep old Clear (LenReply len) new = ⊥
   SetStep old Clear (Refused error) new = ⊥
+
+  -- two lists of elements are one set: the same elements are in both, and there are as many
+  abbrev pub SameElements : List T → List T → Type 0
+  SameElements a b = ((q : T) → is_member eq a q ≡ is_member eq b q) × (length a ≡ length b)
+
+-- the reply doesn't say that the command was refused
+abbrev pub AcceptsSetCommand : SetReply → Type 0
+AcceptsSetCommand (Flag flag) = Unit {0}
+AcceptsSetCommand (LenReply len) = Unit {0}
+AcceptsSetCommand Done = Unit {0}
+AcceptsSetCommand (Refused error) = ⊥

@@ -1,10 +1,19 @@
 //! Laws: what the definitions of `specs/` tell, and what `==` does, as contracts of functions.
 ghost use Rattle.std.specs.Prelude.{◌≡◌, ◌↔◌, [], ◌∷◌, ◌++◌, List, IsTrue};
-ghost use Rattle.std.specs.Ordering.{ordering_then};
+ghost use Rattle.std.specs.Ordering.{ordering_then, eq_by_cmp};
 ghost use Rattle.std.specs.Cmp.Lexicographic.{slice_cmp};
+ghost use Rattle.std.specs.List.{AllByRecursion};
 ghost use Rattle.wasmi_collections.specs.HeadVec.{head_cmp};
+ghost use Rattle.wasmi_collections.specs.MapSteps.{MapStep, SameEntries, AcceptsMapCommand};
+ghost use Rattle.wasmi_collections.specs.Runs.{IsRun};
+ghost use Rattle.wasmi_collections.specs.SetSteps.{SetStep, SameElements, AcceptsSetCommand};
+ghost use Rattle.wasmi_collections.specs.declared.run.map.MapCommand.{MapCommand};
+ghost use Rattle.wasmi_collections.specs.declared.run.map.MapReply.{MapReply};
+ghost use Rattle.wasmi_collections.specs.declared.run.set.SetCommand.{SetCommand};
+ghost use Rattle.wasmi_collections.specs.declared.run.set.SetReply.{SetReply};
 
 use crate::HeadVec;
+use crate::run::{AnyMap, AnySet};
 use std::cmp::Ordering;
 
 /// The order of head vectors, case by case.
@@ -22,3 +31,31 @@ pub fn equal_head_vecs<T: PartialEq>(a: &HeadVec<T>, b: &HeadVec<T>) -> bool
 {
     a == b
 }
+
+/// Two maps with the same entries, of one type or two, reply alike to the same commands and end with the
+/// same entries, if both say of the same keys that they are equal. Commands that are refused aside.
+pub fn maps_answer_alike<K, V, M: AnyMap<K, V>, N: AnyMap<K, V>>()
+    ensures { ((x y : K) → M.eq x y ≡ N.eq x y) → (a c : M) (b d : N) (commands : List (MapCommand K V))
+        (one other : List (MapReply V)) → SameEntries M.eq (M.entries a) (N.entries b)
+        → IsRun (MapStep M.eq) M.entries a commands one c
+        → IsRun (MapStep N.eq) N.entries b commands other d
+        → AllByRecursion AcceptsMapCommand one → AllByRecursion AcceptsMapCommand other
+        → (one ≡ other) × SameEntries M.eq (M.entries c) (N.entries d) }
+{}
+
+/// Two sets with the same elements, of one type or two, reply alike to the same commands and end with the
+/// same elements, if both say of the same elements that they are equal. Commands that are refused aside.
+pub fn sets_answer_alike<T, S: AnySet<T>, U: AnySet<T>>()
+    ensures { ((x y : T) → S.eq x y ≡ U.eq x y) → (a c : S) (b d : U) (commands : List (SetCommand T))
+        (one other : List SetReply) → SameElements S.eq (S.elements a) (U.elements b)
+        → IsRun (SetStep S.eq) S.elements a commands one c
+        → IsRun (SetStep U.eq) U.elements b commands other d
+        → AllByRecursion AcceptsSetCommand one → AllByRecursion AcceptsSetCommand other
+        → (one ≡ other) × SameElements S.eq (S.elements c) (U.elements d) }
+{}
+
+/// An order and an equality of one type say the same of equal keys, so that the two laws above hold of an
+/// ordered and a hashed map, and of an ordered and a hashed set.
+pub fn equal_keys_of_both<K: Ord>()
+    ensures { (x y : K) → eq_by_cmp K.cmp x y ≡ K.eq x y }
+{}
