@@ -12,6 +12,8 @@ mod dense_memory;
 #[cfg(test)]
 mod growth;
 #[cfg(test)]
+mod hashed_memory;
+#[cfg(test)]
 mod head_vec;
 #[cfg(test)]
 mod heap;
