@@ -1,6 +1,8 @@
 pub mod HeadVec
 pub mod HeadVecLend
 pub mod HeadVecLaws
+pub mod LenOrder
+pub mod LenOrderLaws
 pub mod MapCalls
 pub mod MapSteps
 pub mod Runs

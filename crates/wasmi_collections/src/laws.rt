@@ -12,6 +12,10 @@ ghost use Rattle.wasmi_collections.specs.declared.run.map.MapReply.{MapReply};
 ghost use Rattle.wasmi_collections.specs.declared.run.set.SetCommand.{SetCommand};
 ghost use Rattle.wasmi_collections.specs.declared.run.set.SetReply.{SetReply};
 
+mod interner;
+
+pub use interner::{equal_in_length_order, length_order};
+
 use crate::HeadVec;
 use crate::run::{AnyMap, AnySet};
 use std::cmp::Ordering;

@@ -15,6 +15,7 @@ mod head_vec;
 pub mod laws;
 pub mod ordered;
 pub mod run;
+pub mod string_interner;
 
 pub use arena::{Arena, ComponentVec, StableArena, StableVec};
 pub use head_vec::HeadVec;
