@@ -1,4 +1,6 @@
+mod BinaryDigits
 mod LastItem
 mod MapRuns
 mod Runs
+mod Search
 mod SetRuns

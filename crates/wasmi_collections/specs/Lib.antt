@@ -1,10 +1,12 @@
+pub mod BinaryDigits
 pub mod HeadVec
-pub mod HeadVecLend
 pub mod HeadVecLaws
+pub mod HeadVecLend
 pub mod LenOrder
 pub mod LenOrderLaws
 pub mod MapCalls
 pub mod MapSteps
 pub mod Runs
+pub mod Search
 pub mod SetCalls
 pub mod SetSteps

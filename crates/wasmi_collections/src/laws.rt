@@ -14,10 +14,9 @@ ghost use Rattle.wasmi_collections.specs.declared.run.set.SetReply.{SetReply};
 
 mod interner;
 
-pub use interner::{equal_in_length_order, length_order};
-
 use crate::HeadVec;
 use crate::run::{AnyMap, AnySet};
+pub use interner::{equal_in_length_order, length_order};
 use std::cmp::Ordering;
 
 /// The order of head vectors, case by case.

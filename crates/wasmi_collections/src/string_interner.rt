@@ -2,9 +2,13 @@
 ghost use Rattle.std.specs.Prelude.{◌≡◌, ◌<◌, ◌^◌};
 
 mod len_order;
+mod probe;
+mod steps;
 
 pub use len_order::LenOrder;
+pub use probe::{Probe, search};
 use std::marker::Model;
+pub use steps::Steps;
 
 /// What the caller expects of a text that it interns.
 ///
