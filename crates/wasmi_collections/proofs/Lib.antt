@@ -4,3 +4,4 @@ mod MapRuns
 mod Runs
 mod Search
 mod SetRuns
+mod TextIndex

@@ -2,6 +2,7 @@ pub mod BinaryDigits
 pub mod HeadVec
 pub mod HeadVecLaws
 pub mod HeadVecLend
+pub mod Interner
 pub mod LenOrder
 pub mod LenOrderLaws
 pub mod MapCalls
@@ -10,3 +11,4 @@ pub mod Runs
 pub mod Search
 pub mod SetCalls
 pub mod SetSteps
+pub mod TextIndex
