@@ -1,4 +1,5 @@
 mod BinaryDigits
+mod InternerRuns
 mod LastItem
 mod MapRuns
 mod Runs

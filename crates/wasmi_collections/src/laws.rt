@@ -16,7 +16,9 @@ mod interner;
 
 use crate::HeadVec;
 use crate::run::{AnyMap, AnySet};
-pub use interner::{equal_in_length_order, length_order};
+pub use interner::{
+    equal_in_length_order, equal_symbols_of_equal_texts, interned_texts, length_order,
+};
 use std::cmp::Ordering;
 
 /// The order of head vectors, case by case.
