@@ -2,5 +2,5 @@ mod BinaryDigits
 mod LastItem
 mod MapRuns
 mod Runs
-mod Search
+pub mod Search
 mod SetRuns
