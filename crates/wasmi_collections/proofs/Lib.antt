@@ -2,5 +2,5 @@ mod BinaryDigits
 mod LastItem
 mod MapRuns
 mod Runs
-pub mod Search
+mod Search
 mod SetRuns

@@ -1,13 +1,9 @@
 -- Facts on lists that can be searched by halves.
-use Rattle.std.proofs.Common.{◌≡◌, ℕ, zero, suc, ◌+◌, ◌<◌, ◌≤◌, ◌⊎◌, Bool, true, false, List, [], ◌∷◌, map, length, replicate, Some, slice_get, refl, ap, sym, ◌∙◌, subst, inl, inr, arith}
+use Rattle.std.proofs.Common.{◌≡◌, ℕ, zero, suc, ◌+◌, ◌<◌, ◌≤◌, ◌⊎◌, Bool, true, false, List, [], ◌∷◌, length, replicate, Some, slice_get, refl, ap, sym, subst, inl, inr, arith}
 use Rattle.std.proofs.lemmas.Bool.{cases_lt}
 use Rattle.std.proofs.lemmas.Option.{same_Some}
-use Rattle.std.specs.Cmp.{IsTotalOrder}
-use Rattle.std.specs.List.{AllByRecursion}
-use Rattle.std.specs.List.Sorted.{IsStrictlySortedBy}
-use Rattle.std.specs.Ordering.{ordering_reverse}
 use Rattle.std.specs.declared.cmp.Ordering.{Ordering}
-use Rattle.std.specs.declared.cmp.Ordering.TheVariants.{Less, Equal, Greater}
+use Rattle.std.specs.declared.cmp.Ordering.TheVariants.{Less, Greater}
 use Rattle.wasmi_collections.specs.Search.{sorted_orders, IsSearchable}
 
 slice_get-replicate : {A : Type 0} → (n i : ℕ) (x : A) → i < length (replicate n x) → slice_get (replicate n x) i ≡ Some x
@@ -112,53 +108,3 @@ narrowed_to_none (suc low) (x ∷ xs) h before after =
     let first : x ≡ Less = same_Some _ _ (before 0 (omega arith)) in
     let rest = narrowed_to_none low xs (omega arith) (λ i less. before (suc i) (omega arith)) (λ i more within. after (suc i) (omega arith) (omega arith)) in
     (rest.0, rw first (ap (λ (l : List Ordering). Less ∷ l) rest.1))
-
--- how the items of a list that is strictly sorted compare with one of their kind
-module _ {K : Type 0} (cmp : K → K → Ordering) (total : IsTotalOrder cmp) (target : K) where
-  abbrev pub orders_with : List K → List Ordering
-  orders_with = map (λ item. cmp item target)
-
-  all_above :
-      (x : K) (xs : List K) → ((y : K) → cmp x y ≡ Less → cmp y target ≡ Greater) → AllByRecursion (λ y. cmp x y ≡ Less) xs
-      → orders_with xs ≡ replicate (length xs) Greater
-  all_above x [] above rest = refl
-  all_above x (y ∷ ys) above rest =
-      let first : cmp y target ≡ Greater = above y rest.0 in
-      rw first (ap (λ (l : List Ordering). Greater ∷ l) (all_above x ys above rest.1))
-
-  above_equal : (x : K) → cmp x target ≡ Equal → (y : K) → cmp x y ≡ Less → cmp y target ≡ Greater
-  above_equal x same y less = total.antisymm y target ∙ ap ordering_reverse (sym (total.congr x target y same) ∙ less)
-
-  above_greater : (x : K) → cmp x target ≡ Greater → (y : K) → cmp x y ≡ Less → cmp y target ≡ Greater
-  above_greater x greater y less =
-      total.antisymm y target
-      ∙ ap ordering_reverse (total.trans target x y (total.antisymm target x ∙ ap ordering_reverse greater) less)
-
-  pub searchable : (xs : List K) → IsStrictlySortedBy cmp xs → IsSearchable (orders_with xs)
-  unfolding IsStrictlySortedBy
-  searchable [] sorted = record { less = 0; is_there = false; greater = 0; orders_are = refl }
-  searchable (x ∷ xs) sorted =
-      (elim (cmp x target) as (λ o. cmp x target ≡ o → IsSearchable (o ∷ orders_with xs)) [
-        | Less ↦ λ less.
-            let rest = searchable xs sorted.1 in
-            record {
-              less = suc rest.less;
-              is_there = rest.is_there;
-              greater = rest.greater;
-              orders_are = ap (λ (l : List Ordering). Less ∷ l) rest.orders_are;
-            }
-        | Equal ↦ λ same.
-            record {
-              less = 0;
-              is_there = true;
-              greater = length xs;
-              orders_are = ap (λ (l : List Ordering). Equal ∷ l) (all_above x xs (above_equal x same) sorted.0);
-            }
-        | Greater ↦ λ greater.
-            record {
-              less = 0;
-              is_there = false;
-              greater = suc (length xs);
-              orders_are = ap (λ (l : List Ordering). Greater ∷ l) (all_above x xs (above_greater x greater) sorted.0);
-            }
-      ]) refl
