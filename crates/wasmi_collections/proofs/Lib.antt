@@ -1,3 +1,4 @@
+mod Dedup
 mod LastItem
 mod MapRuns
 mod Runs

@@ -1,3 +1,5 @@
+pub mod Dedup
+pub mod DedupLend
 pub mod HeadVec
 pub mod HeadVecLend
 pub mod HeadVecLaws
