@@ -1,4 +1,5 @@
 mod BinaryDigits
+mod Dedup
 mod LastItem
 mod MapRuns
 mod Runs

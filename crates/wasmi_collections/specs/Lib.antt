@@ -1,4 +1,6 @@
 pub mod BinaryDigits
+pub mod Dedup
+pub mod DedupLend
 pub mod HeadVec
 pub mod HeadVecLaws
 pub mod HeadVecLend
