@@ -1,5 +1,5 @@
 -- Facts on lists that can be searched by halves.
-use Rattle.std.proofs.Common.{◌≡◌, ℕ, zero, suc, ◌+◌, ◌<◌, ◌≤◌, ◌⊎◌, Bool, true, false, List, [], ◌∷◌, length, replicate, Some, slice_get, refl, ap, sym, subst, inl, inr, arith}
+use Rattle.std.proofs.Common.{◌≡◌, ℕ, zero, suc, ◌+◌, ◌<◌, ◌≤◌, ◌⊎◌, Bool, true, false, List, [], ◌∷◌, ◌++◌, length, replicate, Some, slice_get, refl, ap, sym, subst, inl, inr, arith}
 use Rattle.std.proofs.lemmas.Bool.{cases_lt}
 use Rattle.std.proofs.lemmas.Option.{same_Some}
 use Rattle.std.specs.declared.cmp.Ordering.{Ordering}
@@ -101,7 +101,7 @@ all_greater (x ∷ xs) each =
 pub narrowed_to_none :
     (low : ℕ) (orders : List Ordering) → low ≤ length orders → ((i : ℕ) → i < low → slice_get orders i ≡ Some Less)
     → ((i : ℕ) → low ≤ i → i < length orders → slice_get orders i ≡ Some Greater)
-    → (greater : ℕ) × (orders ≡ sorted_orders low false greater)
+    → (greater : ℕ) × (orders ≡ replicate low Less ++ replicate greater Greater)
 narrowed_to_none zero orders h before after = (length orders, all_greater orders (λ i within. after i (omega arith) within))
 narrowed_to_none (suc low) [] h before after = absurd (omega arith)
 narrowed_to_none (suc low) (x ∷ xs) h before after =

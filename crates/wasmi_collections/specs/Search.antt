@@ -1,5 +1,5 @@
 -- A search in a list that is sorted, seen as how each item compares with what is searched.
-use Rattle.std.specs.Prelude.{◌≡◌, ℕ, Bool, false, List, [], ◌∷◌, ◌++◌, replicate, Some, Result, Ok, Err, if◌then◌else◌, slice_get}
+use Rattle.std.specs.Prelude.{◌≡◌, ℕ, Bool, List, [], ◌∷◌, ◌++◌, replicate, Some, Result, Ok, Err, if◌then◌else◌, slice_get}
 use Rattle.std.specs.declared.cmp.Ordering.{Ordering}
 use Rattle.std.specs.declared.cmp.Ordering.TheVariants.{Less, Equal, Greater}
 
@@ -18,4 +18,4 @@ pub record IsSearchable (orders : List Ordering) : Type 0 where
 -- what a search answers: the place of `Equal`, or the number of `Less` where nothing is `Equal`
 abbrev pub IsFound : List Ordering → Result ℕ ℕ → Type 0
 IsFound orders (Ok place) = slice_get orders place ≡ Some Equal
-IsFound orders (Err less) = (greater : ℕ) × (orders ≡ sorted_orders less false greater)
+IsFound orders (Err less) = (greater : ℕ) × (orders ≡ replicate less Less ++ replicate greater Greater)
