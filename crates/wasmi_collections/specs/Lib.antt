@@ -1,5 +1,6 @@
 pub mod Dedup
 pub mod DedupLend
+pub mod DedupSteps
 pub mod HeadVec
 pub mod HeadVecLend
 pub mod HeadVecLaws
