@@ -16,7 +16,7 @@ use Rattle.wasmi_collections.specs.Dedup.{keyed_from, keyed, value_numbered, in_
 
 -- a value behind a list is found there where none before it is
 module _ {T : Type 0} (p : T → Bool) (x : T) where
-  found_last : (i : ℕ) (xs : List T) → position_from p i xs ≡ None → p x ≡ true → position_from p i (xs ++ x ∷ []) ≡ Some (i + length xs)
+  pub found_last : (i : ℕ) (xs : List T) → position_from p i xs ≡ None → p x ≡ true → position_from p i (xs ++ x ∷ []) ≡ Some (i + length xs)
   found_last i [] none hit = grind (arith, hit)
   found_last i (y ∷ ys) none hit = next (p y) none (found_last (i + 1) ys)
     where
@@ -32,7 +32,7 @@ module _ {T : Type 0} (p : T → Bool) (x : T) where
 
 module _ {T : Type 0} {eq : T → T → Bool} (laws : IsEquivalence eq) where
   -- equal values are found alike
-  position-congr : (v w : T) → eq v w ≡ true → (xs : List T) → position_from (eq v) 0 xs ≡ position_from (eq w) 0 xs
+  pub position-congr : (v w : T) → eq v w ≡ true → (xs : List T) → position_from (eq v) 0 xs ≡ position_from (eq w) 0 xs
   position-congr v w same xs = λ i. position_from (λ x. laws.congr v w x same i) 0 xs
 
   all_differ : (v : T) (i : ℕ) (xs : List T) → position_from (eq v) i xs ≡ None → AllByRecursion (λ x. eq v x ≡ false) xs

@@ -1,4 +1,5 @@
 mod Dedup
+mod DedupRuns
 mod LastItem
 mod MapRuns
 mod Runs
