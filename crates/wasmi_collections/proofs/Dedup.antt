@@ -7,7 +7,6 @@ use Rattle.std.proofs.lemmas.Bool.{eqb-false}
 use Rattle.std.proofs.lemmas.Iterator.Adapters.{position_from-zero}
 use Rattle.std.proofs.lemmas.List.Sorted.{length_permutation, list_any-IsPermutation, All-permutation, IsPermutation-push_more, IsPermutation-refl}
 use Rattle.std.proofs.lemmas.List.Elements.{All-nil, All-cons, All-head, All-tail}
-use Rattle.std.proofs.lemmas.Result.{IfOk-weaker}
 use Rattle.std.proofs.lemmas.Map.Keys.{IsDistinct-cons, IsDistinct-head, IsDistinct-tail}
 use Rattle.wasmi_arena.specs.Keys.{Keys, KeyLaw}
 use Rattle.wasmi_arena.specs.declared.error.ArenaError.{ArenaError}
@@ -16,7 +15,7 @@ use Rattle.wasmi_collections.specs.Dedup.{keyed_from, keyed, value_numbered, in_
 
 -- a value behind a list is found there where none before it is
 module _ {T : Type 0} (p : T → Bool) (x : T) where
-  found_last : (i : ℕ) (xs : List T) → position_from p i xs ≡ None → p x ≡ true → position_from p i (xs ++ x ∷ []) ≡ Some (i + length xs)
+  pub found_last : (i : ℕ) (xs : List T) → position_from p i xs ≡ None → p x ≡ true → position_from p i (xs ++ x ∷ []) ≡ Some (i + length xs)
   found_last i [] none hit = grind (arith, hit)
   found_last i (y ∷ ys) none hit = next (p y) none (found_last (i + 1) ys)
     where
@@ -32,7 +31,7 @@ module _ {T : Type 0} (p : T → Bool) (x : T) where
 
 module _ {T : Type 0} {eq : T → T → Bool} (laws : IsEquivalence eq) where
   -- equal values are found alike
-  position-congr : (v w : T) → eq v w ≡ true → (xs : List T) → position_from (eq v) 0 xs ≡ position_from (eq w) 0 xs
+  pub position-congr : (v w : T) → eq v w ≡ true → (xs : List T) → position_from (eq v) 0 xs ≡ position_from (eq w) 0 xs
   position-congr v w same xs = λ i. position_from (λ x. laws.congr v w x same i) 0 xs
 
   all_differ : (v : T) (i : ℕ) (xs : List T) → position_from (eq v) i xs ≡ None → AllByRecursion (λ x. eq v x ≡ false) xs
@@ -146,15 +145,6 @@ position-absent keys eq handed index value is none = next (position (eq value) h
     next (Some p) none = absurd (true≢false (ap is_some none))
 
 module _ {K T : Type 0} (keys : Keys K) (eq : T → T → Bool) (clones : T → T → Type 0) where
-  -- what `alloc` says of a value that is there, and of one that is new, together
-  pub AllocatesValue-either : (old : DedupState T) (value : T) (new : DedupState T) (r : Result K ArenaError) → ((p : ℕ) → position (eq value) old.handed ≡ Some p → (r ≡ Ok (keys.key p)) × (new ≡ old))
-      → (position (eq value) old.handed ≡ None → IfOk r (λ key. AddsValue keys eq clones old value key new)) → IfOk r (λ key. AllocatesValue keys eq clones old value key new)
-  AllocatesValue-either old value new r there absent = next (position (eq value) old.handed) refl
-    where
-      next : (o : Option ℕ) → position (eq value) old.handed ≡ o → IfOk r (λ key. AllocatesValue keys eq clones old value key new)
-      next (Some p) is = subst (λ x. IfOk x (λ key. AllocatesValue keys eq clones old value key new)) (sym (there p is).0) (inl (p, is, refl, (there p is).1))
-      next None is = IfOk-weaker r (λ key. AddsValue keys eq clones old value key new) (λ key. AllocatesValue keys eq clones old value key new) (λ key adds. inr adds) (absent is)
-
   pub AllocatesEach-push : (old : DedupState T) (values : List T) (middle : DedupState T) (value : T) (key : K) (new : DedupState T) → AllocatesEach keys eq clones old values middle
       → AllocatesValue keys eq clones middle value key new → AllocatesEach keys eq clones old (values ++ value ∷ []) new
   AllocatesEach-push old [] middle value key new each more = (key, new, subst (λ state. AllocatesValue keys eq clones state value key new) each more, refl)

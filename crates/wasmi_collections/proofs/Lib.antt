@@ -1,5 +1,6 @@
 mod BinaryDigits
 mod Dedup
+mod DedupRuns
 mod LastItem
 mod MapRuns
 mod Runs

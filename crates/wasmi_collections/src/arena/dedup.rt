@@ -5,7 +5,7 @@ ghost use Rattle.std.specs.Cmp.{on_per, on_equiv};
 ghost use Rattle.std.specs.Cmp.Lexicographic.{pointwise, lists_per, lists_equiv};
 ghost use Rattle.std.specs.Iterator.{IsFiniteIterable};
 ghost use Rattle.wasmi_arena.specs.Entries.{entries};
-ghost use Rattle.wasmi_collections.specs.Dedup.{keyed, AddsValue, RefusesValue, TakesAll, TakesUntilRefused};
+ghost use Rattle.wasmi_collections.specs.Dedup.{keyed, AllocatesValue, RefusesValue, TakesAll, TakesUntilRefused};
 ghost use Rattle.wasmi_dense.specs.ArenaLoan.{left_entries, IsKeyed};
 ghost use Rattle.wasmi_finite.specs.Maps.{value_at};
 
@@ -111,8 +111,7 @@ impl<Key: ArenaKey, T: Eq + Hash, A: Allocator> DedupArena<Key, T, A> {
         A: Clone,
         ensures there { (p : ℕ) → position (T.eq value) self.old.handed ≡ Some p
             → (result ≡ Ok (Key.keys.key p)) × (self.new ≡ self.old) }
-        ensures new { position (T.eq value) self.old.handed ≡ None
-            → IfOk result (λ key. AddsValue Key.keys T.eq T.is_clone self.old value key self.new) }
+        ensures ok { IfOk result (λ key. AllocatesValue Key.keys T.eq T.is_clone self.old value key self.new) }
         ensures no_key { IsErrOf result ArenaError.NotEnoughKeys
             ↔ ((position (T.eq value) self.old.handed ≡ None) × (Key.keys.count ≤ length self.old.handed)) }
         ensures refused { IfErr result (λ error. RefusesValue Key.keys T.eq self.old value error) }

@@ -1,4 +1,4 @@
-use Rattle.std.proofs.Common.{◌≡◌, ◌++◌, ◌∷◌, [], length, Option, Result, Ok, Err, IsOk, OnOk, None, Some, is_some, true≢false, MatchOption, sym, ap, ◌∙◌, length-append, arith}
+use Rattle.std.proofs.Common.{◌≡◌, ◌++◌, ◌∷◌, [], length, Option, Result, Ok, Err, IsOk, OnOk, None, Some, is_some, true≢false, MatchOption, sym, ap, ◌∙◌, length-append, position, inr, arith}
 use Rattle.std.proofs.lemmas.Result.{IfOk-weaker}
 use Rattle.wasmi_finite.specs.Maps.{value_at}
 use Rattle.wasmi_collections.specs.Dedup.{IsIndex, in_order}
@@ -9,16 +9,19 @@ if_none : {X P : Type 0} (Q : X → Type 0) (o : Option X) → o ≡ None → Ma
 if_none Q None none h = h
 if_none Q (Some x) none h = absurd (true≢false (ap is_some none))
 
+is_absent : (g : _) (c : goal.After-alloc g) → position (g.T.PartialEq.eq c.args.value) (in_order g.Key.ArenaKey.keys c.self.inside.index.entries) ≡ None
+is_absent g c =
+    let index = c.self.inside.index.entries in
+    let none : value_at g.T.PartialEq.eq index c.args.value ≡ None = sym c.in_default.ensures in
+    position-absent g.Key.ArenaKey.keys g.T.PartialEq.eq (in_order g.Key.ArenaKey.keys index) index c.args.value c.self.invariant.0 none
+
 -- the index has the value behind those that were there
 is_pushed : (g : _) (c : goal.After-alloc g) → IsIndex g.Key.ArenaKey.keys g.T.PartialEq.eq (in_order g.Key.ArenaKey.keys c.self.inside.index.entries ++ c.args.value ∷ []) c.insert.new.self.entries
 is_pushed g c =
     let keys = g.Key.ArenaKey.keys in
-    let eq = g.T.PartialEq.eq in
     let index = c.self.inside.index.entries in
-    let handed = in_order keys index in
-    let is = c.self.invariant.0 in
-    let none : value_at eq index c.args.value ≡ None = sym c.in_default.ensures in
-    IsIndex-push keys g.met.T.Eq.laws handed index c.args.value c.in_ok-key.key is (position-absent keys eq handed index c.args.value is none)
+    let none : value_at g.T.PartialEq.eq index c.args.value ≡ None = sym c.in_default.ensures in
+    IsIndex-push keys g.met.T.Eq.laws (in_order keys index) index c.args.value c.in_ok-key.key c.self.invariant.0 (is_absent g c)
     (c.in_ok-key.ensures.key ∙ ap keys.key (sym c.self.invariant.1))
     c.insert.new.self.entries c.in_ok-insert.ensures.changes (if_none _ c.in_ok-insert.field-0 (c.in_ok-insert.ensures.old ∙ none) c.in_ok-insert.ensures.entries)
 
@@ -42,14 +45,14 @@ pub invariant_of-self-2 : goal.invariant_of-self-2
 invariant_of-self-2 g c =
     rw (handed_is g c, is_added g c) (is_pushed g c, (let same = c.self.invariant.1 in omega (arith, same, length-append (in_order g.Key.ArenaKey.keys c.self.inside.index.entries) (c.args.value ∷ []), length-append c.self.inside.items.items (c.in_ok-item.item ∷ []))))
 
-pub returns-clause-new : goal.returns-clause-new
-returns-clause-new g c absent =
+pub returns-clause-ok : goal.returns-clause-ok
+returns-clause-ok g c =
     let same : length c.args.self.now.handed ≡ length c.self.inside.items.items = rw (← c.self.view_is) c.self.invariant.1 in
     let low = c.in_ok-key.ensures.has_key in
-    IfOk-weaker c.alloc.result _ _ (λ key at. record {
-      absent = absent;
+    IfOk-weaker c.alloc.result _ _ (λ key at. inr (record {
+      absent = rw (← c.self.view_is) (is_absent g c);
       has_key = omega (arith, same, low);
       key_is = at ∙ (ap (λ items. g.Key.ArenaKey.keys.key (length items)) c.in_ok-reserve.ensures.items ∙ ap g.Key.ArenaKey.keys.key (sym same));
       handed_are = rw (← c.self.view_is) (handed_is g c);
       items_are = (c.in_ok-item.item, c.in_ok-item.ensures.cases, rw (← c.self.view_is) (is_added g c));
-    }) c.alloc.ensures.key
+    })) c.alloc.ensures.key
