@@ -6,3 +6,4 @@ mod MapRuns
 mod Runs
 mod Search
 mod SetRuns
+mod TextIndex

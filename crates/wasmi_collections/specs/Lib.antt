@@ -5,6 +5,7 @@ pub mod DedupSteps
 pub mod HeadVec
 pub mod HeadVecLaws
 pub mod HeadVecLend
+pub mod Interner
 pub mod LenOrder
 pub mod LenOrderLaws
 pub mod MapCalls
@@ -13,3 +14,4 @@ pub mod Runs
 pub mod Search
 pub mod SetCalls
 pub mod SetSteps
+pub mod TextIndex
