@@ -1,4 +1,6 @@
 mod BinaryDigits
+mod Dedup
+mod DedupRuns
 mod InternerRuns
 mod LastItem
 mod MapRuns

@@ -1,23 +1,20 @@
 -- Facts on lists that can be searched by halves.
-use Rattle.std.proofs.Common.{◌≡◌, ℕ, zero, suc, ◌+◌, ◌<◌, ◌≤◌, ◌⊎◌, Bool, true, false, List, [], ◌∷◌, ◌++◌, length, replicate, Some, slice_get, if◌then◌else◌, refl, ap, sym, subst, inl, inr, arith}
+use Rattle.std.proofs.Common.{◌≡◌, ℕ, zero, suc, ◌+◌, ◌<◌, ◌≤◌, ◌⊎◌, Bool, true, false, List, [], ◌∷◌, ◌++◌, length, replicate, Some, slice_get, refl, ap, sym, subst, inl, inr, arith}
 use Rattle.std.proofs.lemmas.Bool.{cases_lt}
 use Rattle.std.proofs.lemmas.Option.{same_Some}
 use Rattle.std.specs.declared.cmp.Ordering.{Ordering}
-use Rattle.std.specs.declared.cmp.Ordering.TheVariants.{Less, Equal, Greater}
-use Rattle.wasmi_collections.specs.Search.{IsSearchable}
+use Rattle.std.specs.declared.cmp.Ordering.TheVariants.{Less, Greater}
+use Rattle.wasmi_collections.specs.Search.{sorted_orders, IsSearchable}
 
 slice_get-replicate : {A : Type 0} → (n i : ℕ) (x : A) → i < length (replicate n x) → slice_get (replicate n x) i ≡ Some x
 slice_get-replicate zero i x h = absurd (omega arith)
 slice_get-replicate (suc n) zero x h = refl
 slice_get-replicate (suc n) (suc i) x h = slice_get-replicate n i x (omega arith)
 
-abbrev sorted : ℕ → Bool → ℕ → List Ordering
-sorted less is_there greater = replicate less Less ++ (if is_there then Equal ∷ [] else []) ++ replicate greater Greater
-
 -- of two items the earlier is `Less` or the later `Greater`
 sorted_pair :
-    (less : ℕ) (is_there : Bool) (greater i j : ℕ) → i < j → j < length (sorted less is_there greater)
-    → (slice_get (sorted less is_there greater) i ≡ Some Less) ⊎ (slice_get (sorted less is_there greater) j ≡ Some Greater)
+    (less : ℕ) (is_there : Bool) (greater i j : ℕ) → i < j → j < length (sorted_orders less is_there greater)
+    → (slice_get (sorted_orders less is_there greater) i ≡ Some Less) ⊎ (slice_get (sorted_orders less is_there greater) j ≡ Some Greater)
 sorted_pair (suc less) is_there greater zero j before within = inl refl
 sorted_pair (suc less) is_there greater (suc i) zero before within = absurd (omega arith)
 sorted_pair (suc less) is_there greater (suc i) (suc j) before within = sorted_pair less is_there greater i j (omega arith) (omega arith)

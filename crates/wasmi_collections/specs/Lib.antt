@@ -1,4 +1,7 @@
 pub mod BinaryDigits
+pub mod Dedup
+pub mod DedupLend
+pub mod DedupSteps
 pub mod HeadVec
 pub mod HeadVecLaws
 pub mod HeadVecLend

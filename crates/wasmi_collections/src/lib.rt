@@ -3,6 +3,7 @@
 //! - [`StableVec`]: a vector that only grows, whose items stay where they are
 //! - [`StableArena`]: such a vector under typed keys
 //! - [`Arena`]: a list under typed keys, in one vector
+//! - [`DedupArena`]: an arena that gives equal values one key
 //! - [`ComponentVec`]: properties of the entities that an arena has, by key
 //! - [`HeadVec`]: a list with fast access to its last item
 //! - [`Map`], [`Set`]: a map and a set kept in the order of their keys; [`hashed`] has those that hash
@@ -18,7 +19,7 @@ pub mod ordered;
 pub mod run;
 pub mod string_interner;
 
-pub use arena::{Arena, ComponentVec, StableArena, StableVec};
+pub use arena::{Arena, ComponentVec, DedupArena, StableArena, StableVec};
 pub use head_vec::HeadVec;
 pub use string_interner::StringInterner;
 pub use wasmi_hashed::hash;
