@@ -3,6 +3,7 @@
 
 pub mod define;
 pub mod frames;
+pub mod linker;
 pub mod properties;
 pub mod reserve;
 pub mod search;
