@@ -16,8 +16,13 @@ ghost use Rattle.wasmi_collections.specs.declared.run.map.MapReply.{MapReply};
 ghost use Rattle.wasmi_collections.specs.declared.run.set.SetCommand.{SetCommand};
 ghost use Rattle.wasmi_collections.specs.declared.run.set.SetReply.{SetReply};
 
+mod interner;
+
 use crate::HeadVec;
 use crate::run::{AnyMap, AnySet};
+pub use interner::{
+    equal_in_length_order, equal_symbols_of_equal_texts, interned_texts, length_order,
+};
 use std::cmp::Ordering;
 use std::hash::Hash;
 use wasmi_arena::ArenaKey;

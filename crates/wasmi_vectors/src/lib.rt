@@ -26,4 +26,6 @@ pub mod observed;
 mod ordered_memory;
 #[cfg(test)]
 mod runs;
+#[cfg(test)]
+mod searches;
 pub mod tiny;

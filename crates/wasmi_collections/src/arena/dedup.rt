@@ -256,7 +256,7 @@ impl<'a, Key: ArenaKey, T: Eq + Hash, A: Allocator> IntoIterator for &'a mut Ded
 impl<Key: ArenaKey, T: Eq + Hash, A: Allocator> PartialEq for DedupArena<Key, T, A> {
     ghost eq = { λ a b. pointwise T.eq a.items b.items };
 
-    ghost laws = { on_per (λ a. a.items) (lists_per T.laws) };
+    ghost laws = { on_per (λ a. a.items) (lists_per T.PartialEq.laws) };
 
     fn eq(&self, other: &Self) -> bool {
         self.items == other.items
