@@ -21,6 +21,8 @@ mod head_vec;
 mod heap;
 #[cfg(test)]
 mod memory;
+#[cfg(test)]
+mod interner;
 pub mod observed;
 #[cfg(test)]
 mod ordered_memory;
