@@ -86,9 +86,10 @@ fn ordered(line: &[u8], order: Order) -> Cow<'_, [u8]> {
         Ok(text) if order == Order::Open => text,
         _ => return Cow::Borrowed(line),
     };
+    let text = text.trim_end_matches('\n');
     let (words, space) = match text
         .strip_prefix('{')
-        .and_then(|text| text.strip_suffix("}\n"))
+        .and_then(|text| text.strip_suffix('}'))
     {
         Some(inner) => (inner, ", "),
         None => (text, " "),
