@@ -1,3 +1,4 @@
+pub mod DistinctLemmas
 pub mod LineLemmas
 pub mod NumberLemmas
 pub mod OutputLemmas

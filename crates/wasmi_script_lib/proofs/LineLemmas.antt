@@ -73,3 +73,16 @@ lines_of-step text x rest live (Some q) finds cut full =
     let split : text ≡ x ++ (10 ∷ rest) = sym (take-append-drop q.0 text) ∙ ap (λ t. take q.0 text ++ t) (drop_at_char 10 text q.0 q.1 finds.1 (lit< tt)) ∙ cc in
     let lacks : LacksLineFeed x = subst LacksLineFeed (sym parts.0) (λ i l. NoCharPasses-char 10 (take q.0 text) i finds.0 (lit< tt) l) in
     ap lines_of split ∙ lines_of-cut x rest lacks ∙ ap (λ t. x ∷ cond t (lines_of rest) []) (sym parts.1)
+
+-- where a text is asked for its next line and has none, no line is left
+nothing_found : (b : ℕ) (bs : List ℕ) (o : Option (ℕ × ℕ)) → FindsChar 10 (b ∷ bs) o
+    → MatchOption o (length (b ∷ bs) ≡ 0) (λ q. q.1 ≡ 0) → ⊥
+nothing_found b bs None finds end = omega arith
+nothing_found b bs (Some q) finds end = omega (arith, finds.1.ends)
+
+pub lines_of-end : (text : List ℕ) (live : Bool)
+    → (live ≡ true → (o : Option (ℕ × ℕ)) × FindsChar 10 text o × MatchOption o (length text ≡ 0) (λ q. q.1 ≡ 0))
+    → cond live (lines_of text) [] ≡ []
+lines_of-end text false none = refl
+lines_of-end [] true none = refl
+lines_of-end (b ∷ bs) true none = let found = none refl in absurd (nothing_found b bs found.0 found.1 found.2)

@@ -1,10 +1,13 @@
 -- What a parsed line asks for.
 use Rattle.wasmi_script_lib.specs.Requests as request
 use Rattle.wasmi_script_lib.specs.declared.line.Line.{Line}
-use Rattle.wasmi_script_lib.specs.declared.line.Line.TheVariants.{Alloc, Get, Place, Count}
+use Rattle.wasmi_script_lib.specs.declared.line.Line.TheVariants.{Alloc, Get, Place, Count, Dedup, Intern, Resolve}
 
 abbrev pub meaning_of : Line → request.Request
 meaning_of (Alloc text) = request.Alloc text.now
 meaning_of (Get key) = request.Get key
 meaning_of (Place index) = request.Place index
 meaning_of Count = request.Count
+meaning_of (Dedup text) = request.Dedup text.now
+meaning_of (Intern text) = request.Intern text.now
+meaning_of (Resolve symbol) = request.Resolve symbol

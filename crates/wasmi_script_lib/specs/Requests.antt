@@ -13,6 +13,12 @@ pub data Request : Type 0 where
   Place : ℕ → Request
   -- `n`: how much is kept?
   Count : Request
+  -- `d TEXT`: keep the text unless an equal one is kept
+  Dedup : List ℕ → Request
+  -- `i TEXT`: intern the text
+  Intern : List ℕ → Request
+  -- `r N`: which text has this symbol?
+  Resolve : ℕ → Request
 
 -- the number that one or more ASCII digits name, if it is below 2 ^ 64. Leading zeros are allowed.
 abbrev pub number_of : List ℕ → Option ℕ
@@ -28,6 +34,9 @@ request_with head argument =
     if bytes_eq head (codes "a ") then Some (Alloc argument)
     else if bytes_eq head (codes "g ") then option_map Get (number_of argument)
     else if bytes_eq head (codes "p ") then option_map Place (number_of argument)
+    else if bytes_eq head (codes "d ") then Some (Dedup argument)
+    else if bytes_eq head (codes "i ") then Some (Intern argument)
+    else if bytes_eq head (codes "r ") then option_map Resolve (number_of argument)
     else None
 
 -- what a line asks for: `n` alone, or a letter, one space and an argument. Any other line asks for

@@ -5,7 +5,11 @@ use Rattle.wasmi_script_lib.specs.Replies.{Texts}
 
 -- the texts that a session keeps
 abbrev pub texts_of : Session → Texts
-texts_of session = record { kept = map string_bytes session.arena; deduped = []; interned = [] }
+texts_of session = record {
+  kept = map string_bytes session.arena;
+  deduped = map string_bytes session.dedup.handed;
+  interned = session.interner;
+}
 
 -- this reply and a line feed were added
 abbrev pub AddsReply : Session → Session → List ℕ → Type 0

@@ -1,5 +1,5 @@
-//! A script of commands to an arena of texts: each line of the input is a command, and gets one line
-//! of reply.
+//! A script of commands to an arena of texts, an arena without doubles and an interner: each line of the
+//! input is a command, and gets one line of reply.
 //!
 //! | Line | Reply |
 //! |---|---|
@@ -7,10 +7,12 @@
 //! | `g N` | `text T`, the text of that key; or an error |
 //! | `p N` | `place B S`, the bucket and the slot of the index N; `none` from 4294967264 on |
 //! | `n` | `counts A D I SLOTS`: how many texts are kept, deduplicated and interned, and the arena's slots |
+//! | `d TEXT` | `key N`, the key of the text among those without doubles; or an error |
+//! | `i TEXT` | `sym N`, the symbol of the text; or an error |
+//! | `r N` | `text T`, the text of that symbol, or `none` |
 //! | anything else | `bad line N`, the number of the line, from 1 |
 //!
-//! An error is `error` and the arena's own text. No line deduplicates or interns a text yet, so D and
-//! I are 0.
+//! An error is `error` and the container's own text. Each of the three has keys of its own.
 #![tactic(auto)]
 
 mod error;

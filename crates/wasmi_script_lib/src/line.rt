@@ -13,6 +13,12 @@ pub enum Line<'a> {
     Place(usize),
     /// Say how much is kept.
     Count,
+    /// Keep the text, unless an equal one is kept.
+    Dedup(&'a str),
+    /// Intern the text.
+    Intern(&'a str),
+    /// Find the text of a symbol.
+    Resolve(usize),
 }
 
 impl<'a> Line<'a> {
@@ -31,6 +37,9 @@ impl<'a> Line<'a> {
             "a " => Some(Line::Alloc(argument)),
             "g " => Some(Line::Get(number(argument)?)),
             "p " => Some(Line::Place(number(argument)?)),
+            "d " => Some(Line::Dedup(argument)),
+            "i " => Some(Line::Intern(argument)),
+            "r " => Some(Line::Resolve(number(argument)?)),
             _ => None,
         }
     }

@@ -6,11 +6,14 @@ ghost use Rattle.wasmi_script_lib.specs.Requests as request;
 use crate::line::Line;
 use std::alloc::{AllocError, Global};
 use wasmi_arena::{ArenaError, MAX_LEN, StableArena, StableVec};
+use wasmi_collections::arena::DedupArena;
+use wasmi_collections::string_interner::{StringInterner, Sym};
 
 /// The replies to all lines of a script, in order, each ended by a line feed.
 ///
-/// Time and memory are linear in the text: each line is read once, and a text is copied once, where it
-/// is kept. The only error is running out of memory.
+/// Each line is read once. A text of `a` is copied once, where it is kept, a new one of `d` twice, and a new
+/// one of `i` once. Time is linear in the script, but for `i`, which is linear in the texts interned before
+/// where its text is new. The only error is running out of memory.
 pub fn answer(alloc: Global, text: &str) -> Result<String, ArenaError>
     ensures output { IfOk result (λ output. string_bytes output ≡ output_of text.now) }
     ensures errors { IsOkUnless result ArenaError.OutOfSystemMemory }
@@ -26,6 +29,8 @@ pub fn answer(alloc: Global, text: &str) -> Result<String, ArenaError>
 #[derive(Drop)]
 struct Session {
     arena: StableArena<usize, String>,
+    dedup: DedupArena<usize, String>,
+    interner: StringInterner,
     replies: String,
     lines: usize,
 }
@@ -40,6 +45,8 @@ impl Session {
     {
         Session {
             arena: StableArena::new(alloc),
+            dedup: DedupArena::new(alloc),
+            interner: StringInterner::new(alloc),
             replies: String::new(alloc),
             lines: 0,
         }
@@ -61,6 +68,9 @@ impl Session {
             Some(Line::Get(key)) => self.get(key)?,
             Some(Line::Place(index)) => self.place(index)?,
             Some(Line::Count) => self.count()?,
+            Some(Line::Dedup(text)) => self.dedup(alloc, text)?,
+            Some(Line::Intern(text)) => self.intern(text)?,
+            Some(Line::Resolve(symbol)) => self.resolve(symbol)?,
             None => self.refuse()?,
         }
         Ok(())
@@ -119,8 +129,60 @@ impl Session {
         ensures lines { OnOk result (self.new.lines ≡ self.old.lines) }
     {
         let kept = self.arena.len();
+        let deduped = self.dedup.len();
+        let interned = self.interner.len();
         let slots = self.arena.items().slots();
-        writeln!(self.replies, "counts {kept} 0 0 {slots}")
+        writeln!(self.replies, "counts {kept} {deduped} {interned} {slots}")
+    }
+
+    /// `d TEXT`: keeps a text unless an equal one is kept, and replies the key of the one that is.
+    fn dedup(&mut self, alloc: Global, text: &str) -> Result<(), ArenaError>
+        ensures texts { OnOk result (texts_of self.new
+            ≡ texts_after (texts_of self.old) (request.Dedup text.now)) }
+        ensures reply { OnOk result (AddsReply self.old self.new
+            (reply_to (texts_of self.old) (request.Dedup text.now))) }
+        ensures lines { OnOk result (self.new.lines ≡ self.old.lines) }
+        ensures errors { IsOkUnless result ArenaError.OutOfSystemMemory }
+    {
+        match self.dedup.alloc(String::from_str(alloc, text)?) {
+            Ok(key) => writeln!(self.replies, "key {key}")?,
+            Err(ArenaError::OutOfSystemMemory) => return Err(ArenaError::OutOfSystemMemory),
+            Err(error) => writeln!(self.replies, "error {}", error.text())?,
+        }
+        Ok(())
+    }
+
+    /// `i TEXT`: interns a text, and replies its symbol.
+    fn intern(&mut self, text: &str) -> Result<(), ArenaError>
+        ensures texts { OnOk result (texts_of self.new
+            ≡ texts_after (texts_of self.old) (request.Intern text.now)) }
+        ensures reply { OnOk result (AddsReply self.old self.new
+            (reply_to (texts_of self.old) (request.Intern text.now))) }
+        ensures lines { OnOk result (self.new.lines ≡ self.old.lines) }
+        ensures errors { IsOkUnless result ArenaError.OutOfSystemMemory }
+    {
+        match self.interner.get_or_intern(text) {
+            Ok(symbol) => writeln!(self.replies, "sym {}", symbol.into_u32())?,
+            Err(ArenaError::OutOfSystemMemory) => return Err(ArenaError::OutOfSystemMemory),
+            Err(error) => writeln!(self.replies, "error {}", error.text())?,
+        }
+        Ok(())
+    }
+
+    /// `r N`: replies the text of a symbol.
+    fn resolve(&mut self, symbol: usize) -> Result<(), AllocError>
+        ensures texts { OnOk result (texts_of self.new ≡ texts_of self.old) }
+        ensures reply { OnOk result (AddsReply self.old self.new
+            (reply_to (texts_of self.old) (request.Resolve symbol))) }
+        ensures lines { OnOk result (self.new.lines ≡ self.old.lines) }
+    {
+        let Ok(number) = u32::try_from(symbol) else {
+            return writeln!(self.replies, "none");
+        };
+        match self.interner.resolve(Sym::from_u32(number)) {
+            Some(text) => writeln!(self.replies, "text {text}"),
+            None => writeln!(self.replies, "none"),
+        }
     }
 
     /// Any other line: replies that it is bad.

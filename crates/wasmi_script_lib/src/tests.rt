@@ -7,12 +7,37 @@ use std::test::Fail;
 
 #[test]
 fn replies(rt: HostRuntime) -> Result<(), Fail> {
-    let script = "g 0\na\na \ng 0\ng 00\np 4294967263\np 4294967264\ng +0\n\
-        g 18446744073709551616\ng 18446744073709551615";
-    let wanted = "error encounteded out of bounds key\nbad line 2\nkey 0\ntext \ntext \n\
-        place 26 2147483647\nnone\nbad line 8\nbad line 9\nerror encounteded out of bounds key\n";
-    let replies = answer(rt.alloc(), script)?;
-    assert_eq!(rt; replies.as_str(), wanted);
+    let cases = [
+        (
+            "a \ng 0\n\ng\ng 00\np 4294967263\np 4294967264\nr 99999999999\n\
+                g 18446744073709551616\na\n",
+            "key 0\ntext \nbad line 3\nbad line 4\ntext \nplace 26 2147483647\nnone\nnone\n\
+                bad line 9\nbad line 10\n",
+        ),
+        (
+            "g 0\na x\na x\ng +0\ng 18446744073709551615\nn",
+            "error encounteded out of bounds key\nkey 0\nkey 1\nbad line 4\n\
+                error encounteded out of bounds key\ncounts 2 0 0 32\n",
+        ),
+        (
+            "d x\nd y\nd x\nn\ni x\n",
+            "key 0\nkey 1\nkey 0\ncounts 0 2 0 0\nsym 0\n",
+        ),
+        (
+            "i x\ni y\ni x\nn\nr 0\nr 01\nr 2\nr 4294967295\nr 4294967296\nr +0\nr\n",
+            "sym 0\nsym 1\nsym 0\ncounts 0 0 2 0\ntext x\ntext y\nnone\nnone\nnone\n\
+                bad line 10\nbad line 11\n",
+        ),
+        (
+            "d\ni\nd \ni \nr 0\na \ng 0\nd  \nn\n",
+            "bad line 1\nbad line 2\nkey 0\nsym 0\ntext \nkey 0\ntext \nkey 1\n\
+                counts 1 2 1 32\n",
+        ),
+    ];
+    for (script, wanted) in cases {
+        let replies = answer(rt.alloc(), script)?;
+        assert_eq!(rt; replies.as_str(), wanted);
+    }
     Ok(())
 }
 

@@ -1,6 +1,7 @@
 //! Callers of the containers, as someone would write them, each proved from the public contracts alone.
 #![tactic(auto)]
 
+pub mod constants;
 pub mod define;
 pub mod frames;
 pub mod linker;

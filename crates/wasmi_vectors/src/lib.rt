@@ -6,6 +6,8 @@ mod components;
 #[cfg(test)]
 mod counted;
 #[cfg(test)]
+mod dedup;
+#[cfg(test)]
 mod dense;
 #[cfg(test)]
 mod dense_memory;

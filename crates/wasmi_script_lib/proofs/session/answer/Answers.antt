@@ -1,8 +1,8 @@
-use Rattle.std.proofs.Common.{◌≡◌, ℕ, [], ◌∷◌, cond, ap, subst, refl, ◌∙◌, arith}
+use Rattle.std.proofs.Common.{◌≡◌, ℕ, [], ◌∷◌, cond, ap, subst, refl, sym, ◌∙◌, append-nil, string_bytes, arith}
 use Rattle.std.specs.Str.Iter.{split_text, split_has_more, split_terminator_parts}
 use Rattle.std.specs.Str.Pattern.{FindsChar}
 use Rattle.wasmi_script_lib.specs.Lines.{lines_of}
-use Rattle.wasmi_script_lib.proofs.LineLemmas.{lines_of-step, length-lines_of-le}
+use Rattle.wasmi_script_lib.proofs.LineLemmas.{lines_of-step, lines_of-end, length-lines_of-le}
 use Rattle.wasmi_script_lib.proofs.OutputLemmas.{output-served}
 use Rattle.wasmi_script_lib.proofs.session.answer.Goals as goal
 
@@ -30,3 +30,10 @@ loop-line-preserved c =
     let whole = rw first at inv.3 in
     let count = rw first at inv.4 in
     (tt, tt, step.1 ∙ inv.2, output-served _ _ _ line lines _ _ _ _ whole served.reply served.texts served.lines, omega (arith, count, served.lines))
+
+pub returns-clause-output : goal.returns-clause-output
+returns-clause-output c =
+    let inv = c.loop-line.invariant in
+    let parts = split_terminator_parts c.loop-line.line-iterator in
+    let none_left = lines_of-end (split_text parts) (split_has_more parts) (rw inv.2 at c.in-None.ensures.steps.0) in
+    sym (append-nil (string_bytes c.loop-line.session.replies)) ∙ rw none_left at inv.3
