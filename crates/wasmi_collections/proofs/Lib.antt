@@ -1,4 +1,10 @@
+mod BinaryDigits
+mod Dedup
+mod DedupRuns
+mod InternerRuns
 mod LastItem
 mod MapRuns
 mod Runs
+mod Search
 mod SetRuns
+mod TextIndex

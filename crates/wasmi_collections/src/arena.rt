@@ -1,5 +1,8 @@
 //! Arenas: typed keys, and containers whose items stand under them.
 
+mod dedup;
+
+pub use dedup::DedupArena;
 pub use wasmi_arena::{
     AnyArena, ArenaCommand, ArenaError, ArenaKey, ArenaReply, Bucket, MAX_LEN, StableArena,
     StableArenaIter, StableArenaIterMut, StableVec, StableVecIter, StableVecIterMut,

@@ -1,20 +1,31 @@
 //! Laws: what the definitions of `specs/` tell, and what `==` does, as contracts of functions.
-ghost use Rattle.std.specs.Prelude.{◌≡◌, ◌↔◌, [], ◌∷◌, ◌++◌, List, IsTrue};
+ghost use Rattle.std.specs.Prelude.{◌≡◌, ◌↔◌, ℕ, ◌<◌, ◌≤◌, [], ◌∷◌, ◌++◌, List, length, IsTrue};
 ghost use Rattle.std.specs.Ordering.{ordering_then, eq_by_cmp};
 ghost use Rattle.std.specs.Cmp.Lexicographic.{slice_cmp};
 ghost use Rattle.std.specs.List.{AllByRecursion};
+ghost use Rattle.wasmi_collections.specs.Dedup.{DedupState};
+ghost use Rattle.wasmi_collections.specs.DedupSteps.{DedupStep, HasKey, NoneClears};
 ghost use Rattle.wasmi_collections.specs.HeadVec.{head_cmp};
 ghost use Rattle.wasmi_collections.specs.MapSteps.{MapStep, SameEntries, AcceptsMapCommand};
 ghost use Rattle.wasmi_collections.specs.Runs.{IsRun};
 ghost use Rattle.wasmi_collections.specs.SetSteps.{SetStep, SameElements, AcceptsSetCommand};
+ghost use Rattle.wasmi_collections.specs.declared.run.dedup.DedupCommand.{DedupCommand};
+ghost use Rattle.wasmi_collections.specs.declared.run.dedup.DedupReply.{DedupReply};
 ghost use Rattle.wasmi_collections.specs.declared.run.map.MapCommand.{MapCommand};
 ghost use Rattle.wasmi_collections.specs.declared.run.map.MapReply.{MapReply};
 ghost use Rattle.wasmi_collections.specs.declared.run.set.SetCommand.{SetCommand};
 ghost use Rattle.wasmi_collections.specs.declared.run.set.SetReply.{SetReply};
 
+mod interner;
+
 use crate::HeadVec;
 use crate::run::{AnyMap, AnySet};
+pub use interner::{
+    equal_in_length_order, equal_symbols_of_equal_texts, interned_texts, length_order,
+};
 use std::cmp::Ordering;
+use std::hash::Hash;
+use wasmi_arena::ArenaKey;
 
 /// The order of head vectors, case by case.
 pub fn head_vec_order<T: Ord>()
@@ -52,6 +63,17 @@ pub fn sets_answer_alike<T, S: AnySet<T>, U: AnySet<T>>()
         → IsRun (SetStep U.eq) U.elements b commands other d
         → AllByRecursion AcceptsSetCommand one → AllByRecursion AcceptsSetCommand other
         → (one ≡ other) × SameElements S.eq (S.elements c) (U.elements d) }
+{}
+
+/// In a run of a deduplicating arena, two values have one key exactly where they are equal, whatever was
+/// written under keys meanwhile, if all items weren't dropped between them.
+pub fn equal_values_share_a_key<Key: ArenaKey, T: Eq + Hash + Clone>()
+    ensures { (old new : DedupState T) (commands : List (DedupCommand Key T))
+        (replies : List (DedupReply Key T)) → length old.handed ≤ Key.keys.count
+        → IsRun (DedupStep Key.keys T.eq T.is_clone) (λ state. state) old commands replies new
+        → (i j : ℕ) (v w : T) (a b : Key) → i < j → NoneClears commands i j
+        → HasKey commands replies i v a → HasKey commands replies j w b
+        → (a ≡ b) ↔ IsTrue (T.eq v w) }
 {}
 
 /// An order and an equality of one type say the same of equal keys, so that the two laws above hold of an

@@ -3,10 +3,12 @@
 //! - [`StableVec`]: a vector that only grows, whose items stay where they are
 //! - [`StableArena`]: such a vector under typed keys
 //! - [`Arena`]: a list under typed keys, in one vector
+//! - [`DedupArena`]: an arena that gives equal values one key
 //! - [`ComponentVec`]: properties of the entities that an arena has, by key
 //! - [`HeadVec`]: a list with fast access to its last item
 //! - [`Map`], [`Set`]: a map and a set kept in the order of their keys; [`hashed`] has those that hash
-//! - [`run`]: lists of commands to any map and any set
+//! - [`StringInterner`]: a list of distinct texts, each under a symbol
+//! - [`run`]: lists of commands to any map and any set, and to an interner
 #![tactic(auto)]
 
 pub mod arena;
@@ -15,8 +17,10 @@ mod head_vec;
 pub mod laws;
 pub mod ordered;
 pub mod run;
+pub mod string_interner;
 
-pub use arena::{Arena, ComponentVec, StableArena, StableVec};
+pub use arena::{Arena, ComponentVec, DedupArena, StableArena, StableVec};
 pub use head_vec::HeadVec;
+pub use string_interner::StringInterner;
 pub use wasmi_hashed::hash;
 pub use wasmi_ordered::{Map, Set, map, set};

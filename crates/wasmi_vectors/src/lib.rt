@@ -6,6 +6,8 @@ mod components;
 #[cfg(test)]
 mod counted;
 #[cfg(test)]
+mod dedup;
+#[cfg(test)]
 mod dense;
 #[cfg(test)]
 mod dense_memory;
@@ -24,4 +26,6 @@ pub mod observed;
 mod ordered_memory;
 #[cfg(test)]
 mod runs;
+#[cfg(test)]
+mod searches;
 pub mod tiny;

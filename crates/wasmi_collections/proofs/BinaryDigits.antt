@@ -1,0 +1,38 @@
+-- Facts on the number of binary digits.
+use Rattle.std.proofs.Common.{◌≡◌, ℕ, zero, suc, ◌+◌, ◌/◌, ◌^◌, ◌<◌, ◌≤◌, refl, ap, arith}
+use Rattle.std.proofs.Math.Nat.{pow-succ'}
+use Rattle.wasmi_collections.specs.BinaryDigits.{digits_up_to, digits}
+
+digits_up_to_mono : (most m n : ℕ) → m ≤ n → digits_up_to most m ≤ digits_up_to most n
+digits_up_to_mono zero m n h = omega arith
+digits_up_to_mono (suc most) zero n h = omega arith
+digits_up_to_mono (suc most) (suc m) zero h = absurd (omega arith)
+digits_up_to_mono (suc most) (suc m) (suc n) h =
+    let halves = digits_up_to_mono most (suc m / 2) (suc n / 2) (omega arith) in omega arith
+
+-- a number below 2^most has no digit past the first `most`
+digits_up_to-suc : (most n : ℕ) → n < 2 ^ most → digits_up_to (suc most) n ≡ digits_up_to most n
+digits_up_to-suc zero zero h = refl
+digits_up_to-suc zero (suc n) h = absurd (omega arith)
+digits_up_to-suc (suc most) zero h = refl
+digits_up_to-suc (suc most) (suc n) h =
+    ap suc (digits_up_to-suc most (suc n / 2) (omega (arith, pow-succ' 2 most)))
+
+digits_up_to_le : (most n : ℕ) → digits_up_to most n ≤ most
+digits_up_to_le zero n = omega arith
+digits_up_to_le (suc most) zero = omega arith
+digits_up_to_le (suc most) (suc n) = let half = digits_up_to_le most (suc n / 2) in omega arith
+
+pub digits_le : (n : ℕ) → digits n ≤ 64
+unfolding digits
+digits_le n = digits_up_to_le 64 n
+
+-- half of a number has one digit less
+pub digits_half : (m n : ℕ) → 0 < n → n < 2 ^ 64 → m ≤ n / 2 → digits m + 1 ≤ digits n
+unfolding digits
+digits_half m zero some small half = absurd (omega arith)
+digits_half m (suc n) some small half =
+    let below : suc n / 2 < 2 ^ 63 = omega arith in
+    let first = digits_up_to_mono 64 m (suc n / 2) half in
+    let same = digits_up_to-suc 63 (suc n / 2) below in
+    omega arith

@@ -1,0 +1,110 @@
+-- Facts on lists that can be searched by halves.
+use Rattle.std.proofs.Common.{◌≡◌, ℕ, zero, suc, ◌+◌, ◌<◌, ◌≤◌, ◌⊎◌, Bool, true, false, List, [], ◌∷◌, ◌++◌, length, replicate, Some, slice_get, refl, ap, sym, subst, inl, inr, arith}
+use Rattle.std.proofs.lemmas.Bool.{cases_lt}
+use Rattle.std.proofs.lemmas.Option.{same_Some}
+use Rattle.std.specs.declared.cmp.Ordering.{Ordering}
+use Rattle.std.specs.declared.cmp.Ordering.TheVariants.{Less, Greater}
+use Rattle.wasmi_collections.specs.Search.{sorted_orders, IsSearchable}
+
+slice_get-replicate : {A : Type 0} → (n i : ℕ) (x : A) → i < length (replicate n x) → slice_get (replicate n x) i ≡ Some x
+slice_get-replicate zero i x h = absurd (omega arith)
+slice_get-replicate (suc n) zero x h = refl
+slice_get-replicate (suc n) (suc i) x h = slice_get-replicate n i x (omega arith)
+
+-- of two items the earlier is `Less` or the later `Greater`
+sorted_pair :
+    (less : ℕ) (is_there : Bool) (greater i j : ℕ) → i < j → j < length (sorted_orders less is_there greater)
+    → (slice_get (sorted_orders less is_there greater) i ≡ Some Less) ⊎ (slice_get (sorted_orders less is_there greater) j ≡ Some Greater)
+sorted_pair (suc less) is_there greater zero j before within = inl refl
+sorted_pair (suc less) is_there greater (suc i) zero before within = absurd (omega arith)
+sorted_pair (suc less) is_there greater (suc i) (suc j) before within = sorted_pair less is_there greater i j (omega arith) (omega arith)
+sorted_pair zero true greater i zero before within = absurd (omega arith)
+sorted_pair zero true greater i (suc j) before within = inr (slice_get-replicate greater j Greater (omega arith))
+sorted_pair zero false greater i j before within = inr (slice_get-replicate greater j Greater within)
+
+pair :
+    (orders : List Ordering) → IsSearchable orders → (i j : ℕ) → i < j → j < length orders
+    → (slice_get orders i ≡ Some Less) ⊎ (slice_get orders j ≡ Some Greater)
+pair orders s i j before within =
+    let P : List Ordering → Type 0 = λ xs. j < length xs → (slice_get xs i ≡ Some Less) ⊎ (slice_get xs j ≡ Some Greater) in
+    subst P (sym s.orders_are) (sorted_pair s.less s.is_there s.greater i j before) within
+
+-- all before a `Less` are `Less`
+less_before :
+    (orders : List Ordering) → IsSearchable orders → (j : ℕ) → j < length orders → slice_get orders j ≡ Some Less
+    → (i : ℕ) → i < j + 1 → slice_get orders i ≡ Some Less
+less_before orders s j within at i before = elim (cases_lt i j) [
+  | inl less ↦ elim (pair orders s i j less within) [
+    | inl here ↦ here
+    | inr there ↦ cc
+  ]
+  | inr more ↦ let same : i ≡ j = omega arith in rw same at
+]
+
+-- all after a `Greater` are `Greater`
+greater_after :
+    (orders : List Ordering) → IsSearchable orders → (i : ℕ) → slice_get orders i ≡ Some Greater
+    → (j : ℕ) → i ≤ j → j < length orders → slice_get orders j ≡ Some Greater
+greater_after orders s i at j after within = elim (cases_lt i j) [
+  | inl less ↦ elim (pair orders s i j less within) [
+    | inl here ↦ cc
+    | inr there ↦ there
+  ]
+  | inr more ↦ let same : j ≡ i = omega arith in rw same at
+]
+
+-- what is searched can only lie from `low` on and before `high`
+pub record IsNarrowed (orders : List Ordering) (low high : ℕ) : Type 0 where
+  pub ends : low ≤ high
+  pub within : high ≤ length orders
+  pub before : (i : ℕ) → i < low → slice_get orders i ≡ Some Less
+  pub after : (i : ℕ) → high ≤ i → i < length orders → slice_get orders i ≡ Some Greater
+
+pub not_narrowed : (orders : List Ordering) → IsNarrowed orders 0 (length orders)
+not_narrowed orders = record {
+  ends = omega arith;
+  within = omega arith;
+  before = λ i less. absurd (omega arith);
+  after = λ i more within. absurd (omega arith);
+}
+
+pub narrowed_low :
+    (orders : List Ordering) (low high middle : ℕ) → IsSearchable orders → IsNarrowed orders low high → middle < high
+    → slice_get orders middle ≡ Some Less → IsNarrowed orders (middle + 1) high
+narrowed_low orders low high middle s narrowed h at = record {
+  ends = omega arith;
+  within = narrowed.within;
+  before = less_before orders s middle (let within = narrowed.within in omega arith) at;
+  after = narrowed.after;
+}
+
+pub narrowed_high :
+    (orders : List Ordering) (low high middle : ℕ) → IsSearchable orders → IsNarrowed orders low high → low ≤ middle → middle < high
+    → slice_get orders middle ≡ Some Greater → IsNarrowed orders low middle
+narrowed_high orders low high middle s narrowed l h at = record {
+  ends = l;
+  within = let within = narrowed.within in omega arith;
+  before = narrowed.before;
+  after = greater_after orders s middle at;
+}
+
+all_greater :
+    (orders : List Ordering) → ((i : ℕ) → i < length orders → slice_get orders i ≡ Some Greater)
+    → orders ≡ replicate (length orders) Greater
+all_greater [] each = refl
+all_greater (x ∷ xs) each =
+    let first : x ≡ Greater = same_Some _ _ (each 0 (omega arith)) in
+    let rest = all_greater xs (λ i h. each (suc i) (omega arith)) in
+    rw (first) (ap (λ (l : List Ordering). Greater ∷ l) rest)
+
+-- all before `low` are `Less`, and all from it on `Greater`
+pub narrowed_to_none :
+    (low : ℕ) (orders : List Ordering) → low ≤ length orders → ((i : ℕ) → i < low → slice_get orders i ≡ Some Less)
+    → ((i : ℕ) → low ≤ i → i < length orders → slice_get orders i ≡ Some Greater)
+    → (greater : ℕ) × (orders ≡ replicate low Less ++ replicate greater Greater)
+narrowed_to_none zero orders h before after = (length orders, all_greater orders (λ i within. after i (omega arith) within))
+narrowed_to_none (suc low) [] h before after = absurd (omega arith)
+narrowed_to_none (suc low) (x ∷ xs) h before after =
+    let first : x ≡ Less = same_Some _ _ (before 0 (omega arith)) in
+    let rest = narrowed_to_none low xs (omega arith) (λ i less. before (suc i) (omega arith)) (λ i more within. after (suc i) (omega arith) (omega arith)) in
+    (rest.0, rw first (ap (λ (l : List Ordering). Less ∷ l) rest.1))

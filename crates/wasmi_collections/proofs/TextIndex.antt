@@ -1,0 +1,300 @@
+-- Facts on an interner's texts and on the index of them.
+use Rattle.std.proofs.Common.{◌≡◌, ◌≢◌, ℕ, zero, suc, ◌+◌, ◌<◌, ◌≤◌, Bool, true, false, cond, List, [], ◌∷◌, ◌++◌, length, map, take, drop, replicate, get_or, Some, None, option_map, slice_get, string_bytes, ◌&&◌, ◌||◌, refl, sym, ap, subst, ◌∙◌, arith, Ordering, Less, Equal, Greater}
+use Rattle.std.specs.List.{All, AllByRecursion, AllZip, Contains, IsDistinct, insert, list_any, position_from, range_with_len}
+use Rattle.std.specs.List.Sorted.{IsStrictlySortedBy}
+use Rattle.std.specs.Ordering.{ordering_reverse}
+use Rattle.std.specs.Str.{bytes_eq}
+use Rattle.std.specs.declared.string.String.{String}
+use Rattle.std.specs.Cmp.Lexicographic.{pointwise, nat_list_eq_equiv}
+use Rattle.std.proofs.lemmas.Iterator.Adapters.{position_from-zero}
+use Rattle.std.proofs.lemmas.List.{get_or_append_left, get_or-map, get_or_push, length_push, length-append, length-map, length-replicate, take-map, drop-map, map-append}
+use Rattle.std.proofs.lemmas.List.Elements.{All-head, All-tail}
+use Rattle.std.proofs.lemmas.List.FromFn.{length-range_with_len, get_or-range_with_len}
+use Rattle.std.proofs.lemmas.List.Quantifiers.{position-Some}
+use Rattle.std.proofs.lemmas.List.Sorted.{IsPermutation-refl, IsPermutation-cons, IsPermutation-to_front, IsPermutation-insert, IsPermutation-trans, length_permutation, All-permutation, Contains-permutation}
+use Rattle.std.proofs.lemmas.Map.Keys.{sorted_head, sorted_tail, IsDistinct-head, IsDistinct-tail, IsDistinct-push}
+use Rattle.std.proofs.lemmas.Option.{none-some, same_Some, slice_get-map, slice_get_within, slice_get-get_or, get_or_from_slice_get}
+use Rattle.std.proofs.lemmas.Slice.Eq.{bytes_eq-Decides}
+use Rattle.wasmi_collections.specs.Interner.{symbol_of, AreDistinctTexts}
+use Rattle.wasmi_collections.specs.LenOrder.{len_cmp}
+use Rattle.wasmi_collections.specs.LenOrderLaws.{len_cmp_total, len_cmp-Equal}
+use Rattle.wasmi_collections.specs.Search.{IsSearchable}
+use Rattle.wasmi_collections.specs.TextIndex.{IsIndexOf, texts_of, orders_with}
+
+-- y is greater than x where x is less
+turned : (x y : List ℕ) → len_cmp x y ≡ Less → len_cmp y x ≡ Greater
+turned x y less = len_cmp_total.antisymm y x ∙ ap ordering_reverse less
+
+turned_back : (x y : List ℕ) → len_cmp x y ≡ Greater → len_cmp y x ≡ Less
+turned_back x y greater = len_cmp_total.antisymm y x ∙ ap ordering_reverse greater
+
+module _ (text : List ℕ) where
+  -- all of these are greater than the text
+  all_greater : (texts : List (List ℕ)) → AllByRecursion (λ other. len_cmp text other ≡ Less) texts → orders_with text texts ≡ replicate (length texts) Greater
+  all_greater [] above = refl
+  all_greater (x ∷ xs) above = λ i. turned text x above.0 i ∷ all_greater xs above.1 i
+
+  above_too : (x : List ℕ) (xs : List (List ℕ)) → len_cmp text x ≡ Less → AllByRecursion (λ other. len_cmp x other ≡ Less) xs → AllByRecursion (λ other. len_cmp text other ≡ Less) xs
+  above_too x [] less above = tt
+  above_too x (y ∷ ys) less above = (len_cmp_total.trans text x y less above.0, above_too x ys less above.1)
+
+  -- ascending texts can be searched
+  pub IsSearchable-texts : (texts : List (List ℕ)) → IsStrictlySortedBy len_cmp texts → IsSearchable (orders_with text texts)
+  IsSearchable-texts [] sorted = record { less = 0; is_there = false; greater = 0; orders_are = refl }
+  IsSearchable-texts (x ∷ xs) sorted =
+      next (len_cmp x text) refl (IsSearchable-texts xs (sorted_tail len_cmp x xs sorted))
+    where
+      above : AllByRecursion (λ other. len_cmp x other ≡ Less) xs
+      above = sorted_head len_cmp x xs sorted
+
+      next : (order : Ordering) → len_cmp x text ≡ order → IsSearchable (orders_with text xs) → IsSearchable (order ∷ orders_with text xs)
+      next Less is rest = record {
+        less = suc rest.less;
+        is_there = rest.is_there;
+        greater = rest.greater;
+        orders_are = ap (λ (orders : List Ordering). Less ∷ orders) rest.orders_are;
+      }
+      next Equal is rest = record {
+        less = 0;
+        is_there = true;
+        greater = length xs;
+        orders_are = ap (λ (orders : List Ordering). Equal ∷ orders) (all_greater xs (rw ((len_cmp-Equal x text).0 is) at above));
+      }
+      next Greater is rest = record {
+        less = 0;
+        is_there = false;
+        greater = suc (length xs);
+        orders_are = ap (λ (orders : List Ordering). Greater ∷ orders) (all_greater xs (above_too x xs (turned_back x text is) above));
+      }
+
+-- ---- symbols
+
+at_place : {X : Type 0} (P : X → Type 0) (i : ℕ) (x : X) (xs : List X) → AllByRecursion P xs → slice_get xs i ≡ Some x → P x
+at_place P i x [] all at = absurd (none-some x at)
+at_place P zero x (y ∷ ys) all at = subst P (same_Some y x at) all.0
+at_place P (suc i) x (y ∷ ys) all at = at_place P i x ys all.1 at
+
+module _ (text : List ℕ) where
+  passes_itself : bytes_eq text text ≡ true
+  passes_itself = (bytes_eq-Decides text text).1 refl
+
+  other_fails : (x : List ℕ) → (x ≢ text) → bytes_eq text x ≡ false
+  other_fails x other = next (bytes_eq text x) refl
+    where
+      next : (b : Bool) → bytes_eq text x ≡ b → b ≡ false
+      next true is = absurd (other (sym ((bytes_eq-Decides text x).0 is)))
+      next false is = refl
+
+  first_place : (i s : ℕ) (texts : List (List ℕ)) → AreDistinctTexts texts → slice_get texts s ≡ Some text → position_from (bytes_eq text) i texts ≡ Some (i + s)
+  first_place i s [] distinct at = absurd (none-some text at)
+  first_place i zero (x ∷ xs) distinct at =
+      rw (same_Some x text at, passes_itself) (ap Some (omega arith))
+  first_place i (suc s) (x ∷ xs) distinct at =
+      let differ : bytes_eq x text ≡ false = at_place (λ y. bytes_eq x y ≡ false) s text xs (IsDistinct-head bytes_eq x xs distinct) at in
+      let turned : bytes_eq text x ≡ false = nat_list_eq_equiv.symm text x ∙ differ in
+      rw turned (first_place (i + 1) s xs (IsDistinct-tail bytes_eq x xs distinct) at ∙ ap Some (omega arith))
+
+  no_place : (i : ℕ) (texts : List (List ℕ)) → ((s : ℕ) → slice_get texts s ≢ Some text) → position_from (bytes_eq text) i texts ≡ None
+  no_place i [] nowhere = refl
+  no_place i (x ∷ xs) nowhere =
+      let other : bytes_eq text x ≡ false = other_fails x (λ same. nowhere 0 (ap Some same)) in
+      rw other (no_place (i + 1) xs (λ s. nowhere (suc s)))
+
+  none_passes : (i : ℕ) (texts : List (List ℕ)) → position_from (bytes_eq text) i texts ≡ None → list_any (bytes_eq text) texts ≡ false
+  none_passes i [] none = refl
+  none_passes i (x ∷ xs) none = next (bytes_eq text x) none (none_passes (i + 1) xs)
+    where
+      next : (b : Bool) → cond b (Some i) (position_from (bytes_eq text) (i + 1) xs) ≡ None
+          → (position_from (bytes_eq text) (i + 1) xs ≡ None → list_any (bytes_eq text) xs ≡ false)
+          → (b || list_any (bytes_eq text) xs) ≡ false
+      next true none rest = absurd (none-some i (sym none))
+      next false none rest = rest none
+
+  -- a text that stands at a position has it as its symbol
+  pub symbol_of-at : (texts : List (List ℕ)) (s : ℕ) → AreDistinctTexts texts → slice_get texts s ≡ Some text → symbol_of texts text ≡ Some s
+  symbol_of-at texts s distinct at =
+      position_from-zero (bytes_eq text) texts ∙ (first_place 0 s texts distinct at ∙ ap Some (omega arith))
+
+  -- a text that stands at none has none
+  pub symbol_of-nowhere : (texts : List (List ℕ)) → ((s : ℕ) → slice_get texts s ≢ Some text) → symbol_of texts text ≡ None
+  symbol_of-nowhere texts nowhere = position_from-zero (bytes_eq text) texts ∙ no_place 0 texts nowhere
+
+  -- a symbol is the position at which the text stands
+  pub symbol_of-Some : (texts : List (List ℕ)) (s : ℕ) → symbol_of texts text ≡ Some s → slice_get texts s ≡ Some text
+  symbol_of-Some texts s is =
+      let found = position-Some (bytes_eq text) texts s [] is in
+      slice_get-get_or texts s [] found.0 ∙ ap Some (sym ((bytes_eq-Decides text _).0 found.1))
+
+  -- a text that is added to those among which it isn't stands at their end
+  last_place : (i : ℕ) (texts : List (List ℕ)) → position_from (bytes_eq text) i texts ≡ None → position_from (bytes_eq text) i (texts ++ text ∷ []) ≡ Some (i + length texts)
+  last_place i [] none = rw passes_itself (ap Some (omega arith))
+  last_place i (x ∷ xs) none = next (bytes_eq text x) none (last_place (i + 1) xs)
+    where
+      next : (b : Bool) → cond b (Some i) (position_from (bytes_eq text) (i + 1) xs) ≡ None
+          → (position_from (bytes_eq text) (i + 1) xs ≡ None → position_from (bytes_eq text) (i + 1) (xs ++ text ∷ []) ≡ Some (i + 1 + length xs))
+          → cond b (Some i) (position_from (bytes_eq text) (i + 1) (xs ++ text ∷ [])) ≡ Some (i + suc (length xs))
+      next true none rest = absurd (none-some i (sym none))
+      next false none rest = rest none ∙ ap Some (omega arith)
+
+  pub symbol_of-last : (texts : List (List ℕ)) → symbol_of texts text ≡ None → symbol_of (texts ++ text ∷ []) text ≡ Some (length texts)
+  symbol_of-last texts absent =
+      position_from-zero (bytes_eq text) (texts ++ text ∷ [])
+      ∙ (last_place 0 texts (sym (position_from-zero (bytes_eq text) texts) ∙ absent) ∙ ap Some (omega arith))
+
+  -- and changes no symbol
+  kept_place : (other : List ℕ) (i : ℕ) (texts : List (List ℕ)) (s : ℕ) → position_from (bytes_eq other) i texts ≡ Some s → position_from (bytes_eq other) i (texts ++ text ∷ []) ≡ Some s
+  kept_place other i [] s is = absurd (none-some s is)
+  kept_place other i (x ∷ xs) s is = next (bytes_eq other x) is (kept_place other (i + 1) xs s)
+    where
+      next : (b : Bool) → cond b (Some i) (position_from (bytes_eq other) (i + 1) xs) ≡ Some s
+          → (position_from (bytes_eq other) (i + 1) xs ≡ Some s → position_from (bytes_eq other) (i + 1) (xs ++ text ∷ []) ≡ Some s)
+          → cond b (Some i) (position_from (bytes_eq other) (i + 1) (xs ++ text ∷ [])) ≡ Some s
+      next true is rest = is
+      next false is rest = rest is
+
+  pub symbol_of-push : (other : List ℕ) (texts : List (List ℕ)) (s : ℕ) → symbol_of texts other ≡ Some s → symbol_of (texts ++ text ∷ []) other ≡ Some s
+  symbol_of-push other texts s is =
+      position_from-zero (bytes_eq other) (texts ++ text ∷ [])
+      ∙ kept_place other 0 texts s (sym (position_from-zero (bytes_eq other) texts) ∙ is)
+
+  -- a text that isn't there may be added
+  pub AreDistinctTexts-push : (texts : List (List ℕ)) → AreDistinctTexts texts → symbol_of texts text ≡ None → AreDistinctTexts (texts ++ text ∷ [])
+  AreDistinctTexts-push texts distinct absent =
+      IsDistinct-push nat_list_eq_equiv texts text distinct (none_passes 0 texts (sym (position_from-zero (bytes_eq text) texts) ∙ absent))
+
+-- ---- the index
+
+below_range : (n : ℕ) → All (λ s. s < n) (range_with_len 0 n)
+below_range n k d h = rw (get_or-range_with_len 0 n k d (omega (arith, length-range_with_len 0 n))) (omega (arith, length-range_with_len 0 n))
+
+range_push : (a n : ℕ) → range_with_len a (suc n) ≡ range_with_len a n ++ (a + n) ∷ []
+range_push a zero = ap (λ (m : ℕ). m ∷ []) (omega arith)
+range_push a (suc n) = ap (λ (ms : List ℕ). a ∷ ms) (range_push (a + 1) n ∙ ap (λ m. range_with_len (a + 1) n ++ m ∷ []) (omega arith))
+
+-- the symbol of a rank tells how the text there compares
+pub order_at : (text : List ℕ) (texts : List (List ℕ)) (symbols : List ℕ) (rank s : ℕ) → slice_get symbols rank ≡ Some s → slice_get (orders_with text (texts_of texts symbols)) rank ≡ Some (len_cmp (get_or texts s []) text)
+order_at text texts symbols rank s at =
+    slice_get-map (λ other. len_cmp other text) (texts_of texts symbols) rank
+    ∙ ap (option_map (λ other. len_cmp other text)) (slice_get-map (λ symbol. get_or texts symbol []) symbols rank ∙ ap (option_map (λ symbol. get_or texts symbol [])) at)
+
+module _ (text : List ℕ) (texts : List (List ℕ)) (symbols : List ℕ) where
+  pub length-orders : length (orders_with text (texts_of texts symbols)) ≡ length symbols
+  length-orders = length-map (texts_of texts symbols) (λ other. len_cmp other text) ∙ length-map symbols (λ symbol. get_or texts symbol [])
+
+  pub place_within : (rank : ℕ) (order : Ordering) → slice_get (orders_with text (texts_of texts symbols)) rank ≡ Some order → rank < length symbols
+  place_within rank order at = omega (arith, length-orders, slice_get_within (orders_with text (texts_of texts symbols)) rank order at)
+
+  pub rank_within : (less greater : ℕ) → orders_with text (texts_of texts symbols) ≡ replicate less Less ++ replicate greater Greater → less ≤ length symbols
+  rank_within less greater orders =
+      omega (arith, length-orders, ap length orders, length-append (replicate less Less) (replicate greater Greater), length-replicate less Less)
+
+-- what is read of a text in memory is read of its bytes
+pub get_or-bytes : {Z : Type 0} (items : List (String Z)) (s : ℕ) (item : String Z) → s < length items → item ≡ get_or items s item → get_or (map string_bytes items) s [] ≡ string_bytes item
+get_or-bytes items s item below read = get_or-map string_bytes items s item [] below ∙ ap string_bytes (sym read)
+
+no_equal : (less greater i : ℕ) → slice_get (replicate less Less ++ replicate greater Greater) i ≡ Some Equal → ⊥
+no_equal zero zero i at = none-some Equal at
+no_equal zero (suc greater) zero at = absurd (cc)
+no_equal zero (suc greater) (suc i) at = no_equal zero greater i at
+no_equal (suc less) greater zero at = absurd (cc)
+no_equal (suc less) greater (suc i) at = no_equal less greater i at
+
+module _ (texts : List (List ℕ)) (symbols : List ℕ) (is : IsIndexOf texts symbols) where
+  pub length-symbols : length symbols ≡ length texts
+  length-symbols = length_permutation (range_with_len 0 (length texts)) symbols is.complete ∙ length-range_with_len 0 (length texts)
+
+  pub symbols_within : All (λ s. s < length texts) symbols
+  symbols_within = All-permutation (λ s. s < length texts) (range_with_len 0 (length texts)) symbols is.complete (below_range (length texts))
+
+  -- where a search finds a text, its symbol stands
+  pub found_symbol : (text : List ℕ) (rank s : ℕ) → slice_get (orders_with text (texts_of texts symbols)) rank ≡ Some Equal → slice_get symbols rank ≡ Some s → slice_get texts s ≡ Some text
+  found_symbol text rank s found at =
+      let same = (len_cmp-Equal (get_or texts s []) text).0 (same_Some _ Equal (sym (order_at text texts symbols rank s at) ∙ found)) in
+      let below : s < length texts = rw (← get_or_from_slice_get symbols rank s 0 at) (symbols_within rank 0 (slice_get_within symbols rank s at)) in
+      slice_get-get_or texts s [] below ∙ ap Some same
+
+  -- where it finds none, the text stands nowhere
+  pub found_nowhere : (text : List ℕ) (less greater : ℕ) → orders_with text (texts_of texts symbols) ≡ replicate less Less ++ replicate greater Greater → (s : ℕ) → slice_get texts s ≢ Some text
+  found_nowhere text less greater orders s at =
+      let below = slice_get_within texts s text at in
+      let here : Contains (range_with_len 0 (length texts)) s = (s, omega (arith, length-range_with_len 0 (length texts), below), get_or-range_with_len 0 (length texts) s s below ∙ omega arith) in
+      let there = Contains-permutation (range_with_len 0 (length texts)) symbols s is.complete here in
+      let ranked = slice_get-get_or symbols there.0 s there.1 ∙ ap Some there.2 in
+      let order = order_at text texts symbols there.0 s ranked in
+      let equal = (len_cmp-Equal (get_or texts s []) text).1 (get_or_from_slice_get texts s text [] at) in
+      no_equal less greater there.0 (rw (← orders) (order ∙ ap Some equal))
+
+-- ---- one more text
+
+module _ (text : List ℕ) where
+  above_all : (greater : ℕ) (ranked : List (List ℕ)) → orders_with text ranked ≡ replicate greater Greater → AllByRecursion (λ other. len_cmp text other ≡ Less) ranked
+  above_all greater [] orders = tt
+  above_all zero (x ∷ xs) orders = absurd (cc)
+  above_all (suc greater) (x ∷ xs) orders = (turned_back x text (cc), above_all greater xs (cc))
+
+  below_too : (x : List ℕ) (less : ℕ) (xs : List (List ℕ)) → len_cmp x text ≡ Less → AllByRecursion (λ other. len_cmp x other ≡ Less) xs → AllByRecursion (λ other. len_cmp x other ≡ Less) (insert xs less text)
+  below_too x zero xs less above = (less, above)
+  below_too x (suc n) [] less above = (less, above)
+  below_too x (suc n) (y ∷ ys) less above = (above.0, below_too x n ys less above.1)
+
+  -- the text goes after those that are less
+  ascending_insert : (less greater : ℕ) (ranked : List (List ℕ)) → orders_with text ranked ≡ replicate less Less ++ replicate greater Greater → IsStrictlySortedBy len_cmp ranked → IsStrictlySortedBy len_cmp (insert ranked less text)
+  unfolding IsStrictlySortedBy
+  ascending_insert zero greater ranked orders sorted = (above_all greater ranked orders, sorted)
+  ascending_insert (suc less) greater [] orders sorted = absurd (cc)
+  ascending_insert (suc less) greater (x ∷ xs) orders sorted =
+      (below_too x less xs (cc) sorted.0, ascending_insert less greater xs (cc) sorted.1)
+
+  texts_kept : (texts : List (List ℕ)) (symbols : List ℕ) → All (λ s. s < length texts) symbols → texts_of (texts ++ text ∷ []) symbols ≡ texts_of texts symbols
+  texts_kept texts [] below = refl
+  texts_kept texts (s ∷ ss) below =
+      let first = get_or_append_left texts (text ∷ []) [] s (All-head (λ s. s < length texts) s ss below) in
+      let rest = texts_kept texts ss (All-tail (λ s. s < length texts) s ss below) in
+      λ i. first i ∷ rest i
+
+  texts_of-insert : (texts : List (List ℕ)) (symbols : List ℕ) (rank s : ℕ) → texts_of texts (insert symbols rank s) ≡ insert (texts_of texts symbols) rank (get_or texts s [])
+  texts_of-insert texts symbols rank s =
+      let read : ℕ → List ℕ = λ symbol. get_or texts symbol [] in
+      map-append read (take rank symbols) (s ∷ drop rank symbols) ∙ (λ i. sym (take-map read rank symbols) i ++ read s ∷ sym (drop-map read rank symbols) i)
+
+  module _ (texts : List (List ℕ)) (symbols : List ℕ) (is : IsIndexOf texts symbols) where
+    pub IsIndexOf-insert : (less greater : ℕ) → orders_with text (texts_of texts symbols) ≡ replicate less Less ++ replicate greater Greater → IsIndexOf (texts ++ text ∷ []) (insert symbols less (length texts))
+    IsIndexOf-insert less greater orders =
+        let n = length texts in
+        let range = range_with_len 0 n in
+        let longer : range_with_len 0 (length (texts ++ text ∷ [])) ≡ range ++ n ∷ [] =
+        let long : length (texts ++ text ∷ []) ≡ suc n = omega (arith, length_push texts text) in
+        let last : 0 + n ≡ n = omega arith in
+        ap (range_with_len 0) long ∙ (range_push 0 n ∙ ap (λ m. range ++ m ∷ []) last) in record {
+          complete = rw longer (
+              IsPermutation-trans (range ++ n ∷ []) (n ∷ range) (insert symbols less n) (IsPermutation-to_front range n)
+              (IsPermutation-trans (n ∷ range) (n ∷ symbols) (insert symbols less n) (IsPermutation-cons n range symbols is.complete) (IsPermutation-insert symbols less n)));
+          ascending = rw (texts_of-insert (texts ++ text ∷ []) symbols less n, texts_kept texts symbols (symbols_within texts symbols is), get_or_push texts text [] n refl) (
+              ascending_insert less greater (texts_of texts symbols) orders is.ascending);
+        }
+
+pub IsIndexOf-nil : IsIndexOf [] []
+unfolding IsStrictlySortedBy
+IsIndexOf-nil = record { complete = IsPermutation-refl []; ascending = tt }
+
+pub AreDistinctTexts-nil : AreDistinctTexts []
+unfolding IsDistinct
+AreDistinctTexts-nil = tt
+
+-- ---- texts in memory
+
+module _ {Z : Type 0} where
+  -- clones of texts have their bytes
+  pub bytes_of_clones : (items clones : List (String Z)) → AllZip (λ (s t : String Z). string_bytes t ≡ string_bytes s) items clones → map string_bytes clones ≡ map string_bytes items
+  bytes_of_clones [] [] same = refl
+  bytes_of_clones [] (y ∷ ys) same = absurd same
+  bytes_of_clones (x ∷ xs) [] same = absurd same
+  bytes_of_clones (x ∷ xs) (y ∷ ys) same =
+      let rest = bytes_of_clones xs ys same.1 in λ i. same.0 i ∷ rest i
+
+  -- texts are equal where their bytes are
+  pub pointwise-bytes : (xs ys : List (String Z)) → pointwise (λ (s t : String Z). bytes_eq (string_bytes s) (string_bytes t)) xs ys ≡ pointwise bytes_eq (map string_bytes xs) (map string_bytes ys)
+  pointwise-bytes [] [] = refl
+  pointwise-bytes [] (y ∷ ys) = refl
+  pointwise-bytes (x ∷ xs) [] = refl
+  pointwise-bytes (x ∷ xs) (y ∷ ys) = ap (λ b. bytes_eq (string_bytes x) (string_bytes y) && b) (pointwise-bytes xs ys)

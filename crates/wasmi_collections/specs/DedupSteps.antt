@@ -1,0 +1,53 @@
+-- The steps of a deduplicating arena, what each command may be replied to, and what it leaves.
+use Rattle.std.specs.Prelude.{◌≡◌, ◌≢◌, ℕ, ◌<◌, ◌≤◌, ◌↔◌, Bool, List, [], length, slice_get, slice_set, Some, IsTrue}
+use Rattle.wasmi_arena.specs.Keys.{Keys}
+use Rattle.wasmi_arena.specs.declared.error.ArenaError.{ArenaError}
+use Rattle.wasmi_arena.specs.declared.error.ArenaError.TheVariants.{KeyOutOfBounds}
+use Rattle.wasmi_collections.specs.Dedup.{DedupState, AllocatesValue, RefusesValue}
+use Rattle.wasmi_collections.specs.declared.run.dedup.DedupCommand.{DedupCommand}
+use Rattle.wasmi_collections.specs.declared.run.dedup.DedupCommand.TheVariants.{Alloc, Put, Has, Clear}
+use Rattle.wasmi_collections.specs.declared.run.dedup.DedupReply.{DedupReply}
+use Rattle.wasmi_collections.specs.declared.run.dedup.DedupReply.TheVariants.{Key, Old, Has as HasReply, Done, Refused}
+
+module _ {K T : Type 0} (keys : Keys K) (eq : T → T → Bool) (clones : T → T → Type 0) where
+  -- an item makes way for another, and is handed back. No value handed in changes
+  pub record PutsItem (old : DedupState T) (key : K) (item there : T) (new : DedupState T) : Type 0 where
+    pub there_is : slice_get old.items (keys.number key) ≡ Some there
+    pub handed_are : new.handed ≡ old.handed
+    pub items_are : new.items ≡ slice_set old.items (keys.number key) item
+
+  -- from old, the arena may give this reply to the command and go on to new
+  abbrev pub DedupStep : DedupState T → DedupCommand K T → DedupReply K T → DedupState T → Type 0
+  DedupStep old (Alloc value) (Key key) new = AllocatesValue keys eq clones old value key new
+  DedupStep old (Alloc value) (Refused error) new = RefusesValue keys eq old value error × (new ≡ old)
+  DedupStep old (Put key item) (Old there) new = PutsItem old key item there new
+  DedupStep old (Put key item) (Refused error) new =
+      (error ≡ KeyOutOfBounds) × (length old.items ≤ keys.number key) × (new ≡ old)
+  DedupStep old (Has key) (HasReply found) new =
+      (IsTrue found ↔ (keys.number key < length old.items)) × (new ≡ old)
+  DedupStep old Clear Done new = (new.handed ≡ []) × (new.items ≡ [])
+  -- no other reply is given
+  DedupStep old (Alloc value) (Old there) new = ⊥
+  DedupStep old (Alloc value) (HasReply found) new = ⊥
+  DedupStep old (Alloc value) Done new = ⊥
+  DedupStep old (Put key item) (Key other) new = ⊥
+  DedupStep old (Put key item) (HasReply found) new = ⊥
+  DedupStep old (Put key item) Done new = ⊥
+  DedupStep old (Has key) (Key other) new = ⊥
+  DedupStep old (Has key) (Old there) new = ⊥
+  DedupStep old (Has key) Done new = ⊥
+  DedupStep old (Has key) (Refused error) new = ⊥
+  DedupStep old Clear (Key other) new = ⊥
+  DedupStep old Clear (Old there) new = ⊥
+  DedupStep old Clear (HasReply found) new = ⊥
+  DedupStep old Clear (Refused error) new = ⊥
+
+-- the value was handed in by the command at this place, which was replied to with the key
+pub record HasKey {K T : Type 0} (commands : List (DedupCommand K T)) (replies : List (DedupReply K T))
+    (place : ℕ) (value : T) (key : K) : Type 0 where
+  pub command_is : slice_get commands place ≡ Some (Alloc value)
+  pub reply_is : slice_get replies place ≡ Some (Key key)
+
+-- no command between these two places drops all items
+abbrev pub NoneClears : {K T : Type 0} → List (DedupCommand K T) → ℕ → ℕ → Type 0
+NoneClears commands low high = (place : ℕ) → low < place → place < high → slice_get commands place ≢ Some Clear

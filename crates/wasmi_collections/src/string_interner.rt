@@ -1,0 +1,267 @@
+//! Symbols of texts.
+ghost use Rattle.std.specs.Prelude.{ℕ, ◌≡◌, ◌+◌, ◌==◌, ◌<◌, ◌≤◌, ◌^◌, ◌↔◌, ◌⊎◌, [], ◌∷◌, ◌++◌, length, IfOk, IfErr, OnErr, IsErrOf, IsOkUnless, None, Some, Ok, option_copied, slice_get};
+ghost use Rattle.std.specs.Cmp.Lexicographic.{pointwise, lists_per, lists_equiv, nat_list_eq_equiv};
+ghost use Rattle.std.specs.Str.{bytes_eq};
+ghost use Rattle.wasmi_collections.specs.BinaryDigits.{digits};
+ghost use Rattle.wasmi_collections.specs.Interner.{symbol_of, AreDistinctTexts};
+ghost use Rattle.wasmi_collections.specs.LenOrderLaws.{texts_per};
+
+mod find;
+mod index;
+mod len_order;
+mod probe;
+mod steps;
+
+use find::find;
+use index::Index;
+pub use len_order::LenOrder;
+pub use probe::{Probe, search};
+use std::alloc::{Allocator, Global};
+use std::fmt::{self, Debug, Formatter, Write};
+use std::marker::Model;
+pub use steps::Steps;
+use wasmi_arena::ArenaError;
+
+/// What the caller expects of a text that it interns.
+///
+/// A hint never changes what interning does.
+#[derive(Debug, Copy, Clone)]
+pub enum InternHint {
+    /// Nothing is known of the text.
+    None,
+    /// The text is probably there.
+    LikelyExists,
+    /// The text is probably new.
+    LikelyNew,
+}
+
+/// The symbol of an interned text: its number, below 2^32.
+#[derive(Debug, Copy, Clone, PartialEq, Eq, PartialOrd, Ord, Hash)]
+pub struct Sym(u32);
+
+impl Model for Sym {
+    ghost use Rattle.std.specs.Prelude.{ℕ};
+
+    ghost Value = { ℕ };
+
+    ghost view = { λ sym. sym.0 };
+
+    ghost inverse = { λ number. record { 0 = number } };
+}
+
+impl Sym {
+    /// The symbol with this number. Constant time.
+    pub fn from_u32(value: u32) -> Self
+        ensures { result ≡ value }
+    {
+        Sym(value)
+    }
+
+    /// The symbol with this number, which is below 2^32. Constant time.
+    pub fn from_usize(value: usize) -> Self
+        requires { value < 2 ^ 32 }
+        ensures { result ≡ value }
+    {
+        Sym(value as u32)
+    }
+
+    /// The number of the symbol. Constant time.
+    pub fn into_u32(self) -> u32
+        ensures { result ≡ self }
+    {
+        self.0
+    }
+
+    /// The number of the symbol, which is below 2^32. Constant time.
+    pub fn into_usize(self) -> usize
+        ensures number { result ≡ self }
+        ensures below { result < 2 ^ 32 }
+    {
+        self.0 as usize
+    }
+}
+
+/// A list of distinct texts, each under its position as its symbol.
+///
+/// An index of the symbols, sorted by [`LenOrder`], finds a text by halves. The texts are kept for the
+/// life of the interner, so a symbol is good for as long, and is cheaper to copy, compare and store than
+/// its text. There are at most 2^32 texts.
+#[derive(Drop)]
+pub struct StringInterner<A: Allocator = Global> {
+    texts: Vec<String<A>, A>,
+    index: Index<A>,
+}
+
+impl<A: Allocator> Model for StringInterner<A> {
+    ghost use Rattle.std.specs.Prelude.{◌≤◌, ◌^◌, ℕ, List, length, map, string_bytes};
+    ghost use Rattle.wasmi_collections.specs.Interner.{AreDistinctTexts};
+    ghost use Rattle.wasmi_collections.specs.TextIndex.{IsIndexOf};
+
+    ghost Value = { List (List ℕ) };
+
+    ghost view = { λ interner. map string_bytes interner.texts.items };
+
+    ghost invariant = { λ interner. AreDistinctTexts (map string_bytes interner.texts.items)
+        × IsIndexOf (map string_bytes interner.texts.items) interner.index.symbols
+        × (length interner.texts.items ≤ 2 ^ 32) };
+}
+
+impl<A: Allocator> StringInterner<A> {
+    /// An interner without texts, which asks `alloc` for memory when a text comes.
+    pub fn new(alloc: A) -> Self
+    where
+        A: Copy,
+        ensures { result ≡ [] }
+    {
+        StringInterner {
+            texts: Vec::new(alloc),
+            index: Index::new(alloc),
+        }
+    }
+
+    /// The number of texts. Constant time.
+    #[inline]
+    pub fn len(&self) -> usize
+        ensures value { result ≡ length self.now }
+        ensures most { length self.now ≤ 2 ^ 32 }
+        ensures distinct { AreDistinctTexts self.now }
+    {
+        self.texts.len()
+    }
+
+    /// Whether there is no text. Constant time.
+    #[inline]
+    pub fn is_empty(&self) -> bool
+        ensures { result ≡ (length self.now == 0) }
+    {
+        self.len() == 0
+    }
+
+    /// The symbol of a text, if it is there. It compares at most as many texts as the number of texts has
+    /// binary digits.
+    pub fn get(&self, text: &str) -> Option<Sym>
+        ensures { result ≡ symbol_of self.now text.now }
+    {
+        self.get_counted(text, &mut Steps::new())
+    }
+
+    /// As [`get`](StringInterner::get), and counts the texts that it compares.
+    ///
+    /// The counter isn't above 2^63.
+    pub fn get_counted(&self, text: &str, steps: &mut Steps) -> Option<Sym>
+        requires { steps.old ≤ 2 ^ 63 }
+        ensures symbol { result ≡ symbol_of self.now text.now }
+        ensures few_steps { steps.new ≤ steps.old + digits (length self.now) }
+        ensures some_steps { 0 < length self.now → steps.old < steps.new }
+    {
+        find(&self.index, &self.texts, text, steps).ok()
+    }
+
+    /// The symbol of a text. A text that isn't there is copied, and its symbol is the number of texts
+    /// before.
+    ///
+    /// For a text that is there nothing is copied or allocated, and it isn't refused. For a new one it
+    /// fails with `NotEnoughKeys` if there are 2^32 texts, and then with `OutOfSystemMemory` if there is
+    /// no memory for it, or the clone of the allocator fails. After an error the interner is as before.
+    /// A search, and for a new text also linear in the number of texts.
+    #[inline]
+    pub fn get_or_intern(&mut self, text: &str) -> Result<Sym, ArenaError>
+    where
+        A: Clone,
+        ensures there { (symbol : ℕ) → symbol_of self.old text.now ≡ Some symbol
+            → (result ≡ Ok symbol) × (self.new ≡ self.old) }
+        ensures new { symbol_of self.old text.now ≡ None → IfOk result (λ symbol.
+            (symbol ≡ length self.old) × (self.new ≡ self.old ++ text.now ∷ [])) }
+        ensures no_symbol { IsErrOf result ArenaError.NotEnoughKeys
+            ↔ ((symbol_of self.old text.now ≡ None) × (2 ^ 32 ≤ length self.old)) }
+        ensures errors { IfErr result (λ error. (error ≡ ArenaError.NotEnoughKeys)
+            ⊎ (error ≡ ArenaError.OutOfSystemMemory)) }
+        ensures err { OnErr result (self.new ≡ self.old) }
+    {
+        self.get_or_intern_with_hint(text, InternHint::None)
+    }
+
+    /// As [`get_or_intern`](StringInterner::get_or_intern), whatever the hint says.
+    pub fn get_or_intern_with_hint(
+        &mut self,
+        text: &str,
+        _hint: InternHint,
+    ) -> Result<Sym, ArenaError>
+    where
+        A: Clone,
+        ensures there { (symbol : ℕ) → symbol_of self.old text.now ≡ Some symbol
+            → (result ≡ Ok symbol) × (self.new ≡ self.old) }
+        ensures new { symbol_of self.old text.now ≡ None → IfOk result (λ symbol.
+            (symbol ≡ length self.old) × (self.new ≡ self.old ++ text.now ∷ [])) }
+        ensures no_symbol { IsErrOf result ArenaError.NotEnoughKeys
+            ↔ ((symbol_of self.old text.now ≡ None) × (2 ^ 32 ≤ length self.old)) }
+        ensures errors { IfErr result (λ error. (error ≡ ArenaError.NotEnoughKeys)
+            ⊎ (error ≡ ArenaError.OutOfSystemMemory)) }
+        ensures err { OnErr result (self.new ≡ self.old) }
+    {
+        let rank = match find(&self.index, &self.texts, text, &mut Steps::new()) {
+            Ok(symbol) => return Ok(symbol),
+            Err(rank) => rank,
+        };
+        let Ok(number) = u32::try_from(self.texts.len()) else {
+            return Err(ArenaError::NotEnoughKeys);
+        };
+        let symbol = Sym::from_u32(number);
+        self.index.reserve()?;
+        self.texts.reserve(1)?;
+        let copy = String::from_str(self.texts.allocator().clone()?, text)?;
+        self.index.insert(rank, symbol);
+        self.texts.push_reserved(copy);
+        Ok(symbol)
+    }
+
+    /// The text of a symbol, or `None` if its number isn't below that of the texts. Constant time.
+    #[inline]
+    pub fn resolve(&self, symbol: Sym) -> Option<&str>
+        ensures { option_copied result ≡ slice_get self.now symbol }
+    {
+        match self.texts.get(symbol.into_usize()) {
+            Some(text) => Some(text.as_str()),
+            None => None,
+        }
+    }
+}
+
+impl<A: Allocator + Clone> StringInterner<A> {
+    /// The same texts under the same symbols, over clones of the allocator. Linear.
+    ///
+    /// Fails with `OutOfSystemMemory` if there is no memory for them, or the clone of an allocator fails.
+    pub fn clone(&self) -> Result<Self, ArenaError>
+        ensures texts { IfOk result (λ other. other ≡ self.now) }
+        ensures errors { IsOkUnless result ArenaError.OutOfSystemMemory }
+    {
+        Ok(StringInterner {
+            texts: self.texts.clone()?,
+            index: self.index.clone()?,
+        })
+    }
+}
+
+/// Equal where the lists of texts are.
+impl<A: Allocator> PartialEq for StringInterner<A> {
+    ghost eq = { pointwise bytes_eq };
+
+    ghost laws = { lists_per texts_per };
+
+    fn eq(&self, other: &Self) -> bool {
+        self.texts == other.texts
+    }
+}
+
+impl<A: Allocator> Eq for StringInterner<A> {
+    ghost laws = { lists_equiv nat_list_eq_equiv };
+}
+
+/// A list of the texts, in the order of their symbols.
+impl<A: Allocator> Debug for StringInterner<A> {
+    fn fmt<W: Write>(&self, f: &mut Formatter<W>) -> fmt::Result {
+        let mut list = f.debug_list();
+        list.entries(&self.texts);
+        list.finish()
+    }
+}

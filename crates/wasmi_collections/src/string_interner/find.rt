@@ -1,0 +1,68 @@
+//! The search for a text in an interner.
+ghost use Rattle.std.specs.Prelude.{◌≡◌, ◌+◌, ◌<◌, ◌≤◌, ◌^◌, [], ◌∷◌, ◌++◌, List, length, map, IfOk, IfErr, None, Some, string_bytes};
+ghost use Rattle.std.specs.List.{All, insert};
+ghost use Rattle.wasmi_collections.specs.BinaryDigits.{digits};
+ghost use Rattle.wasmi_collections.specs.Interner.{symbol_of, AreDistinctTexts};
+ghost use Rattle.wasmi_collections.specs.TextIndex.{IsIndexOf, texts_of, orders_with};
+
+use super::index::Index;
+use super::{LenOrder, Probe, Steps, Sym, search};
+use std::alloc::Allocator;
+use std::cmp::Ordering;
+use std::mem;
+
+// The texts of an index by rank, to be compared with a text.
+#[derive(Drop)]
+struct TextProbe<'a, A: Allocator> {
+    index: &'a Index<A>,
+    texts: &'a Vec<String<A>, A>,
+    text: &'a str,
+    steps: Steps,
+    // Each symbol has a text.
+    ghost within: { All (λ symbol. symbol < length texts.now.items) index.now.symbols },
+}
+
+impl<A: Allocator> Probe for TextProbe<'_, A> {
+    ghost orders = { λ probe. orders_with probe.text.now (texts_of (map string_bytes probe.texts.now.items) probe.index.now.symbols) };
+
+    ghost looks = { λ probe. probe.steps };
+
+    fn look(&mut self, at: usize) -> Ordering {
+        self.steps.tick();
+        let symbol = self.index.at(at);
+        let text = self.texts[symbol.into_usize()].as_str();
+        LenOrder::new(text).cmp(&LenOrder::new(self.text))
+    }
+}
+
+// The symbol of a text, or as an error the rank that the text would have. One step for each text that it
+// is compared with.
+pub(super) fn find<A: Allocator>(
+    index: &Index<A>,
+    texts: &Vec<String<A>, A>,
+    text: &str,
+    steps: &mut Steps,
+) -> Result<Sym, usize>
+    requires indexed { IsIndexOf (map string_bytes texts.now.items) index.now.symbols }
+    requires distinct { AreDistinctTexts (map string_bytes texts.now.items) }
+    requires countable { steps.old ≤ 2 ^ 63 }
+    ensures there { IfOk result (λ symbol. symbol_of (map string_bytes texts.now.items) text.now ≡ Some symbol) }
+    ensures absent { IfErr result (λ rank. symbol_of (map string_bytes texts.now.items) text.now ≡ None) }
+    ensures rank { IfErr result (λ rank. (rank ≤ length index.now.symbols)
+        × IsIndexOf (map string_bytes texts.now.items ++ text.now ∷ []) (insert index.now.symbols rank (length texts.now.items))) }
+    ensures few_steps { steps.new ≤ steps.old + digits (length texts.now.items) }
+    ensures some_steps { 0 < length texts.now.items → steps.old < steps.new }
+{
+    let mut probe = TextProbe {
+        index,
+        texts,
+        text,
+        steps: mem::replace(steps, Steps::new()),
+    };
+    let found = search(texts.len(), &mut probe);
+    *steps = probe.steps;
+    match found {
+        Ok(rank) => Ok(index.at(rank)),
+        Err(rank) => Err(rank),
+    }
+}

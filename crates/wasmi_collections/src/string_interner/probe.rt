@@ -1,0 +1,51 @@
+//! A search by halves.
+ghost use Rattle.std.specs.Prelude.{◌≡◌, ℕ, ◌+◌, ◌-◌, ◌<◌, ◌≤◌, ◌^◌, List, length, Some, slice_get};
+ghost use Rattle.std.specs.declared.cmp.Ordering.{Ordering};
+ghost use Rattle.wasmi_collections.specs.BinaryDigits.{digits};
+ghost use Rattle.wasmi_collections.specs.Search.{IsSearchable, IsFound};
+
+use std::cmp::Ordering;
+
+/// A list that [`search`] looks into: it tells how the item at a place compares with what is searched.
+pub trait Probe {
+    /// How each item compares with what is searched, from the first to the last.
+    ghost orders: { Self → List Ordering };
+
+    /// How many times an item was looked at.
+    ghost looks: { Self → ℕ };
+
+    /// Compares the item at a place with what is searched: `Less` where the item is less.
+    fn look(&mut self, at: usize) -> Ordering
+        requires within { at < length (orders self.old) }
+        requires countable { looks self.old < 2 ^ 64 - 1 }
+        ensures order { slice_get (orders self.old) at ≡ Some result }
+        ensures kept { orders self.new ≡ orders self.old }
+        ensures counted { looks self.new ≡ looks self.old + 1 };
+}
+
+/// Searches a list of `len` items by halves.
+///
+/// Returns the place of the item that is `Equal`, or as an error the place where it belongs: the number
+/// of items that are `Less`. It looks at most as often as `len` has binary digits, so at 10 items of
+/// 1000.
+pub fn search<P: Probe>(len: usize, probe: &mut P) -> Result<usize, usize>
+    requires whole { len ≡ length (P.orders probe.old) }
+    requires in_order { IsSearchable (P.orders probe.old) }
+    requires countable { P.looks probe.old ≤ 2 ^ 63 }
+    ensures found { IsFound (P.orders probe.old) result }
+    ensures kept { P.orders probe.new ≡ P.orders probe.old }
+    ensures few_looks { P.looks probe.new ≤ P.looks probe.old + digits len }
+    ensures looked { 0 < len → P.looks probe.old < P.looks probe.new }
+{
+    let mut low = 0;
+    let mut high = len;
+    while low < high {
+        let middle = low + (high - low) / 2;
+        match probe.look(middle) {
+            Ordering::Less => low = middle + 1,
+            Ordering::Equal => return Ok(middle),
+            Ordering::Greater => high = middle,
+        }
+    }
+    Err(low)
+}
