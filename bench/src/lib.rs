@@ -4,5 +4,6 @@ pub mod chart;
 pub mod ours;
 pub mod plain;
 pub mod rows;
+pub mod tables;
 pub mod theirs;
 pub mod timing;

@@ -1,5 +1,10 @@
 //! The table of rows. A new row is a line here, and a function of its name on each side.
 
+use crate::tables::{
+    map_append, map_entry, map_get, map_insert, map_iter, set_contains, set_insert, set_iter,
+    set_union,
+};
+use crate::tables::{OrderedMap, OrderedSet, PlainTable, PlainTableSet, PlainTree, PlainTreeSet};
 use crate::{ours, plain, theirs};
 
 /// Does a row's work on `n` items so many times, and returns a checksum.
@@ -23,6 +28,10 @@ pub struct Row {
     pub ours: ExportedWork,
     pub theirs: Work,
     pub plain: Work,
+    /// The same row of the standard library's container on which the port's stands, as the port's library exports it.
+    pub kit: Option<ExportedWork>,
+    /// How many operations a measurement has.
+    pub operations: u64,
 }
 
 /// The numbers of items, each a power of two.
@@ -49,6 +58,38 @@ const fn row(
         ours,
         theirs,
         plain,
+        kit: None,
+        operations: 1 << 24,
+    }
+}
+
+// The same of a map or a set, whose operations take longer.
+const fn table(
+    name: &'static str,
+    round: Round,
+    ours: ExportedWork,
+    kit: ExportedWork,
+    theirs: Work,
+    plain: Work,
+) -> Row {
+    Row {
+        kit: Some(kit),
+        operations: 1 << 21,
+        ..row(name, round, ours, theirs, plain)
+    }
+}
+
+// The same of a walk, which is short beside the filling before it.
+const fn walk(
+    name: &'static str,
+    ours: ExportedWork,
+    kit: ExportedWork,
+    theirs: Work,
+    plain: Work,
+) -> Row {
+    Row {
+        operations: 1 << 24,
+        ..table(name, Round::Reads, ours, kit, theirs, plain)
     }
 }
 
@@ -78,4 +119,21 @@ pub const ROWS: &[Row] = &[
     row("`ComponentVec` get, random", Round::Reads, ours::wasmi_bench_component_get, theirs::component_get, plain::component_get),
     row("`HeadVec` push", Round::Fills, ours::wasmi_bench_head_push, theirs::head_push, plain::vec_push),
     row("`HeadVec` push and pop", Round::Reads, ours::wasmi_bench_head_push_pop, theirs::head_push_pop, plain::vec_push_pop),
+    table("Ordered `Map` insert", Round::Fills, ours::wasmi_bench_ordered_map_insert, ours::wasmi_bench_btree_map_insert, map_insert::<OrderedMap>, map_insert::<PlainTree>),
+    table("Ordered `Map` insert, ascending", Round::Fills, ours::wasmi_bench_ordered_map_append, ours::wasmi_bench_btree_map_append, map_append::<OrderedMap>, map_append::<PlainTree>),
+    table("Ordered `Map` get, random", Round::Reads, ours::wasmi_bench_ordered_map_get, ours::wasmi_bench_btree_map_get, map_get::<OrderedMap>, map_get::<PlainTree>),
+    walk("Ordered `Map` walk", ours::wasmi_bench_ordered_map_iter, ours::wasmi_bench_btree_map_iter, map_iter::<OrderedMap>, map_iter::<PlainTree>),
+    table("Ordered `Map` `entry` and `or_insert`, counting", Round::Fills, ours::wasmi_bench_ordered_map_entry, ours::wasmi_bench_btree_map_entry, map_entry::<OrderedMap>, map_entry::<PlainTree>),
+    table("Ordered `Set` insert", Round::Fills, ours::wasmi_bench_ordered_set_insert, ours::wasmi_bench_btree_set_insert, set_insert::<OrderedSet>, set_insert::<PlainTreeSet>),
+    table("Ordered `Set` contains, random", Round::Reads, ours::wasmi_bench_ordered_set_contains, ours::wasmi_bench_btree_set_contains, set_contains::<OrderedSet>, set_contains::<PlainTreeSet>),
+    walk("Ordered `Set` walk", ours::wasmi_bench_ordered_set_iter, ours::wasmi_bench_btree_set_iter, set_iter::<OrderedSet>, set_iter::<PlainTreeSet>),
+    walk("Ordered `Set` walk over a union", ours::wasmi_bench_ordered_set_union, ours::wasmi_bench_btree_set_union, set_union::<OrderedSet>, set_union::<PlainTreeSet>),
+    table("Hashed `Map` insert", Round::Fills, ours::wasmi_bench_hashed_map_insert, ours::wasmi_bench_hash_map_insert, map_insert::<PlainTable>, map_insert::<PlainTable>),
+    table("Hashed `Map` get, random", Round::Reads, ours::wasmi_bench_hashed_map_get, ours::wasmi_bench_hash_map_get, map_get::<PlainTable>, map_get::<PlainTable>),
+    walk("Hashed `Map` walk", ours::wasmi_bench_hashed_map_iter, ours::wasmi_bench_hash_map_iter, map_iter::<PlainTable>, map_iter::<PlainTable>),
+    table("Hashed `Map` `entry` and `or_insert`, counting", Round::Fills, ours::wasmi_bench_hashed_map_entry, ours::wasmi_bench_hash_map_entry, map_entry::<PlainTable>, map_entry::<PlainTable>),
+    table("Hashed `Set` insert", Round::Fills, ours::wasmi_bench_hashed_set_insert, ours::wasmi_bench_hash_set_insert, set_insert::<PlainTableSet>, set_insert::<PlainTableSet>),
+    table("Hashed `Set` contains, random", Round::Reads, ours::wasmi_bench_hashed_set_contains, ours::wasmi_bench_hash_set_contains, set_contains::<PlainTableSet>, set_contains::<PlainTableSet>),
+    walk("Hashed `Set` walk", ours::wasmi_bench_hashed_set_iter, ours::wasmi_bench_hash_set_iter, set_iter::<PlainTableSet>, set_iter::<PlainTableSet>),
+    walk("Hashed `Set` walk over a union", ours::wasmi_bench_hashed_set_union, ours::wasmi_bench_hash_set_union, set_union::<PlainTableSet>, set_union::<PlainTableSet>),
 ];

@@ -1,11 +1,8 @@
-//! Times a row on its three sides, which take turns.
+//! Times a row on its sides, which take turns.
 
 use crate::rows::{Round, Row};
 use std::hint::black_box;
 use std::time::Instant;
-
-// How many operations a measurement has.
-const OPERATIONS: u64 = 1 << 24;
 
 // How often each side is timed. The least time counts.
 const TURNS: usize = 7;
@@ -16,6 +13,8 @@ pub struct Times {
     pub ours: f64,
     pub theirs: f64,
     pub plain: f64,
+    /// Of the standard library's container on which the port's stands, where the row has it.
+    pub kit: Option<f64>,
 }
 
 impl Times {
@@ -25,6 +24,10 @@ impl Times {
 
     pub fn to_plain(&self) -> f64 {
         self.ours / self.plain
+    }
+
+    pub fn to_kit(&self) -> Option<f64> {
+        self.kit.map(|kit| self.ours / kit)
     }
 }
 
@@ -79,19 +82,23 @@ fn timed(work: impl Fn() -> u64) -> (f64, u64) {
 ///
 /// # Panics
 ///
-/// If the three sides differ in a checksum.
+/// If two sides differ in a checksum.
 pub fn time(row: &Row, n: u64) -> Times {
-    let rounds = OPERATIONS / n;
-    let (mut ours, mut theirs, mut plain) = (Side::UNTIMED, Side::UNTIMED, Side::UNTIMED);
+    let rounds = row.operations / n;
+    let [mut ours, mut theirs, mut plain, mut kit] = [Side::UNTIMED; 4];
     for turn in 0..=TURNS {
         ours.turn(|n, rounds| (row.ours)(n, rounds), n, rounds);
         theirs.turn(row.theirs, n, rounds);
         plain.turn(row.plain, n, rounds);
         assert_eq!(ours.checksums, theirs.checksums, "{} at {n}", row.name);
         assert_eq!(ours.checksums, plain.checksums, "{} at {n}", row.name);
+        if let Some(work) = row.kit {
+            kit.turn(|n, rounds| work(n, rounds), n, rounds);
+            assert_eq!(ours.checksums, kit.checksums, "{} at {n}", row.name);
+        }
         // The first turn only warms up: memory, caches and the processor's clock.
         if turn == 0 {
-            for side in [&mut ours, &mut theirs, &mut plain] {
+            for side in [&mut ours, &mut theirs, &mut plain, &mut kit] {
                 *side = Side::UNTIMED;
             }
         }
@@ -101,5 +108,6 @@ pub fn time(row: &Row, n: u64) -> Times {
         ours: of(ours),
         theirs: of(theirs),
         plain: of(plain),
+        kit: row.kit.map(|_| of(kit)),
     }
 }

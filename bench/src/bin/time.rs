@@ -4,7 +4,7 @@
 use std::{env, fs, process::ExitCode};
 use wasmi_bench_driver::chart::chart;
 use wasmi_bench_driver::rows::{ROWS, SIZES};
-use wasmi_bench_driver::timing::{settle_heap, time};
+use wasmi_bench_driver::timing::{settle_heap, time, Times};
 
 fn main() -> ExitCode {
     let Some(file) = env::args_os().nth(1) else {
@@ -19,7 +19,7 @@ fn main() -> ExitCode {
             entries.push((row.name, n, time(row, n)));
         }
     }
-    println!("| Row | Items | Port, ns | Rust crate, ns | `Vec`, ns | Port / Rust crate | Port / `Vec` |");
+    println!("| Row | Items | Port, ns | Rust crate, ns | Plain, ns | Port / Rust crate | Port / plain |");
     println!("|---|---|---|---|---|---|---|");
     for (name, n, times) in &entries {
         println!(
@@ -32,9 +32,25 @@ fn main() -> ExitCode {
             times.to_plain(),
         );
     }
+    print_beside_kit(&entries);
     if let Err(error) = fs::write(&file, chart(&entries)) {
         eprintln!("{}: {error}", file.to_string_lossy());
         return ExitCode::FAILURE;
     }
     ExitCode::SUCCESS
+}
+
+// The rows that stand on a container of the standard library that the port is built with, beside that container.
+fn print_beside_kit(entries: &[(&str, u64, Times)]) {
+    println!("\n| Row | Items | Port, ns | The kit's, ns | Port / the kit's |");
+    println!("|---|---|---|---|---|");
+    for (name, n, times) in entries {
+        if let (Some(kit), Some(ratio)) = (times.kit, times.to_kit()) {
+            let power = n.trailing_zeros();
+            println!(
+                "| {name} | 2^{power} | {:.2} | {kit:.2} | {ratio:.2} |",
+                times.ours
+            );
+        }
+    }
 }

@@ -2,6 +2,7 @@
 
 use crate::random::next_index;
 use std::alloc::Global;
+use std::mem::size_of;
 use wasmi_arena::{ArenaError, ArenaKey};
 use wasmi_dense::Arena;
 
@@ -107,4 +108,16 @@ pub fn iter_mut<Key: ArenaKey>(alloc: Global, n: u64, rounds: u64) -> Result<u64
         add_keys(&mut arena);
     }
     Ok(walk(&arena, sum))
+}
+
+/// How many items there is memory for once `n` are in.
+pub fn slots(alloc: Global, n: u64) -> Result<u64, ArenaError> {
+    let mut arena = Arena::<usize, u64>::new(alloc);
+    fill(&mut arena, n, 0)?;
+    let room = arena.room() as u64;
+    Ok(room.wrapping_add(arena.len() as u64))
+}
+
+pub fn size() -> u64 {
+    size_of::<Arena<usize, u64>>() as u64
 }

@@ -6,10 +6,16 @@
 #![tactic(auto)]
 
 mod arena_rows;
+mod btree_rows;
 mod component_rows;
 mod dense_rows;
+mod hash_rows;
+mod hashed_rows;
 mod head_rows;
+mod map_rows;
+mod ordered_rows;
 mod random;
+mod set_rows;
 mod vec_rows;
 
 use std::alloc::Global;
@@ -114,6 +120,18 @@ pub extern "C" fn wasmi_bench_dense_alloc(alloc: Global, n: u64, rounds: u64) ->
 #[unsafe(no_mangle)]
 pub extern "C" fn wasmi_bench_dense_alloc_many(alloc: Global, n: u64, rounds: u64) -> u64 {
     dense_rows::alloc_many::<usize>(alloc, n, rounds).unwrap_or(0)
+}
+
+/// The number of slots that an arena in one vector has after `n` items were put in one by one.
+#[unsafe(no_mangle)]
+pub extern "C" fn wasmi_bench_dense_slots(alloc: Global, n: u64) -> u64 {
+    dense_rows::slots(alloc, n).unwrap_or(0)
+}
+
+/// The bytes of an arena in one vector itself.
+#[unsafe(no_mangle)]
+pub extern "C" fn wasmi_bench_dense_size() -> u64 {
+    dense_rows::size()
 }
 
 /// Reads `n` items of an arena in one vector by their keys, which jump about.

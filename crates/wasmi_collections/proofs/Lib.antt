@@ -1,6 +1,7 @@
 mod BinaryDigits
 mod Dedup
 mod DedupRuns
+mod InternerRuns
 mod LastItem
 mod MapRuns
 mod Runs

@@ -1,13 +1,11 @@
 -- Facts on an interner's texts and on the index of them.
-use Rattle.std.proofs.Common.{◌≡◌, ◌≢◌, ℕ, zero, suc, ◌+◌, ◌<◌, ◌≤◌, Bool, true, false, cond, List, [], ◌∷◌, ◌++◌, length, map, take, drop, replicate, get_or, Option, Some, None, option_map, slice_get, string_bytes, position, ◌||◌, refl, sym, ap, subst, ◌∙◌, arith, Ordering, Less, Equal, Greater, IsPermutation}
-use Rattle.std.specs.Bool.{Decides}
-use Rattle.std.specs.Cmp.{IsTotalOrder}
-use Rattle.std.specs.List.{All, AllByRecursion, Contains, IsDistinct, insert, list_any, position_from, range_with_len}
+use Rattle.std.proofs.Common.{◌≡◌, ◌≢◌, ℕ, zero, suc, ◌+◌, ◌<◌, ◌≤◌, Bool, true, false, cond, List, [], ◌∷◌, ◌++◌, length, map, take, drop, replicate, get_or, Some, None, option_map, slice_get, string_bytes, ◌&&◌, ◌||◌, refl, sym, ap, subst, ◌∙◌, arith, Ordering, Less, Equal, Greater}
+use Rattle.std.specs.List.{All, AllByRecursion, AllZip, Contains, IsDistinct, insert, list_any, position_from, range_with_len}
 use Rattle.std.specs.List.Sorted.{IsStrictlySortedBy}
 use Rattle.std.specs.Ordering.{ordering_reverse}
 use Rattle.std.specs.Str.{bytes_eq}
 use Rattle.std.specs.declared.string.String.{String}
-use Rattle.std.specs.Cmp.Lexicographic.{nat_list_eq_equiv}
+use Rattle.std.specs.Cmp.Lexicographic.{pointwise, nat_list_eq_equiv}
 use Rattle.std.proofs.lemmas.Iterator.Adapters.{position_from-zero}
 use Rattle.std.proofs.lemmas.List.{get_or_append_left, get_or-map, get_or_push, length_push, length-append, length-map, length-replicate, take-map, drop-map, map-append}
 use Rattle.std.proofs.lemmas.List.Elements.{All-head, All-tail}
@@ -20,7 +18,7 @@ use Rattle.std.proofs.lemmas.Slice.Eq.{bytes_eq-Decides}
 use Rattle.wasmi_collections.specs.Interner.{symbol_of, AreDistinctTexts}
 use Rattle.wasmi_collections.specs.LenOrder.{len_cmp}
 use Rattle.wasmi_collections.specs.LenOrderLaws.{len_cmp_total, len_cmp-Equal}
-use Rattle.wasmi_collections.specs.Search.{IsSearchable, IsFound}
+use Rattle.wasmi_collections.specs.Search.{IsSearchable}
 use Rattle.wasmi_collections.specs.TextIndex.{IsIndexOf, texts_of, orders_with}
 
 -- y is greater than x where x is less
@@ -126,6 +124,38 @@ module _ (text : List ℕ) where
   symbol_of-Some texts s is =
       let found = position-Some (bytes_eq text) texts s [] is in
       slice_get-get_or texts s [] found.0 ∙ ap Some (sym ((bytes_eq-Decides text _).0 found.1))
+
+  -- a text that is added to those among which it isn't stands at their end
+  last_place : (i : ℕ) (texts : List (List ℕ)) → position_from (bytes_eq text) i texts ≡ None → position_from (bytes_eq text) i (texts ++ text ∷ []) ≡ Some (i + length texts)
+  last_place i [] none = rw passes_itself (ap Some (omega arith))
+  last_place i (x ∷ xs) none = next (bytes_eq text x) none (last_place (i + 1) xs)
+    where
+      next : (b : Bool) → cond b (Some i) (position_from (bytes_eq text) (i + 1) xs) ≡ None
+          → (position_from (bytes_eq text) (i + 1) xs ≡ None → position_from (bytes_eq text) (i + 1) (xs ++ text ∷ []) ≡ Some (i + 1 + length xs))
+          → cond b (Some i) (position_from (bytes_eq text) (i + 1) (xs ++ text ∷ [])) ≡ Some (i + suc (length xs))
+      next true none rest = absurd (none-some i (sym none))
+      next false none rest = rest none ∙ ap Some (omega arith)
+
+  pub symbol_of-last : (texts : List (List ℕ)) → symbol_of texts text ≡ None → symbol_of (texts ++ text ∷ []) text ≡ Some (length texts)
+  symbol_of-last texts absent =
+      position_from-zero (bytes_eq text) (texts ++ text ∷ [])
+      ∙ (last_place 0 texts (sym (position_from-zero (bytes_eq text) texts) ∙ absent) ∙ ap Some (omega arith))
+
+  -- and changes no symbol
+  kept_place : (other : List ℕ) (i : ℕ) (texts : List (List ℕ)) (s : ℕ) → position_from (bytes_eq other) i texts ≡ Some s → position_from (bytes_eq other) i (texts ++ text ∷ []) ≡ Some s
+  kept_place other i [] s is = absurd (none-some s is)
+  kept_place other i (x ∷ xs) s is = next (bytes_eq other x) is (kept_place other (i + 1) xs s)
+    where
+      next : (b : Bool) → cond b (Some i) (position_from (bytes_eq other) (i + 1) xs) ≡ Some s
+          → (position_from (bytes_eq other) (i + 1) xs ≡ Some s → position_from (bytes_eq other) (i + 1) (xs ++ text ∷ []) ≡ Some s)
+          → cond b (Some i) (position_from (bytes_eq other) (i + 1) (xs ++ text ∷ [])) ≡ Some s
+      next true is rest = is
+      next false is rest = rest is
+
+  pub symbol_of-push : (other : List ℕ) (texts : List (List ℕ)) (s : ℕ) → symbol_of texts other ≡ Some s → symbol_of (texts ++ text ∷ []) other ≡ Some s
+  symbol_of-push other texts s is =
+      position_from-zero (bytes_eq other) (texts ++ text ∷ [])
+      ∙ kept_place other 0 texts s (sym (position_from-zero (bytes_eq other) texts) ∙ is)
 
   -- a text that isn't there may be added
   pub AreDistinctTexts-push : (texts : List (List ℕ)) → AreDistinctTexts texts → symbol_of texts text ≡ None → AreDistinctTexts (texts ++ text ∷ [])
@@ -233,14 +263,14 @@ module _ (text : List ℕ) where
         let n = length texts in
         let range = range_with_len 0 n in
         let longer : range_with_len 0 (length (texts ++ text ∷ [])) ≡ range ++ n ∷ [] =
-            let long : length (texts ++ text ∷ []) ≡ suc n = omega (arith, length_push texts text) in
-            let last : 0 + n ≡ n = omega arith in
-            ap (range_with_len 0) long ∙ (range_push 0 n ∙ ap (λ m. range ++ m ∷ []) last) in record {
+        let long : length (texts ++ text ∷ []) ≡ suc n = omega (arith, length_push texts text) in
+        let last : 0 + n ≡ n = omega arith in
+        ap (range_with_len 0) long ∙ (range_push 0 n ∙ ap (λ m. range ++ m ∷ []) last) in record {
           complete = rw longer (
-            IsPermutation-trans (range ++ n ∷ []) (n ∷ range) (insert symbols less n) (IsPermutation-to_front range n)
-            (IsPermutation-trans (n ∷ range) (n ∷ symbols) (insert symbols less n) (IsPermutation-cons n range symbols is.complete) (IsPermutation-insert symbols less n)));
+              IsPermutation-trans (range ++ n ∷ []) (n ∷ range) (insert symbols less n) (IsPermutation-to_front range n)
+              (IsPermutation-trans (n ∷ range) (n ∷ symbols) (insert symbols less n) (IsPermutation-cons n range symbols is.complete) (IsPermutation-insert symbols less n)));
           ascending = rw (texts_of-insert (texts ++ text ∷ []) symbols less n, texts_kept texts symbols (symbols_within texts symbols is), get_or_push texts text [] n refl) (
-            ascending_insert less greater (texts_of texts symbols) orders is.ascending);
+              ascending_insert less greater (texts_of texts symbols) orders is.ascending);
         }
 
 pub IsIndexOf-nil : IsIndexOf [] []
@@ -250,3 +280,21 @@ IsIndexOf-nil = record { complete = IsPermutation-refl []; ascending = tt }
 pub AreDistinctTexts-nil : AreDistinctTexts []
 unfolding IsDistinct
 AreDistinctTexts-nil = tt
+
+-- ---- texts in memory
+
+module _ {Z : Type 0} where
+  -- clones of texts have their bytes
+  pub bytes_of_clones : (items clones : List (String Z)) → AllZip (λ (s t : String Z). string_bytes t ≡ string_bytes s) items clones → map string_bytes clones ≡ map string_bytes items
+  bytes_of_clones [] [] same = refl
+  bytes_of_clones [] (y ∷ ys) same = absurd same
+  bytes_of_clones (x ∷ xs) [] same = absurd same
+  bytes_of_clones (x ∷ xs) (y ∷ ys) same =
+      let rest = bytes_of_clones xs ys same.1 in λ i. same.0 i ∷ rest i
+
+  -- texts are equal where their bytes are
+  pub pointwise-bytes : (xs ys : List (String Z)) → pointwise (λ (s t : String Z). bytes_eq (string_bytes s) (string_bytes t)) xs ys ≡ pointwise bytes_eq (map string_bytes xs) (map string_bytes ys)
+  pointwise-bytes [] [] = refl
+  pointwise-bytes [] (y ∷ ys) = refl
+  pointwise-bytes (x ∷ xs) [] = refl
+  pointwise-bytes (x ∷ xs) (y ∷ ys) = ap (λ b. bytes_eq (string_bytes x) (string_bytes y) && b) (pointwise-bytes xs ys)

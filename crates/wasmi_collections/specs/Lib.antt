@@ -6,6 +6,7 @@ pub mod HeadVec
 pub mod HeadVecLaws
 pub mod HeadVecLend
 pub mod Interner
+pub mod InternerSteps
 pub mod LenOrder
 pub mod LenOrderLaws
 pub mod MapCalls

@@ -20,7 +20,9 @@ mod interner;
 
 use crate::HeadVec;
 use crate::run::{AnyMap, AnySet};
-pub use interner::{equal_in_length_order, length_order};
+pub use interner::{
+    equal_in_length_order, equal_symbols_of_equal_texts, interned_texts, length_order,
+};
 use std::cmp::Ordering;
 use std::hash::Hash;
 use wasmi_arena::ArenaKey;
@@ -63,6 +65,12 @@ pub fn sets_answer_alike<T, S: AnySet<T>, U: AnySet<T>>()
         → (one ≡ other) × SameElements S.eq (S.elements c) (U.elements d) }
 {}
 
+/// An order and an equality of one type say the same of equal keys, so that the two laws above hold of an
+/// ordered and a hashed map, and of an ordered and a hashed set.
+pub fn equal_keys_of_both<K: Ord>()
+    ensures { (x y : K) → eq_by_cmp K.cmp x y ≡ K.eq x y }
+{}
+
 /// In a run of a deduplicating arena, two values have one key exactly where they are equal, whatever was
 /// written under keys meanwhile, if all items weren't dropped between them.
 pub fn equal_values_share_a_key<Key: ArenaKey, T: Eq + Hash + Clone>()
@@ -72,10 +80,4 @@ pub fn equal_values_share_a_key<Key: ArenaKey, T: Eq + Hash + Clone>()
         → (i j : ℕ) (v w : T) (a b : Key) → i < j → NoneClears commands i j
         → HasKey commands replies i v a → HasKey commands replies j w b
         → (a ≡ b) ↔ IsTrue (T.eq v w) }
-{}
-
-/// An order and an equality of one type say the same of equal keys, so that the two laws above hold of an
-/// ordered and a hashed map, and of an ordered and a hashed set.
-pub fn equal_keys_of_both<K: Ord>()
-    ensures { (x y : K) → eq_by_cmp K.cmp x y ≡ K.eq x y }
 {}

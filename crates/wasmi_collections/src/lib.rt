@@ -7,7 +7,8 @@
 //! - [`ComponentVec`]: properties of the entities that an arena has, by key
 //! - [`HeadVec`]: a list with fast access to its last item
 //! - [`Map`], [`Set`]: a map and a set kept in the order of their keys; [`hashed`] has those that hash
-//! - [`run`]: lists of commands to any map and any set
+//! - [`StringInterner`]: a list of distinct texts, each under a symbol
+//! - [`run`]: lists of commands to any map and any set, and to an interner
 #![tactic(auto)]
 
 pub mod arena;
@@ -20,5 +21,6 @@ pub mod string_interner;
 
 pub use arena::{Arena, ComponentVec, DedupArena, StableArena, StableVec};
 pub use head_vec::HeadVec;
+pub use string_interner::StringInterner;
 pub use wasmi_hashed::hash;
 pub use wasmi_ordered::{Map, Set, map, set};

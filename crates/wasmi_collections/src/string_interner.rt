@@ -1,7 +1,10 @@
 //! Symbols of texts.
-ghost use Rattle.std.specs.Prelude.{ℕ, ◌≡◌, ◌+◌, ◌==◌, ◌<◌, ◌≤◌, ◌^◌, ◌↔◌, ◌⊎◌, [], ◌∷◌, ◌++◌, length, IfOk, IfErr, OnErr, IsErrOf, None, Some, Ok, option_copied, slice_get};
+ghost use Rattle.std.specs.Prelude.{ℕ, ◌≡◌, ◌+◌, ◌==◌, ◌<◌, ◌≤◌, ◌^◌, ◌↔◌, ◌⊎◌, [], ◌∷◌, ◌++◌, length, IfOk, IfErr, OnErr, IsErrOf, IsOkUnless, None, Some, Ok, option_copied, slice_get};
+ghost use Rattle.std.specs.Cmp.Lexicographic.{pointwise, lists_per, lists_equiv, nat_list_eq_equiv};
+ghost use Rattle.std.specs.Str.{bytes_eq};
 ghost use Rattle.wasmi_collections.specs.BinaryDigits.{digits};
 ghost use Rattle.wasmi_collections.specs.Interner.{symbol_of, AreDistinctTexts};
+ghost use Rattle.wasmi_collections.specs.LenOrderLaws.{texts_per};
 
 mod find;
 mod index;
@@ -14,6 +17,7 @@ use index::Index;
 pub use len_order::LenOrder;
 pub use probe::{Probe, search};
 use std::alloc::{Allocator, Global};
+use std::fmt::{self, Debug, Formatter, Write};
 use std::marker::Model;
 pub use steps::Steps;
 use wasmi_arena::ArenaError;
@@ -169,7 +173,7 @@ impl<A: Allocator> StringInterner<A> {
         ensures new { symbol_of self.old text.now ≡ None → IfOk result (λ symbol.
             (symbol ≡ length self.old) × (self.new ≡ self.old ++ text.now ∷ [])) }
         ensures no_symbol { IsErrOf result ArenaError.NotEnoughKeys
-            ↔ ((symbol_of self.old text.now ≡ None) × (length self.old ≡ 2 ^ 32)) }
+            ↔ ((symbol_of self.old text.now ≡ None) × (2 ^ 32 ≤ length self.old)) }
         ensures errors { IfErr result (λ error. (error ≡ ArenaError.NotEnoughKeys)
             ⊎ (error ≡ ArenaError.OutOfSystemMemory)) }
         ensures err { OnErr result (self.new ≡ self.old) }
@@ -190,7 +194,7 @@ impl<A: Allocator> StringInterner<A> {
         ensures new { symbol_of self.old text.now ≡ None → IfOk result (λ symbol.
             (symbol ≡ length self.old) × (self.new ≡ self.old ++ text.now ∷ [])) }
         ensures no_symbol { IsErrOf result ArenaError.NotEnoughKeys
-            ↔ ((symbol_of self.old text.now ≡ None) × (length self.old ≡ 2 ^ 32)) }
+            ↔ ((symbol_of self.old text.now ≡ None) × (2 ^ 32 ≤ length self.old)) }
         ensures errors { IfErr result (λ error. (error ≡ ArenaError.NotEnoughKeys)
             ⊎ (error ≡ ArenaError.OutOfSystemMemory)) }
         ensures err { OnErr result (self.new ≡ self.old) }
@@ -220,5 +224,44 @@ impl<A: Allocator> StringInterner<A> {
             Some(text) => Some(text.as_str()),
             None => None,
         }
+    }
+}
+
+impl<A: Allocator + Clone> StringInterner<A> {
+    /// The same texts under the same symbols, over clones of the allocator. Linear.
+    ///
+    /// Fails with `OutOfSystemMemory` if there is no memory for them, or the clone of an allocator fails.
+    pub fn clone(&self) -> Result<Self, ArenaError>
+        ensures texts { IfOk result (λ other. other ≡ self.now) }
+        ensures errors { IsOkUnless result ArenaError.OutOfSystemMemory }
+    {
+        Ok(StringInterner {
+            texts: self.texts.clone()?,
+            index: self.index.clone()?,
+        })
+    }
+}
+
+/// Equal where the lists of texts are.
+impl<A: Allocator> PartialEq for StringInterner<A> {
+    ghost eq = { pointwise bytes_eq };
+
+    ghost laws = { lists_per texts_per };
+
+    fn eq(&self, other: &Self) -> bool {
+        self.texts == other.texts
+    }
+}
+
+impl<A: Allocator> Eq for StringInterner<A> {
+    ghost laws = { lists_equiv nat_list_eq_equiv };
+}
+
+/// A list of the texts, in the order of their symbols.
+impl<A: Allocator> Debug for StringInterner<A> {
+    fn fmt<W: Write>(&self, f: &mut Formatter<W>) -> fmt::Result {
+        let mut list = f.debug_list();
+        list.entries(&self.texts);
+        list.finish()
     }
 }

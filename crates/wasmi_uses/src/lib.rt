@@ -1,8 +1,10 @@
 //! Callers of the containers, as someone would write them, each proved from the public contracts alone.
 #![tactic(auto)]
 
+pub mod constants;
 pub mod define;
 pub mod frames;
+pub mod linker;
 pub mod properties;
 pub mod reserve;
 pub mod search;

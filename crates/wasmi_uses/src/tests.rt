@@ -2,6 +2,7 @@
 
 use crate::define::define;
 use crate::frames::tail_call;
+use crate::linker::{export, import};
 use crate::properties::set_once;
 use crate::reserve::put_both;
 use crate::search::position_of;
@@ -11,7 +12,8 @@ use crate::tables::{add_once, reset};
 use crate::write::put_or_alloc;
 use std::test::Fail;
 use wasmi_arena::{StableArena, StableVec};
-use wasmi_collections::{HeadVec, hashed, ordered};
+use wasmi_collections::string_interner::Sym;
+use wasmi_collections::{HeadVec, StringInterner, hashed, ordered};
 use wasmi_dense::{Arena, ComponentVec};
 use wasmi_ordered::Map;
 
@@ -127,5 +129,16 @@ fn names_are_defined_once(rt: HostRuntime) -> Result<(), Fail> {
     assert_eq!(rt; define(&mut scattered, 1, "one")?, 1);
     assert_eq!(rt; define(&mut scattered, 1, "uno")?, 1);
     assert_eq!(rt; scattered.get(&1), Some(&"one"));
+    Ok(())
+}
+
+#[test]
+fn a_name_is_exported_once(rt: HostRuntime) -> Result<(), Fail> {
+    let mut names = StringInterner::new(rt.alloc());
+    for (name, was_new) in [("memory", true), ("table", true), ("memory", false), ("", true)] {
+        assert_eq!(rt; export(&mut names, name)?, was_new, "of {name}");
+    }
+    assert_eq!(rt; import(&names, "table"), Some(Sym::from_u32(1)));
+    assert_eq!(rt; import(&names, "global"), None);
     Ok(())
 }

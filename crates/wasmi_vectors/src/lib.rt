@@ -6,6 +6,8 @@ mod components;
 #[cfg(test)]
 mod counted;
 #[cfg(test)]
+mod dedup;
+#[cfg(test)]
 mod dense;
 #[cfg(test)]
 mod dense_memory;
@@ -19,6 +21,8 @@ mod head_vec;
 mod heap;
 #[cfg(test)]
 mod memory;
+#[cfg(test)]
+mod interner;
 pub mod observed;
 #[cfg(test)]
 mod ordered_memory;

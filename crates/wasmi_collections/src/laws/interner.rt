@@ -1,9 +1,14 @@
-//! Laws of the length order and of the interner.
-ghost use Rattle.std.specs.Prelude.{◌≡◌, ◌↔◌, ◌<◌, ℕ, List, length, IsTrue};
+//! Laws of the length order, of interned texts and of runs of an interner.
+ghost use Rattle.std.specs.Prelude.{◌≡◌, ◌↔◌, ◌<◌, ℕ, List, length, map, IsTrue, Some, slice_get};
 ghost use Rattle.std.specs.Cmp.{IsTotalOrder};
 ghost use Rattle.std.specs.Cmp.Lexicographic.{slice_cmp};
 ghost use Rattle.std.specs.Ordering.{nat_cmp};
+ghost use Rattle.wasmi_collections.specs.Interner.{symbol_of, Interns};
+ghost use Rattle.wasmi_collections.specs.InternerSteps.{InternStep, text_to_intern};
 ghost use Rattle.wasmi_collections.specs.LenOrder.{len_cmp, text_of};
+ghost use Rattle.wasmi_collections.specs.Runs.{IsRun};
+ghost use Rattle.wasmi_collections.specs.declared.run.interner.InternCommand.{InternCommand};
+ghost use Rattle.wasmi_collections.specs.declared.run.interner.InternReply.{InternReply};
 
 use crate::string_interner::LenOrder;
 use std::cmp::Ordering;
@@ -23,3 +28,26 @@ pub fn equal_in_length_order(a: &LenOrder, b: &LenOrder) -> bool
 {
     a == b
 }
+
+/// The symbol of an interned text resolves to the text, and interning the text again gives the same symbol
+/// and adds nothing.
+pub fn interned_texts()
+    ensures resolves { (old : List (List ℕ)) (text : List ℕ) (symbol : ℕ) (new : List (List ℕ))
+        → Interns old text symbol new → slice_get new symbol ≡ Some text }
+    ensures again { (old : List (List ℕ)) (text : List ℕ) (symbol : ℕ) (new : List (List ℕ))
+        (other : ℕ) (newer : List (List ℕ)) → Interns old text symbol new → Interns new text other newer
+        → (other ≡ symbol) × (newer ≡ new) }
+{}
+
+/// Of two commands of a run that intern texts, and that were replied to with symbols, the symbols are equal
+/// exactly where the texts are.
+pub fn equal_symbols_of_equal_texts()
+    ensures { (old : List (List ℕ)) (commands : List InternCommand) (replies : List InternReply)
+        (new : List (List ℕ)) → IsRun InternStep (λ texts. texts) old commands replies new
+        → (i j : ℕ) (one other : List ℕ) (s t : ℕ)
+        → slice_get (map text_to_intern commands) i ≡ Some (Some one)
+        → slice_get (map text_to_intern commands) j ≡ Some (Some other)
+        → slice_get replies i ≡ Some (InternReply.Sym s)
+        → slice_get replies j ≡ Some (InternReply.Sym t)
+        → (s ≡ t) ↔ (one ≡ other) }
+{}

@@ -9,11 +9,11 @@ invariant_of-self-2 g c =
     let ranks = c.in-Err.ensures.rank in
     let items : c.push_reserved.new.self.items ≡ before ++ c.in_ok-copy.copy ∷ [] = cc in
     let texts = ap (map (string_bytes {Z = g.row.A.Denot})) items
-        ∙ (map-append string_bytes before (c.in_ok-copy.copy ∷ []) ∙ (λ i. map string_bytes before ++ c.in_ok-copy.ensures.ok i ∷ [])) in
+    ∙ (map-append string_bytes before (c.in_ok-copy.copy ∷ []) ∙ (λ i. map string_bytes before ++ c.in_ok-copy.ensures.ok i ∷ [])) in
     let small = c.in-Ok-try_from.ensures in
     let number : c.from_u32-symbol.result ≡ length before = omega (arith, c.from_u32-symbol.ensures, small.1, c.len.ensures) in
     let symbols : c.insert.new.self.symbols ≡ insert c.self.inside.index.symbols c.in-Err.rank (length before) =
-        c.insert.ensures ∙ (λ i. insert (c.in_ok-reserve.ensures.symbols i) c.in-Err.rank (number i)) in
+    c.insert.ensures ∙ (λ i. insert (c.in_ok-reserve.ensures.symbols i) c.in-Err.rank (number i)) in
     rw (texts, symbols) (
       AreDistinctTexts-push c.args.text.now (map string_bytes before) c.self.invariant.0 c.in-Err.ensures.absent,
       ranks.1,

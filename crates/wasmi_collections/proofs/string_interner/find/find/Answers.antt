@@ -21,17 +21,16 @@ at-requires g c = place_within c.args.text.now _ c.args.index.now.symbols c.in-O
 pub returns-in-Ok-clause-there : goal.returns-in-Ok-clause-there
 returns-in-Ok-clause-there g c =
     symbol_of-at c.args.text.now _ c.at.result c.requires.distinct (
-      found_symbol _ c.args.index.now.symbols c.requires.indexed c.args.text.now c.in-Ok.rank c.at.result c.in-Ok.ensures.found c.at.ensures)
+    found_symbol _ c.args.index.now.symbols c.requires.indexed c.args.text.now c.in-Ok.rank c.at.result c.in-Ok.ensures.found c.at.ensures)
 
 pub returns-in-Err-clause-absent : goal.returns-in-Err-clause-absent
 returns-in-Err-clause-absent g c =
     symbol_of-nowhere c.args.text.now _ (
-      found_nowhere _ c.args.index.now.symbols c.requires.indexed c.args.text.now c.in-Err.rank c.in-Err.ensures.found.0 c.in-Err.ensures.found.1)
+    found_nowhere _ c.args.index.now.symbols c.requires.indexed c.args.text.now c.in-Err.rank c.in-Err.ensures.found.0 c.in-Err.ensures.found.1)
 
 pub returns-in-Err-clause-rank : goal.returns-in-Err-clause-rank
-returns-in-Err-clause-rank g c =
-    (
-      rank_within c.args.text.now _ c.args.index.now.symbols c.in-Err.rank c.in-Err.ensures.found.0 c.in-Err.ensures.found.1,
-      rw (← length-map c.args.texts.now.items (string_bytes {Z = g.row.A.Denot})) (
-        IsIndexOf-insert c.args.text.now _ c.args.index.now.symbols c.requires.indexed c.in-Err.rank c.in-Err.ensures.found.0 c.in-Err.ensures.found.1),
-    )
+returns-in-Err-clause-rank g c = (
+  rank_within c.args.text.now _ c.args.index.now.symbols c.in-Err.rank c.in-Err.ensures.found.0 c.in-Err.ensures.found.1,
+  rw (← length-map c.args.texts.now.items (string_bytes {Z = g.row.A.Denot})) (
+      IsIndexOf-insert c.args.text.now _ c.args.index.now.symbols c.requires.indexed c.in-Err.rank c.in-Err.ensures.found.0 c.in-Err.ensures.found.1),
+)

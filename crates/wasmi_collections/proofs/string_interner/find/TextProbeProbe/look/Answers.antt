@@ -1,4 +1,4 @@
-use Rattle.std.proofs.Common.{◌<◌, length, string_bytes, map, ap, arith, Some}
+use Rattle.std.proofs.Common.{◌<◌, length, string_bytes, map, arith}
 use Rattle.std.proofs.lemmas.Option.{get_or_from_slice_get, slice_get_within}
 use Rattle.wasmi_collections.proofs.TextIndex.{get_or-bytes, order_at}
 use Rattle.wasmi_collections.proofs.string_interner.find.TextProbeProbe.look.Goals as goal

@@ -1,0 +1,20 @@
+use Rattle.std.proofs.Common.{◌∙◌, length-append, arith, [], ◌∷◌}
+use Rattle.std.proofs.IntoIterSteps.{All-taken}
+use Rattle.wasmi_collections.specs.InternerSteps.{InternStep}
+use Rattle.wasmi_collections.proofs.Runs.{IsRun-append}
+use Rattle.wasmi_collections.proofs.run.interner.run_interner.Goals as goal
+
+pub loop-command-preserved : goal.loop-command-preserved
+loop-command-preserved g c =
+    let so_far = c.loop-command.invariant in
+    let goes_on = IsRun-append InternStep (λ texts. texts) _ _ _ _ _ _ _ so_far.0 c.perform.ensures in (
+      rw c.push_reserved.ensures.items goes_on,
+      c.push_reserved.ensures.len ∙ (let counted = so_far.1 in omega (arith, length-append c.loop-command.yielded (c.in-Some.command ∷ []))),
+      c.push_reserved.ensures.capacity ∙ so_far.2,
+    )
+
+pub returns-clause-run : goal.returns-clause-run
+returns-clause-run g c =
+    let all = All-taken c.into_iter-command-iterator.result c.loop-command.yielded (c.next.new.self, (c.loop-command.command-iterator, c.loop-command.yielded_by, c.in-None.ensures.steps)) in
+    let given = c.into_iter-command-iterator.ensures.into_iter_gives in
+    rw (← given.0, ← all) c.loop-command.invariant.0

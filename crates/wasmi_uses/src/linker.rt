@@ -1,0 +1,33 @@
+//! The names that modules export, each of which a linker takes once.
+ghost use Rattle.std.specs.Prelude.{◌≡◌, [], ◌∷◌, ◌++◌, length, not, true, false, is_some, IfOk, OnErr, Some};
+ghost use Rattle.wasmi_collections.specs.Interner.{symbol_of};
+
+use std::alloc::Allocator;
+use wasmi_arena::ArenaError;
+use wasmi_collections::StringInterner;
+use wasmi_collections::string_interner::Sym;
+
+/// Takes a name that a module exports, and returns whether no module exported it before. The symbols of
+/// the names before stay.
+pub fn export<A: Allocator + Clone>(
+    names: &mut StringInterner<A>,
+    name: &str,
+) -> Result<bool, ArenaError>
+    ensures was_new { IfOk result (λ was_new. was_new ≡ not (is_some (symbol_of names.old name.now))) }
+    ensures added { IfOk result (λ was_new. was_new ≡ true → names.new ≡ names.old ++ name.now ∷ []) }
+    ensures kept { IfOk result (λ was_new. was_new ≡ false → names.new ≡ names.old) }
+    ensures err { OnErr result (names.new ≡ names.old) }
+{
+    if names.get(name).is_some() {
+        return Ok(false);
+    }
+    names.get_or_intern(name)?;
+    Ok(true)
+}
+
+/// The symbol of a name that a module imports, if a module exports it.
+pub fn import<A: Allocator>(names: &StringInterner<A>, name: &str) -> Option<Sym>
+    ensures { result ≡ symbol_of names.now name.now }
+{
+    names.get(name)
+}

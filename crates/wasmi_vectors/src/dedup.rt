@@ -1,0 +1,225 @@
+//! Deduplicating arenas: the worked rows, and an allocator that refuses requests.
+use crate::observed::{Log, Observed};
+use crate::tiny::Tiny;
+use std::alloc::{AllocError, Allocator, Global};
+use std::fmt::Write;
+use std::hash::{Hash, Hasher};
+use std::test::Fail;
+use wasmi_arena::ArenaKey;
+use wasmi_collections::arena::{Arena, ArenaError, DedupArena};
+use wasmi_collections::run::{DedupCommand, DedupReply, run_dedup};
+
+// An item whose clone fails where the number is odd.
+#[derive(Debug, PartialEq, Eq, Hash, Drop)]
+struct Even(u32);
+
+impl Clone for Even {
+    fn clone(&self) -> Result<Self, AllocError> {
+        if self.0 % 2 == 0 {
+            Ok(Even(self.0))
+        } else {
+            Err(AllocError)
+        }
+    }
+}
+
+#[test]
+fn equal_values_have_one_key(rt: HostRuntime) -> Result<(), Fail> {
+    let mut arena: DedupArena<usize, &str> = DedupArena::new(rt.alloc());
+    let mut plain: Arena<usize, &str> = Arena::new(rt.alloc());
+    for round in 0..2usize {
+        for (nth, value) in ["a", "b", "c", "d"].iter().enumerate() {
+            assert_eq!(rt; arena.alloc(*value)?, nth);
+            assert_eq!(rt;
+                plain.alloc(*value)?,
+                nth.wrapping_add(round.wrapping_mul(4))
+            );
+        }
+    }
+    assert_eq!(rt; (arena.len(), plain.len()), (4, 8));
+    let mut made: DedupArena<usize, &str> = DedupArena::from_iter(rt.alloc(), ["a", "b", "a"])?;
+    assert_eq!(rt; (made.len(), made.alloc("a")?), (2, 0));
+    assert_eq!(rt;
+        (made.get(1), made.get(2)),
+        (Ok(&"b"), Err(ArenaError::KeyOutOfBounds))
+    );
+    Ok(())
+}
+
+#[test]
+fn writes_change_no_key(rt: HostRuntime) -> Result<(), Fail> {
+    let mut arena: DedupArena<usize, &str> = DedupArena::new(rt.alloc());
+    assert_eq!(rt; arena.alloc("x")?, 0);
+    *arena.get_mut(0)? = "y";
+    assert_eq!(rt; (arena.alloc("x")?, arena.alloc("y")?), (0, 1));
+    assert_eq!(rt;
+        (arena.get(0), arena.get(1), arena.len()),
+        (Ok(&"y"), Ok(&"y"), 2)
+    );
+    let index = arena.index();
+    assert_eq!(rt;
+        (index.len(), index.get(&"x"), index.get(&"y")),
+        (2, Some(&0), Some(&1))
+    );
+    for (_, item) in &mut arena {
+        *item = "z";
+    }
+    assert_eq!(rt;
+        (arena.alloc("x")?, arena.alloc("y")?, arena.alloc("z")?),
+        (0, 1, 2)
+    );
+    assert_eq!(rt; (arena.get(0), arena.get(1)), (Ok(&"z"), Ok(&"z")));
+    Ok(())
+}
+
+#[test]
+fn a_repeat_needs_no_key(rt: HostRuntime) -> Result<(), Fail> {
+    let mut arena: DedupArena<Tiny, &str> = DedupArena::from_iter(
+        rt.alloc(),
+        ["p", "q", "r", "s"],
+    )?;
+    assert_eq!(rt; arena.alloc("q").map(|key| key.into_usize()), Ok(1));
+    assert_eq!(rt; arena.alloc("t").err(), Some(ArenaError::NotEnoughKeys));
+    assert_eq!(rt; (arena.len(), arena.is_empty()), (4, false));
+    arena.clear();
+    assert_eq!(rt;
+        (
+            arena.alloc("t").map(|key| key.into_usize()),
+            arena.index().len()
+        ),
+        (Ok(0), 1)
+    );
+    let full: Result<DedupArena<Tiny, i32>, ArenaError> = DedupArena::from_iter(
+        rt.alloc(),
+        [0, 1, 0, 2, 3, 1, 4],
+    );
+    assert_eq!(rt; full.err(), Some(ArenaError::NotEnoughKeys));
+    Ok(())
+}
+
+#[test]
+fn commands_and_replies(rt: HostRuntime) -> Result<(), Fail> {
+    let mut arena: DedupArena<usize, &str> = DedupArena::new(rt.alloc());
+    let mut commands = Vec::new(rt.alloc());
+    let mut wanted = Vec::new(rt.alloc());
+    for (command, reply) in [
+        (DedupCommand::Alloc("x"), DedupReply::Key(0)),
+        (DedupCommand::Alloc("y"), DedupReply::Key(1)),
+        (DedupCommand::Put(0, "y"), DedupReply::Old("x")),
+        (DedupCommand::Alloc("x"), DedupReply::Key(0)),
+        (DedupCommand::Alloc("y"), DedupReply::Key(1)),
+        (DedupCommand::Has(2), DedupReply::Has(false)),
+        (
+            DedupCommand::Put(2, "z"),
+            DedupReply::Refused(ArenaError::KeyOutOfBounds),
+        ),
+        (DedupCommand::Clear, DedupReply::Done),
+        (DedupCommand::Alloc("y"), DedupReply::Key(0)),
+    ] {
+        commands.push(command)?;
+        wanted.push(reply)?;
+    }
+    assert!(rt; run_dedup(rt.alloc(), &mut arena, commands)? == wanted);
+    Ok(())
+}
+
+#[test]
+fn items_alone_are_compared(rt: HostRuntime) -> Result<(), Fail> {
+    let mut one: DedupArena<usize, i32> = DedupArena::from_iter(rt.alloc(), [1, 2])?;
+    let other: DedupArena<usize, i32> = DedupArena::from_iter(rt.alloc(), [7, 2])?;
+    assert!(rt; one != other);
+    *one.get_mut(0)? = 7;
+    assert!(rt; one == other);
+    let mut text = String::new(rt.alloc());
+    write!(text, "{one:?}")?;
+    assert_eq!(rt; text.as_str(), "{0: 7, 1: 2}");
+    Ok(())
+}
+
+// Whether the keys of 0, 1, .. are these numbers, and the items are those values.
+fn has_first<A: Allocator>(arena: &DedupArena<usize, u32, A>, len: u32) -> bool {
+    arena.len() == len as usize
+        && arena.index().len() == arena.len()
+        && (0..len).all(|value| {
+            let key = value as usize;
+            arena.index().get(&value) == Some(&key) && arena.get(key) == Ok(&value)
+        })
+}
+
+#[test]
+fn each_request_refused_in_turn(rt: HostRuntime) -> Result<(), Fail> {
+    for nth in 1..30 {
+        let log = Log::new();
+        {
+            let heap = Observed::new(rt.alloc(), &log);
+            let mut arena: DedupArena<usize, u32, &Observed<'_>> = DedupArena::new(&heap);
+            log.refuse_once(nth);
+            for value in 0..100u32 {
+                if let Err(error) = arena.alloc(value) {
+                    assert_eq!(rt; error, ArenaError::OutOfSystemMemory);
+                    assert!(rt; has_first(&arena, value), "at {nth}");
+                    assert_eq!(rt; arena.alloc(value)?, value as usize);
+                }
+            }
+            assert!(rt; has_first(&arena, 100), "at {nth}");
+            // What is there needs no memory.
+            log.refuse_from(1);
+            let asked = log.requests();
+            assert_eq!(rt; (arena.alloc(0), arena.alloc(99)), (Ok(0), Ok(99)));
+            arena.clear();
+            assert_eq!(rt; (arena.alloc(5), log.requests()), (Ok(0), asked));
+        }
+        assert_eq!(rt; (log.returned(), log.misplaced()), (log.given(), 0));
+    }
+    Ok(())
+}
+
+#[test]
+fn a_refused_clone_changes_nothing(rt: HostRuntime) -> Result<(), Fail> {
+    let mut arena: DedupArena<usize, Even> = DedupArena::from_iter(rt.alloc(), [Even(0), Even(2)])?;
+    assert_eq!(rt; arena.alloc(Even(1)), Err(ArenaError::OutOfSystemMemory));
+    assert_eq!(rt;
+        (
+            arena.len(),
+            arena.index().len(),
+            arena.index().get(&Even(1))
+        ),
+        (2, 2, None)
+    );
+    assert_eq!(rt; (arena.alloc(Even(2))?, arena.alloc(Even(4))?), (1, 2));
+    Ok(())
+}
+
+// The first request of a run is for the replies, the second for the first item.
+#[test]
+fn a_run_goes_on_after_a_refusal(rt: HostRuntime) -> Result<(), Fail> {
+    for nth in 1..3 {
+        let log = Log::new();
+        {
+            let heap = Observed::new(rt.alloc(), &log);
+            let mut arena: DedupArena<usize, u32, &Observed<'_>> = DedupArena::new(&heap);
+            let mut commands = Vec::new(&heap);
+            commands.push(DedupCommand::Alloc(3u32))?;
+            commands.push(DedupCommand::Alloc(3u32))?;
+            log.refuse_once(nth);
+            match run_dedup(&heap, &mut arena, commands) {
+                Err(error) => {
+                    assert_eq!(rt;
+                        (nth, error, arena.len()),
+                        (1, ArenaError::OutOfSystemMemory, 0)
+                    );
+                }
+                Ok(replies) => {
+                    let refused = DedupReply::Refused(ArenaError::OutOfSystemMemory);
+                    assert_eq!(rt;
+                        (nth, &replies[0], &replies[1]),
+                        (2, &refused, &DedupReply::Key(0))
+                    );
+                }
+            }
+            assert_eq!(rt; (arena.alloc(3)?, arena.len()), (0, 1));
+        }
+        assert_eq!(rt; (log.returned(), log.misplaced()), (log.given(), 0));
+    }
+    Ok(())
+}

@@ -1,0 +1,266 @@
+//! Interners: worked rows and runs, how many texts a search compares, and each request for memory refused
+//! in turn.
+use crate::observed::{Log, Observed};
+use std::alloc::{AllocError, Global};
+use std::test::Fail;
+use wasmi_arena::ArenaError;
+use wasmi_collections::StringInterner;
+use wasmi_collections::run::{InternCommand, InternReply, run_interner};
+use wasmi_collections::string_interner::{InternHint, LenOrder, Steps, Sym};
+
+const HINTS: [InternHint; 3] = [
+    InternHint::None,
+    InternHint::LikelyExists,
+    InternHint::LikelyNew,
+];
+
+#[test]
+fn five_texts_have_the_first_symbols(rt: HostRuntime) -> Result<(), Fail> {
+    let mut interner = StringInterner::new(rt.alloc());
+    assert!(rt; interner.is_empty());
+    for (text, number) in [("b", 0), ("a", 1), ("bb", 2), ("", 3), ("é", 4)] {
+        assert_eq!(rt; interner.get(text), None, "of {text}");
+        assert_eq!(rt; interner.get_or_intern(text)?, Sym::from_u32(number), "of {text}");
+        assert_eq!(rt; interner.get(text), Some(Sym::from_u32(number)), "of {text}");
+    }
+    for hint in HINTS {
+        assert_eq!(rt; interner.get_or_intern_with_hint("b", hint)?, Sym::from_u32(0));
+    }
+    assert_eq!(rt; (interner.len(), interner.is_empty()), (5, false));
+    assert_eq!(rt; interner.resolve(Sym::from_u32(4)), Some("é"));
+    assert_eq!(rt; interner.resolve(Sym::from_u32(5)), None);
+    assert_eq!(rt; interner.resolve(Sym::from_u32(u32::MAX)), None);
+    for text in ["", "a", "b", "c", "aa", "bb", "bc", "é", "zz", "bbb"] {
+        let mut steps = Steps::new();
+        assert_eq!(rt; interner.get_counted(text, &mut steps), interner.get(text));
+        assert!(rt; 1 <= steps.count() && steps.count() <= 3, "of {text}");
+    }
+    let text = format!(in rt.alloc(); "{interner:?}")?;
+    assert_eq!(rt; text.as_str(), "[\"b\", \"a\", \"bb\", \"\", \"é\"]");
+    Ok(())
+}
+
+#[test]
+fn shorter_texts_come_first(rt: HostRuntime) {
+    let ascending = ["", "a", "b", "bb", "é"];
+    for (i, a) in ascending.iter().enumerate() {
+        for (j, b) in ascending.iter().enumerate() {
+            let order = LenOrder::new(a).cmp(&LenOrder::new(b));
+            assert_eq!(rt; order, i.cmp(&j), "of {a} and {b}");
+        }
+    }
+    assert_eq!(rt; "é".as_bytes(), [0xc3, 0xa9].as_slice());
+    assert_eq!(rt; LenOrder::new("bb").as_str(), "bb");
+}
+
+// Symbols are numbers, in their order.
+#[test]
+fn symbols_are_numbers(rt: HostRuntime) {
+    for number in [0, 1, u32::MAX] {
+        let symbol = Sym::from_u32(number);
+        assert_eq!(rt; (symbol.into_u32(), symbol.into_usize()), (number, number as usize));
+        assert_eq!(rt; Sym::from_usize(number as usize), symbol);
+    }
+    assert!(rt; Sym::from_u32(2) < Sym::from_u32(10));
+    let mut steps = Steps::new();
+    steps.tick();
+    assert_eq!(rt; steps.count(), 1);
+}
+
+// An interner of one-letter texts, whose order isn't that of the letters.
+fn letters(alloc: Global, count: usize) -> Result<StringInterner, ArenaError> {
+    let mut interner = StringInterner::new(alloc);
+    for letter in ["h", "b", "p", "d", "n", "f", "l", "j"].iter().take(count) {
+        let _symbol = interner.get_or_intern(letter)?;
+    }
+    Ok(interner)
+}
+
+#[test]
+fn a_search_goes_by_halves(rt: HostRuntime) -> Result<(), Fail> {
+    for (count, most) in [(0, 0), (1, 1), (2, 2), (3, 2), (4, 3), (7, 3), (8, 4)] {
+        let interner = letters(rt.alloc(), count)?;
+        assert_eq!(rt; interner.len(), count);
+        let mut greatest = 0;
+        for text in [
+            "", "a", "b", "c", "d", "e", "f", "g", "h", "i", "j", "k", "l", "m", "n", "o", "p",
+            "q", "aa",
+        ] {
+            let mut steps = Steps::new();
+            let _symbol = interner.get_counted(text, &mut steps);
+            assert!(rt; count == 0 || 0 < steps.count(), "of {text}");
+            greatest = steps.count().max(greatest);
+        }
+        assert_eq!(rt; greatest, most, "among {count}");
+    }
+    Ok(())
+}
+
+fn commands(alloc: Global) -> Result<Vec<InternCommand>, AllocError> {
+    let b = String::from_str(alloc, "b")?;
+    let a = String::from_str(alloc, "a")?;
+    let again = String::from_str(alloc, "b")?;
+    let found = String::from_str(alloc, "a")?;
+    let absent = String::from_str(alloc, "c")?;
+    let commands = Vec::from_array(
+        alloc,
+        [
+            InternCommand::Intern(b, InternHint::LikelyNew),
+            InternCommand::Intern(a, InternHint::LikelyExists),
+            InternCommand::Intern(again, InternHint::LikelyNew),
+            InternCommand::Find(found),
+            InternCommand::Find(absent),
+            InternCommand::Len,
+            InternCommand::Intern(String::new(alloc), InternHint::None),
+        ],
+    )?;
+    Ok(commands)
+}
+
+#[test]
+fn a_run_replies_as_the_table_says(rt: HostRuntime) -> Result<(), Fail> {
+    let mut interner = StringInterner::new(rt.alloc());
+    let replies = run_interner(rt.alloc(), &mut interner, commands(rt.alloc())?)?;
+    let expected = [
+        InternReply::Sym(Sym::from_u32(0)),
+        InternReply::Sym(Sym::from_u32(1)),
+        InternReply::Sym(Sym::from_u32(0)),
+        InternReply::Found(Some(Sym::from_u32(1))),
+        InternReply::Found(None),
+        InternReply::Len(2),
+        InternReply::Sym(Sym::from_u32(2)),
+    ];
+    assert!(rt; replies.as_slice() == expected.as_slice());
+    assert_eq!(rt; interner.len(), 3);
+    Ok(())
+}
+
+const NAMES: [&str; 10] = [
+    "memory", "table", "", "global", "func", "start", "elem", "a", "data", "é",
+];
+
+// Whether the texts are so many of the names, from the first on.
+fn has_first(interner: &StringInterner<&Observed<'_>>, len: usize) -> bool {
+    let known = (0u32..).zip(NAMES).take(len).all(|(number, name)| {
+        let symbol = Sym::from_u32(number);
+        interner.get(name) == Some(symbol) && interner.resolve(symbol) == Some(name)
+    });
+    known && interner.len() == len
+}
+
+#[test]
+fn a_refused_text_changes_nothing(rt: HostRuntime) -> Result<(), Fail> {
+    let mut refusals = 0u64;
+    for nth in 1..30 {
+        let log = Log::new();
+        {
+            let handle = Observed::new(rt.alloc(), &log);
+            let mut interner = StringInterner::new(&handle);
+            log.refuse_once(nth);
+            for (len, name) in NAMES.into_iter().enumerate() {
+                if let Err(error) = interner.get_or_intern(name) {
+                    assert_eq!(rt; error, ArenaError::OutOfSystemMemory);
+                    assert_eq!(rt; interner.get(name), None);
+                    assert!(rt; has_first(&interner, len), "at {nth}");
+                    refusals = refusals.wrapping_add(1);
+                    let symbol = interner.get_or_intern_with_hint(name, InternHint::LikelyNew)?;
+                    assert_eq!(rt; symbol.into_usize(), len);
+                }
+            }
+            assert!(rt; has_first(&interner, 10), "at {nth}");
+            // What is there needs no memory, whatever the hint.
+            log.refuse_from(1);
+            for hint in HINTS {
+                let symbol = interner.get_or_intern_with_hint("global", hint);
+                assert_eq!(rt; symbol, Ok(Sym::from_u32(3)));
+            }
+            assert!(rt; interner.get_or_intern("import").is_err());
+            assert!(rt; has_first(&interner, 10), "at {nth}");
+        }
+        assert_eq!(rt; (log.returned(), log.misplaced()), (log.given(), 0));
+    }
+    // A block for each text that has a byte, and three for the growing index and for the growing texts.
+    assert!(rt; 9 < refusals && refusals < 29);
+    Ok(())
+}
+
+#[test]
+fn a_third_text_is_refused(rt: HostRuntime) -> Result<(), Fail> {
+    let log = Log::new();
+    let handle = Observed::new(rt.alloc(), &log);
+    let mut interner = StringInterner::new(&handle);
+    let _a = interner.get_or_intern("a")?;
+    let _b = interner.get_or_intern("b")?;
+    log.refuse_from(1);
+    assert_eq!(rt; interner.get_or_intern("c"), Err(ArenaError::OutOfSystemMemory));
+    assert_eq!(rt; (interner.get("c"), interner.len()), (None, 2));
+    log.refuse_none();
+    assert_eq!(rt; interner.get_or_intern("c")?, Sym::from_u32(2));
+    Ok(())
+}
+
+#[test]
+fn a_refused_clone_leaves_its_source(rt: HostRuntime) -> Result<(), Fail> {
+    let log = Log::new();
+    {
+        let handle = Observed::new(rt.alloc(), &log);
+        let mut interner = StringInterner::new(&handle);
+        for name in NAMES {
+            let _symbol = interner.get_or_intern(name)?;
+        }
+        let before = log.requests();
+        let mut copy = interner.clone()?;
+        let requests = log.requests().wrapping_sub(before);
+        assert!(rt; 9 < requests);
+        assert!(rt; copy == interner && has_first(&copy, 10));
+        let _more = copy.get_or_intern("import")?;
+        assert!(rt; copy != interner && has_first(&interner, 10));
+        for nth in 1..=requests {
+            log.refuse_once(nth);
+            let refused = interner.clone().err();
+            assert_eq!(rt; refused, Some(ArenaError::OutOfSystemMemory), "at {nth}");
+            assert!(rt; has_first(&interner, 10), "at {nth}");
+        }
+        assert!(rt; interner.clone()? == interner);
+    }
+    assert_eq!(rt; (log.returned(), log.misplaced()), (log.given(), 0));
+    Ok(())
+}
+
+#[test]
+fn a_run_without_room_for_replies_runs_nothing(rt: HostRuntime) -> Result<(), Fail> {
+    let log = Log::new();
+    let handle = Observed::new(rt.alloc(), &log);
+    let mut interner = StringInterner::new(rt.alloc());
+    let mut commands = Vec::new(&handle);
+    commands.push(InternCommand::Intern(
+        String::from_str(rt.alloc(), "a")?,
+        InternHint::None,
+    ))?;
+    commands.push(InternCommand::Len)?;
+    log.refuse_once(1);
+    let refused = run_interner(&handle, &mut interner, commands).err();
+    assert_eq!(rt; refused, Some(ArenaError::OutOfSystemMemory));
+    assert!(rt; interner.is_empty());
+    Ok(())
+}
+
+#[test]
+fn a_run_goes_on_after_a_refusal(rt: HostRuntime) -> Result<(), Fail> {
+    let log = Log::new();
+    let handle = Observed::new(rt.alloc(), &log);
+    let mut interner = StringInterner::new(&handle);
+    log.refuse_once(1);
+    let replies = run_interner(rt.alloc(), &mut interner, commands(rt.alloc())?)?;
+    let expected = [
+        InternReply::Refused(ArenaError::OutOfSystemMemory),
+        InternReply::Sym(Sym::from_u32(0)),
+        InternReply::Sym(Sym::from_u32(1)),
+        InternReply::Found(Some(Sym::from_u32(0))),
+        InternReply::Found(None),
+        InternReply::Len(2),
+        InternReply::Sym(Sym::from_u32(2)),
+    ];
+    assert!(rt; replies.as_slice() == expected.as_slice());
+    Ok(())
+}
