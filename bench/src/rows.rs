@@ -1,10 +1,13 @@
 //! The table of rows. A new row is a line here, and a function of its name on each side.
 
 use crate::tables::{
-    map_append, map_entry, map_get, map_insert, map_iter, set_contains, set_insert, set_iter,
-    set_union,
+    dedup_again, dedup_new, map_append, map_entry, map_get, map_insert, map_iter, set_contains,
+    set_insert, set_iter, set_union,
 };
-use crate::tables::{OrderedMap, OrderedSet, PlainTable, PlainTableSet, PlainTree, PlainTreeSet};
+use crate::tables::{
+    OrderedMap, OrderedSet, PlainDedup, PlainTable, PlainTableSet, PlainTree, PlainTreeSet,
+    RustDedup,
+};
 use crate::{ours, plain, theirs};
 
 /// Does a row's work on `n` items so many times, and returns a checksum.
@@ -63,7 +66,21 @@ const fn row(
     }
 }
 
-// The same of a map or a set, whose operations take longer.
+// The same, whose operations take longer.
+const fn long(
+    name: &'static str,
+    round: Round,
+    ours: ExportedWork,
+    theirs: Work,
+    plain: Work,
+) -> Row {
+    Row {
+        operations: 1 << 21,
+        ..row(name, round, ours, theirs, plain)
+    }
+}
+
+// The same of a map or a set.
 const fn table(
     name: &'static str,
     round: Round,
@@ -74,8 +91,7 @@ const fn table(
 ) -> Row {
     Row {
         kit: Some(kit),
-        operations: 1 << 21,
-        ..row(name, round, ours, theirs, plain)
+        ..long(name, round, ours, theirs, plain)
     }
 }
 
@@ -136,4 +152,6 @@ pub const ROWS: &[Row] = &[
     table("Hashed `Set` contains, random", Round::Reads, ours::wasmi_bench_hashed_set_contains, ours::wasmi_bench_hash_set_contains, set_contains::<PlainTableSet>, set_contains::<PlainTableSet>),
     walk("Hashed `Set` walk", ours::wasmi_bench_hashed_set_iter, ours::wasmi_bench_hash_set_iter, set_iter::<PlainTableSet>, set_iter::<PlainTableSet>),
     walk("Hashed `Set` walk over a union", ours::wasmi_bench_hashed_set_union, ours::wasmi_bench_hash_set_union, set_union::<PlainTableSet>, set_union::<PlainTableSet>),
+    long("`DedupArena` alloc, new values", Round::Fills, ours::wasmi_bench_dedup_alloc_new, dedup_new::<RustDedup>, dedup_new::<PlainDedup>),
+    long("`DedupArena` alloc, values that are there", Round::Reads, ours::wasmi_bench_dedup_alloc_again, dedup_again::<RustDedup>, dedup_again::<PlainDedup>),
 ];

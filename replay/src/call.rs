@@ -141,7 +141,7 @@ impl Call {
     }
 }
 
-fn number<N: FromStr>(words: &mut Split<'_, char>) -> Option<N> {
+pub fn number<N: FromStr>(words: &mut Split<'_, char>) -> Option<N> {
     words.next()?.parse().ok()
 }
 

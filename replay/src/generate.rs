@@ -4,13 +4,15 @@
 mod arena;
 mod component_vec;
 mod head_vec;
+mod tables;
 
 use crate::call::{Call, ItemCall};
 use crate::random::Random;
+use crate::table_call::TableCall;
 use std::fmt::Write;
 
 /// What a line `on ..` names.
-pub const CONTAINERS: [&str; 17] = [
+pub const CONTAINERS: [&str; 21] = [
     "stable_vec",
     "stable_arena u32",
     "stable_arena usize",
@@ -28,6 +30,10 @@ pub const CONTAINERS: [&str; 17] = [
     "component_vec non_zero_usize",
     "component_vec few",
     "head_vec",
+    "ordered_map",
+    "ordered_set",
+    "hashed_map",
+    "hashed_set",
 ];
 
 /// The first word of such a name.
@@ -38,6 +44,8 @@ enum Kind {
     Arena,
     ComponentVec,
     HeadVec,
+    Map,
+    Set,
 }
 
 impl Kind {
@@ -47,6 +55,8 @@ impl Kind {
             Some("arena") => Kind::Arena,
             Some("component_vec") => Kind::ComponentVec,
             Some("head_vec") => Kind::HeadVec,
+            Some("ordered_map" | "hashed_map") => Kind::Map,
+            Some("ordered_set" | "hashed_set") => Kind::Set,
             _ => Kind::StableVec,
         }
     }
@@ -112,6 +122,8 @@ pub fn generate(container: &str, seed: u64, calls: usize) -> String {
         len: 0,
         other_len: 0,
         pending: Vec::new(),
+        pending_tables: Vec::new(),
+        recent: Vec::new(),
         input: String::new(),
     };
     let mut left = calls;
@@ -134,12 +146,16 @@ struct Generator {
     kind: Kind,
     /// How many items there can be.
     most: usize,
-    /// How many items there are; of components, the extent.
+    /// How many items there are; of components, the extent; of maps and sets, no fewer than there are.
     len: usize,
     /// How many items the other container has.
     other_len: usize,
     /// The calls that come before another one is drawn, the last one first.
     pending: Vec<Call>,
+    /// The same of a map or a set.
+    pending_tables: Vec<TableCall>,
+    /// Some keys that were put in, of a map or a set.
+    recent: Vec<i64>,
     input: String,
 }
 
@@ -154,6 +170,8 @@ impl Generator {
         let target = target.min(self.most);
         (self.len, self.other_len) = (0, 0);
         self.pending.clear();
+        self.pending_tables.clear();
+        self.recent.clear();
         self.line(format_args!("on {container}"));
         for done in 1..calls {
             if done % CONTENT_EVERY == 0 {
@@ -162,6 +180,9 @@ impl Generator {
             } else if self.random.once_in(500) {
                 let bad = self.random.one_of(&BAD);
                 self.line(bad);
+            } else if matches!(self.kind, Kind::Map | Kind::Set) {
+                let call = self.table_call(target);
+                self.line(call);
             } else {
                 let call = self.call(target);
                 self.line(call);
@@ -184,6 +205,8 @@ impl Generator {
             Kind::Arena => self.arena_call(target),
             Kind::ComponentVec => self.component_call(target),
             Kind::HeadVec => self.head_call(target),
+            // `phase` draws those of maps and sets.
+            Kind::Map | Kind::Set => Call::Len,
         }
     }
 

@@ -8,9 +8,10 @@ mod compare;
 mod generate;
 mod public_calls;
 mod random;
+mod table_call;
 mod twin;
 
-use compare::{compare, Comparison};
+use compare::{compare, Comparison, Order};
 use generate::{generate, CONTAINERS};
 use public_calls::{Counts, TYPES};
 use std::env;
@@ -107,7 +108,7 @@ impl Run {
         let port = fs::read(&answers)?;
         let mut rust_crate = Vec::new();
         twin::answer(input, &mut rust_crate)?;
-        let comparison = compare(input, &port, &rust_crate);
+        let comparison = compare(input, &port, &rust_crate, Order::of(container));
         if comparison.differences == 0 {
             fs::remove_file(&calls)?;
             fs::remove_file(&answers)?;

@@ -26,16 +26,32 @@ const OTHER_HEAD_TEXT: &str =
     "the port's text is another (docs/DIFFERENCES.md, '`Debug` of `HeadVec`'); the driver makes that \
     from what a clone's `pop` gives";
 
+const OTHER_TABLE_TEXT: &str =
+    "the port's text is another (docs/DIFFERENCES.md, '`Debug` of `Map` and `Set`'); the driver makes that \
+    from a walk";
+
+const BORROWED: &str =
+    "the port takes a `&K` or a `&T` (docs/DIFFERENCES.md, 'look-ups of `Map` and `Set`')";
+
+const NO_INTO_KEY: &str =
+    "the port has none (docs/DIFFERENCES.md, '`VacantEntry::into_key` of a hashed map')";
+
+const NO_ENTRY_TEXT: &str = "the port has none (docs/DIFFERENCES.md, 'What was cut')";
+
 /// The calls of a type, and of its iterators.
 type Calls = &'static [(&'static str, Made)];
 
 /// Each type, with the first word by which a line `on ..` names it, and its calls.
-pub const TYPES: [(&str, &str, Calls); 5] = [
-    ("stable_vec", "StableVec", STABLE_VEC),
-    ("stable_arena", "StableArena", STABLE_ARENA),
-    ("arena", "Arena", ARENA),
-    ("component_vec", "ComponentVec", COMPONENT_VEC),
-    ("head_vec", "HeadVec", HEAD_VEC),
+pub const TYPES: [(&str, &str, Calls); 9] = [
+    ("stable_vec", "`StableVec`", STABLE_VEC),
+    ("stable_arena", "`StableArena`", STABLE_ARENA),
+    ("arena", "`Arena`", ARENA),
+    ("component_vec", "`ComponentVec`", COMPONENT_VEC),
+    ("head_vec", "`HeadVec`", HEAD_VEC),
+    ("ordered_map", "ordered `Map`", ORDERED_MAP),
+    ("ordered_set", "ordered `Set`", SET),
+    ("hashed_map", "hashed `Map`", HASHED_MAP),
+    ("hashed_set", "hashed `Set`", SET),
 ];
 
 const STABLE_VEC: Calls = &[
@@ -156,6 +172,189 @@ const HEAD_VEC: Calls = &[
     ("`Send`, `Sync`", Never(CUT)),
 ];
 
+/// The lines that ask for an entry.
+const ENTRIES: &[&str] = &[
+    "entry",
+    "entry_key",
+    "or_insert",
+    "or_insert_with",
+    "or_insert_with_key",
+    "or_default",
+    "and_modify",
+    "occupied_get_mut",
+    "occupied_insert",
+    "occupied_into_mut",
+    "occupied_remove",
+    "occupied_remove_entry",
+    "vacant_insert",
+    "vacant_into_key",
+];
+
+const ORDERED_MAP: Calls = &[
+    ("`new`", By(&["on"])),
+    ("`clear`", By(&["clear"])),
+    ("`len`", By(&["len"])),
+    ("`is_empty`", By(&["is_empty"])),
+    ("`reserve`", By(&["reserve"])),
+    ("`contains_key`", By(&["contains_key"])),
+    ("`get`", By(&["get"])),
+    ("`get_key_value`", By(&["get_key_value"])),
+    ("`get_mut`", By(&["get_mut"])),
+    ("`map[&key]`", By(&["index"])),
+    ("`insert`", By(&["insert"])),
+    ("`remove`", By(&["remove"])),
+    ("`remove_entry`", By(&["remove_entry"])),
+    ("`retain`", By(&["retain"])),
+    ("`iter`, its `next` and `len`", By(&["iter"])),
+    ("`keys`, its `next` and `len`", By(&["keys"])),
+    ("`values`, its `next` and `len`", By(&["values"])),
+    ("`iter_mut`, its `next` and `len`", By(&["iter_mut"])),
+    ("`values_mut`, its `next` and `len`", By(&["values_mut"])),
+    ("`into_iter`, its `next` and `len`", By(&["into_iter"])),
+    ("`into_keys`, its `next` and `len`", By(&["into_keys"])),
+    ("`into_values`, its `next` and `len`", By(&["into_values"])),
+    ("`for` over `&`", By(&["for"])),
+    ("`for` over `&mut`", By(&["for_mut"])),
+    ("`extend`", By(&["extend"])),
+    ("`extend` by reference", By(&["extend_ref"])),
+    ("`from_iter`", By(&["from_iter"])),
+    ("`clone`", By(&["clone"])),
+    ("`==`", By(&["eq"])),
+    ("`entry`", By(ENTRIES)),
+    ("`Entry::key`", By(&["entry_key"])),
+    ("`Entry::or_insert`", By(&["or_insert", "and_modify"])),
+    ("`Entry::or_insert_with`", By(&["or_insert_with"])),
+    ("`Entry::or_insert_with_key`", By(&["or_insert_with_key"])),
+    ("`Entry::or_default`", By(&["or_default"])),
+    ("`Entry::and_modify`", By(&["and_modify"])),
+    (
+        "`OccupiedEntry::key`, `get`; `VacantEntry::key`",
+        By(&["entry"]),
+    ),
+    ("`OccupiedEntry::get_mut`", By(&["occupied_get_mut"])),
+    ("`OccupiedEntry::insert`", By(&["occupied_insert"])),
+    ("`OccupiedEntry::into_mut`", By(&["occupied_into_mut"])),
+    ("`OccupiedEntry::remove`", By(&["occupied_remove"])),
+    (
+        "`OccupiedEntry::remove_entry`",
+        By(&["occupied_remove_entry"]),
+    ),
+    ("`VacantEntry::insert`", By(&["vacant_insert"])),
+    ("`VacantEntry::into_key`", By(&["vacant_into_key"])),
+    ("`default`", Never(CUT)),
+    ("look-ups by a `&Q`", Never(BORROWED)),
+    ("`Debug`", Never(OTHER_TABLE_TEXT)),
+    ("`Debug` of an entry", Never(NO_ENTRY_TEXT)),
+    (
+        "`size_hint`, `Clone` and `Debug` of an iterator",
+        Never(CUT),
+    ),
+    ("`Send`, `Sync`", Never(CUT)),
+];
+
+const HASHED_MAP: Calls = &[
+    ("`new`", By(&["on"])),
+    ("`clear`", By(&["clear"])),
+    ("`len`", By(&["len"])),
+    ("`is_empty`", By(&["is_empty"])),
+    ("`reserve`", By(&["reserve"])),
+    ("`contains_key`", By(&["contains_key"])),
+    ("`get`", By(&["get"])),
+    ("`get_key_value`", By(&["get_key_value"])),
+    ("`get_mut`", By(&["get_mut"])),
+    ("`map[&key]`", By(&["index"])),
+    ("`insert`", By(&["insert"])),
+    ("`remove`", By(&["remove"])),
+    ("`remove_entry`", By(&["remove_entry"])),
+    ("`retain`", By(&["retain"])),
+    ("`iter`, its `next` and `len`", By(&["iter"])),
+    ("`keys`, its `next` and `len`", By(&["keys"])),
+    ("`values`, its `next` and `len`", By(&["values"])),
+    ("`iter_mut`, its `next` and `len`", By(&["iter_mut"])),
+    ("`values_mut`, its `next` and `len`", By(&["values_mut"])),
+    ("`into_iter`, its `next` and `len`", By(&["into_iter"])),
+    ("`into_keys`, its `next` and `len`", By(&["into_keys"])),
+    ("`into_values`, its `next` and `len`", By(&["into_values"])),
+    ("`for` over `&`", By(&["for"])),
+    ("`for` over `&mut`", By(&["for_mut"])),
+    ("`extend`", By(&["extend"])),
+    ("`extend` by reference", By(&["extend_ref"])),
+    ("`from_iter`", By(&["from_iter"])),
+    ("`clone`", By(&["clone"])),
+    ("`==`", By(&["eq"])),
+    ("`entry`", By(ENTRIES)),
+    ("`Entry::key`", By(&["entry_key"])),
+    ("`Entry::or_insert`", By(&["or_insert", "and_modify"])),
+    ("`Entry::or_insert_with`", By(&["or_insert_with"])),
+    ("`Entry::or_insert_with_key`", By(&["or_insert_with_key"])),
+    ("`Entry::or_default`", By(&["or_default"])),
+    ("`Entry::and_modify`", By(&["and_modify"])),
+    (
+        "`OccupiedEntry::key`, `get`; `VacantEntry::key`",
+        By(&["entry"]),
+    ),
+    ("`OccupiedEntry::get_mut`", By(&["occupied_get_mut"])),
+    ("`OccupiedEntry::insert`", By(&["occupied_insert"])),
+    ("`OccupiedEntry::into_mut`", By(&["occupied_into_mut"])),
+    ("`OccupiedEntry::remove`", By(&["occupied_remove"])),
+    (
+        "`OccupiedEntry::remove_entry`",
+        By(&["occupied_remove_entry"]),
+    ),
+    ("`VacantEntry::insert`", By(&["vacant_insert"])),
+    ("`VacantEntry::into_key`", Never(NO_INTO_KEY)),
+    ("`default`", Never(CUT)),
+    ("look-ups by a `&Q`", Never(BORROWED)),
+    ("`Debug`", Never(OTHER_TABLE_TEXT)),
+    ("`Debug` of an entry", Never(NO_ENTRY_TEXT)),
+    (
+        "`size_hint`, `Clone` and `Debug` of an iterator",
+        Never(CUT),
+    ),
+    ("`Send`, `Sync`", Never(CUT)),
+];
+
+const SET: Calls = &[
+    ("`default`, as the port's `new`", By(&["on"])),
+    ("`clear`", By(&["clear"])),
+    ("`len`", By(&["len"])),
+    ("`is_empty`", By(&["is_empty"])),
+    ("`reserve`", By(&["reserve"])),
+    ("`contains`", By(&["contains"])),
+    ("`get`", By(&["get"])),
+    ("`insert`", By(&["insert"])),
+    ("`replace`", By(&["replace"])),
+    ("`remove`", By(&["remove"])),
+    ("`take`", By(&["take"])),
+    ("`retain`", By(&["retain"])),
+    ("`iter`, its `next` and `len`", By(&["iter"])),
+    ("`into_iter`, its `next` and `len`", By(&["into_iter"])),
+    ("`for` over `&`", By(&["for"])),
+    ("`extend`", By(&["extend"])),
+    ("`extend` by reference", By(&["extend_ref"])),
+    ("`from_iter`", By(&["from_iter"])),
+    ("`clone`", By(&["clone"])),
+    ("`==`", By(&["eq"])),
+    ("`is_subset`", By(&["is_subset"])),
+    ("`is_superset`", By(&["is_superset"])),
+    ("`is_disjoint`", By(&["is_disjoint"])),
+    ("`union`", By(&["union"])),
+    ("`intersection`", By(&["intersection"])),
+    ("`difference`", By(&["difference"])),
+    ("`symmetric_difference`", By(&["symmetric_difference"])),
+    ("`&a & &b`", By(&["bitand"])),
+    ("`&a \\| &b`", By(&["bitor"])),
+    ("`&a ^ &b`", By(&["bitxor"])),
+    ("`&a - &b`", By(&["sub"])),
+    ("look-ups by a `&Q`", Never(BORROWED)),
+    ("`Debug`", Never(OTHER_TABLE_TEXT)),
+    (
+        "`size_hint`, `Clone` and `Debug` of an iterator",
+        Never(CUT),
+    ),
+    ("`Send`, `Sync`", Never(CUT)),
+];
+
 /// How many lines there were of each name.
 #[derive(Default)]
 pub struct Counts {
@@ -182,7 +381,7 @@ impl Counts {
 
 /// Prints how often each call was made, and which ones never. False if one of the first kind never was.
 pub fn print(name: &str, calls: Calls, counts: &Counts) -> bool {
-    println!("\n| Call of the Rust crate's `{name}` | Lines that make it | How many |");
+    println!("\n| Call of the Rust crate's {name} | Lines that make it | How many |");
     println!("|---|---|---|");
     let mut all_made = true;
     for (call, made) in calls {
@@ -192,7 +391,7 @@ pub fn print(name: &str, calls: Calls, counts: &Counts) -> bool {
             println!("| {call} | `{}` | {times} |", names.join("`, `"));
         }
     }
-    println!("\n| Never made on `{name}` | Why |");
+    println!("\n| Never made on {name} | Why |");
     println!("|---|---|");
     for (call, made) in calls {
         if let Never(why) = made {

@@ -42,6 +42,9 @@ fn main() -> ExitCode {
 
 // The rows that stand on a container of the standard library that the port is built with, beside that container.
 fn print_beside_kit(entries: &[(&str, u64, Times)]) {
+    if entries.iter().all(|(_, _, times)| times.kit.is_none()) {
+        return;
+    }
     println!("\n| Row | Items | Port, ns | The kit's, ns | Port / the kit's |");
     println!("|---|---|---|---|---|");
     for (name, n, times) in entries {

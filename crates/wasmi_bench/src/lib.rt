@@ -8,6 +8,7 @@
 mod arena_rows;
 mod btree_rows;
 mod component_rows;
+mod dedup_rows;
 mod dense_rows;
 mod hash_rows;
 mod hashed_rows;
@@ -156,6 +157,18 @@ pub extern "C" fn wasmi_bench_dense_iter_u32(alloc: Global, n: u64, rounds: u64)
 #[unsafe(no_mangle)]
 pub extern "C" fn wasmi_bench_dense_iter_mut(alloc: Global, n: u64, rounds: u64) -> u64 {
     dense_rows::iter_mut::<usize>(alloc, n, rounds).unwrap_or(0)
+}
+
+/// Puts `n` values into an empty deduplicating arena, no two alike, and drops it.
+#[unsafe(no_mangle)]
+pub extern "C" fn wasmi_bench_dedup_alloc_new(alloc: Global, n: u64, rounds: u64) -> u64 {
+    dedup_rows::alloc_new(alloc, n, rounds).unwrap_or(0)
+}
+
+/// Puts `n` values into such an arena again.
+#[unsafe(no_mangle)]
+pub extern "C" fn wasmi_bench_dedup_alloc_again(alloc: Global, n: u64, rounds: u64) -> u64 {
+    dedup_rows::alloc_again(alloc, n, rounds).unwrap_or(0)
 }
 
 /// Sets `n` components under the keys from 0 on, and drops them.

@@ -8,7 +8,7 @@
 //! - [`HeadVec`]: a list with fast access to its last item
 //! - [`Map`], [`Set`]: a map and a set kept in the order of their keys; [`hashed`] has those that hash
 //! - [`StringInterner`]: a list of distinct texts, each under a symbol
-//! - [`run`]: lists of commands to any map and any set, and to an interner
+//! - [`run`]: lists of commands to any map, any set, a deduplicating arena and an interner
 #![tactic(auto)]
 
 pub mod arena;

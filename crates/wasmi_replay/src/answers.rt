@@ -50,6 +50,27 @@ pub fn entry<Key: ArenaKey, W: Write>(out: &mut W, given: Option<(Key, &i64)>) -
     }
 }
 
+/// The same of a call that may give nothing, for which `none` is written.
+pub fn found<W: Write, V: Display + Drop>(
+    out: &mut W,
+    outcome: Result<Option<V>, ArenaError>,
+    none: &str,
+) -> io::Result<()> {
+    match outcome {
+        Ok(Some(found)) => value(out, found),
+        Ok(None) => value(out, none),
+        Err(error) => refusal(out, error),
+    }
+}
+
+/// Writes a key with its item, or `none`.
+pub fn pair<W: Write>(out: &mut W, found: Option<(i64, i64)>) -> io::Result<()> {
+    match found {
+        Some((key, item)) => writeln!(out, "{key}={item}"),
+        None => value(out, "none"),
+    }
+}
+
 /// Writes that a line names no call of the container.
 pub fn bad<W: Write>(out: &mut W) -> io::Result<()> {
     value(out, "bad line")

@@ -145,8 +145,8 @@ impl<'a> Call<'a> {
     }
 }
 
-// The number that the next word is.
-fn number<N: FromStr>(words: &mut Split<'_, char>) -> Option<N>
+/// The number that the next word is.
+pub fn number<N: FromStr>(words: &mut Split<'_, char>) -> Option<N>
 where
     N::Err: Drop,
 {

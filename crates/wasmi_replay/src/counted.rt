@@ -23,3 +23,53 @@ impl Iterator for Counted {
         Some(item)
     }
 }
+
+/// So many numbers, each a step from the one before, past the ends of `i64` too.
+#[derive(Drop)]
+pub struct Stepped {
+    pub next: i64,
+    pub step: i64,
+    pub left: u16,
+}
+
+impl Iterator for Stepped {
+    type Item = i64;
+
+    ghost remaining = { λ items. at_most items.left };
+
+    fn next(&mut self) -> Option<i64> {
+        if self.left == 0 {
+            return None;
+        }
+        let item = self.next;
+        self.next = item.wrapping_add(self.step);
+        self.left -= 1;
+        Some(item)
+    }
+}
+
+/// Such numbers as keys, each with an item: these are a number and the ones after it.
+#[derive(Drop)]
+pub struct Pairs {
+    pub key: i64,
+    pub step: i64,
+    pub item: i64,
+    pub left: u16,
+}
+
+impl Iterator for Pairs {
+    type Item = (i64, i64);
+
+    ghost remaining = { λ items. at_most items.left };
+
+    fn next(&mut self) -> Option<(i64, i64)> {
+        if self.left == 0 {
+            return None;
+        }
+        let pair = (self.key, self.item);
+        self.key = pair.0.wrapping_add(self.step);
+        self.item = pair.1.wrapping_add(1);
+        self.left -= 1;
+        Some(pair)
+    }
+}

@@ -7,13 +7,19 @@ mod call;
 mod component_vec;
 mod counted;
 mod few_keys;
+mod hashed_map;
+mod hashed_set;
 mod head_vec;
 mod lines;
 mod named;
+mod ordered_map;
+mod ordered_set;
 mod pair_key;
 mod replay;
 mod stable_arena;
 mod stable_vec;
+mod table_call;
+mod walk;
 
 use std::io;
 

@@ -6,6 +6,16 @@ pub enum Named {
     StableVec,
     HeadVec,
     Keyed(Keyed, Keys),
+    Tabled(Tabled),
+}
+
+/// A map or a set.
+#[derive(Clone, Copy, Debug)]
+pub enum Tabled {
+    OrderedMap,
+    OrderedSet,
+    HashedMap,
+    HashedSet,
 }
 
 /// A container whose items have keys.
@@ -36,6 +46,10 @@ impl Named {
         let named = match words.next()? {
             "stable_vec" => Named::StableVec,
             "head_vec" => Named::HeadVec,
+            "ordered_map" => Named::Tabled(Tabled::OrderedMap),
+            "ordered_set" => Named::Tabled(Tabled::OrderedSet),
+            "hashed_map" => Named::Tabled(Tabled::HashedMap),
+            "hashed_set" => Named::Tabled(Tabled::HashedSet),
             "stable_arena" => Named::Keyed(Keyed::StableArena, Keys::parse(words.next()?)?),
             "arena" => Named::Keyed(Keyed::Arena, Keys::parse(words.next()?)?),
             "component_vec" => Named::Keyed(Keyed::ComponentVec, Keys::parse(words.next()?)?),

@@ -5,12 +5,17 @@ use crate::arena::ArenaReplay;
 use crate::call::Call;
 use crate::component_vec::ComponentReplay;
 use crate::few_keys::FewKeys;
+use crate::hashed_map::HashedMapReplay;
+use crate::hashed_set::HashedSetReplay;
 use crate::head_vec::HeadReplay;
 use crate::lines::Lines;
-use crate::named::{Keyed, Keys, Named};
+use crate::named::{Keyed, Keys, Named, Tabled};
+use crate::ordered_map::OrderedMapReplay;
+use crate::ordered_set::OrderedSetReplay;
 use crate::pair_key::PairKey;
 use crate::stable_arena::StableArenaReplay;
 use crate::stable_vec::VecReplay;
+use crate::table_call::TableCall;
 use std::alloc::Global;
 use std::fmt::Debug;
 use std::io;
@@ -21,6 +26,12 @@ use std::num::NonZero;
 pub trait Container {
     /// Makes a call, and writes the line of its answer.
     fn answer<W: Write>(&mut self, call: Call<'_>, out: &mut W) -> io::Result<()>;
+}
+
+/// A map or a set at work.
+pub trait Table {
+    /// Makes a call, and writes the line of its answer.
+    fn answer<W: Write>(&mut self, call: TableCall, out: &mut W) -> io::Result<()>;
 }
 
 /// Makes the calls of the input on the containers that it names, and writes one line for each of its
@@ -41,6 +52,7 @@ pub fn run<R: Read + Drop, W: Write + Drop>(alloc: Global, reader: R, writer: W)
             Some(Named::Keyed(keyed, keys)) => {
                 serve_under(keyed, keys, alloc, &mut lines, &mut out)?
             }
+            Some(Named::Tabled(tabled)) => serve_tabled(tabled, alloc, &mut lines, &mut out)?,
             None => {
                 bad(&mut out)?;
                 lines.advance()?
@@ -99,6 +111,44 @@ fn serve<C: Container + Drop, R: Read + Drop, W: Write>(
         }
         match Call::parse(line) {
             Some(call) => container.answer(call, out)?,
+            None => bad(out)?,
+        }
+    }
+    Ok(false)
+}
+
+// The same as `serve_table`, on a new map or set.
+fn serve_tabled<R: Read + Drop, W: Write>(
+    tabled: Tabled,
+    alloc: Global,
+    lines: &mut Lines<R>,
+    out: &mut W,
+) -> io::Result<bool> {
+    match tabled {
+        Tabled::OrderedMap => serve_table(OrderedMapReplay::new(alloc), lines, out),
+        Tabled::OrderedSet => serve_table(OrderedSetReplay::new(alloc), lines, out),
+        Tabled::HashedMap => serve_table(HashedMapReplay::new(alloc), lines, out),
+        Tabled::HashedSet => serve_table(HashedSetReplay::new(alloc), lines, out),
+    }
+}
+
+// The same as `serve`, of a map or a set.
+fn serve_table<T: Table + Drop, R: Read + Drop, W: Write>(
+    mut table: T,
+    lines: &mut Lines<R>,
+    out: &mut W,
+) -> io::Result<bool> {
+    value(out, "new")?;
+    for _ in 0..u64::MAX {
+        if !lines.advance()? {
+            break;
+        }
+        let line = lines.text().unwrap_or("");
+        if line.starts_with("on ") {
+            return Ok(true);
+        }
+        match TableCall::parse(line) {
+            Some(call) => table.answer(call, out)?,
             None => bad(out)?,
         }
     }

@@ -1,0 +1,69 @@
+//! The rows of arenas that keep equal values once.
+
+use super::key_of;
+use crate::rows::next_index;
+use std::collections::HashMap;
+use wasmi_collections::arena::DedupArena;
+
+/// An arena that keeps equal values once.
+pub trait DedupRows: Default {
+    fn put(&mut self, value: u64) -> u64;
+}
+
+/// The Rust crate's, which as it is built here finds a value by its ordered map.
+pub type RustDedup = DedupArena<usize, u64>;
+
+impl DedupRows for RustDedup {
+    #[inline]
+    fn put(&mut self, value: u64) -> u64 {
+        self.alloc(value).map_or(0, |key| key as u64)
+    }
+}
+
+/// A `Vec`, and a `HashMap` from the values to their indices.
+#[derive(Default)]
+pub struct PlainDedup {
+    items: Vec<u64>,
+    index: HashMap<u64, usize>,
+}
+
+impl DedupRows for PlainDedup {
+    #[inline]
+    fn put(&mut self, value: u64) -> u64 {
+        let items = &mut self.items;
+        let index = self.index.entry(value).or_insert_with(|| {
+            items.push(value);
+            items.len() - 1
+        });
+        *index as u64
+    }
+}
+
+#[inline(never)]
+fn fill<D: DedupRows>(arena: &mut D, n: u64, before: u64) -> u64 {
+    let mut sum = before;
+    for i in 0..n {
+        sum = sum.wrapping_add(arena.put(key_of(i)));
+    }
+    sum
+}
+
+pub fn dedup_new<D: DedupRows>(n: u64, rounds: u64) -> u64 {
+    (0..rounds).fold(1, |sum, _| fill(&mut D::default(), n, sum))
+}
+
+#[inline(never)]
+fn repeat<D: DedupRows>(arena: &mut D, n: u64, before: u64) -> u64 {
+    let (mut state, mut sum) = (1, before);
+    for _ in 0..n {
+        let value = key_of(next_index(&mut state, n) as u64);
+        sum = sum.wrapping_add(arena.put(value));
+    }
+    sum
+}
+
+pub fn dedup_again<D: DedupRows>(n: u64, rounds: u64) -> u64 {
+    let mut arena = D::default();
+    let sum = fill(&mut arena, n, 1);
+    (0..rounds).fold(sum, |sum, _| repeat(&mut arena, n, sum))
+}
