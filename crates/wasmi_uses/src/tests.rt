@@ -135,7 +135,12 @@ fn names_are_defined_once(rt: HostRuntime) -> Result<(), Fail> {
 #[test]
 fn a_name_is_exported_once(rt: HostRuntime) -> Result<(), Fail> {
     let mut names = StringInterner::new(rt.alloc());
-    for (name, was_new) in [("memory", true), ("table", true), ("memory", false), ("", true)] {
+    for (name, was_new) in [
+        ("memory", true),
+        ("table", true),
+        ("memory", false),
+        ("", true),
+    ] {
         assert_eq!(rt; export(&mut names, name)?, was_new, "of {name}");
     }
     assert_eq!(rt; import(&names, "table"), Some(Sym::from_u32(1)));

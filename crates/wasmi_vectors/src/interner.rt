@@ -20,11 +20,22 @@ fn five_texts_have_the_first_symbols(rt: HostRuntime) -> Result<(), Fail> {
     assert!(rt; interner.is_empty());
     for (text, number) in [("b", 0), ("a", 1), ("bb", 2), ("", 3), ("é", 4)] {
         assert_eq!(rt; interner.get(text), None, "of {text}");
-        assert_eq!(rt; interner.get_or_intern(text)?, Sym::from_u32(number), "of {text}");
-        assert_eq!(rt; interner.get(text), Some(Sym::from_u32(number)), "of {text}");
+        assert_eq!(rt;
+            interner.get_or_intern(text)?,
+            Sym::from_u32(number),
+            "of {text}"
+        );
+        assert_eq!(rt;
+            interner.get(text),
+            Some(Sym::from_u32(number)),
+            "of {text}"
+        );
     }
     for hint in HINTS {
-        assert_eq!(rt; interner.get_or_intern_with_hint("b", hint)?, Sym::from_u32(0));
+        assert_eq!(rt;
+            interner.get_or_intern_with_hint("b", hint)?,
+            Sym::from_u32(0)
+        );
     }
     assert_eq!(rt; (interner.len(), interner.is_empty()), (5, false));
     assert_eq!(rt; interner.resolve(Sym::from_u32(4)), Some("é"));
@@ -58,7 +69,10 @@ fn shorter_texts_come_first(rt: HostRuntime) {
 fn symbols_are_numbers(rt: HostRuntime) {
     for number in [0, 1, u32::MAX] {
         let symbol = Sym::from_u32(number);
-        assert_eq!(rt; (symbol.into_u32(), symbol.into_usize()), (number, number as usize));
+        assert_eq!(rt;
+            (symbol.into_u32(), symbol.into_usize()),
+            (number, number as usize)
+        );
         assert_eq!(rt; Sym::from_usize(number as usize), symbol);
     }
     assert!(rt; Sym::from_u32(2) < Sym::from_u32(10));
@@ -192,7 +206,10 @@ fn a_third_text_is_refused(rt: HostRuntime) -> Result<(), Fail> {
     let _a = interner.get_or_intern("a")?;
     let _b = interner.get_or_intern("b")?;
     log.refuse_from(1);
-    assert_eq!(rt; interner.get_or_intern("c"), Err(ArenaError::OutOfSystemMemory));
+    assert_eq!(rt;
+        interner.get_or_intern("c"),
+        Err(ArenaError::OutOfSystemMemory)
+    );
     assert_eq!(rt; (interner.get("c"), interner.len()), (None, 2));
     log.refuse_none();
     assert_eq!(rt; interner.get_or_intern("c")?, Sym::from_u32(2));
@@ -233,10 +250,7 @@ fn a_run_without_room_for_replies_runs_nothing(rt: HostRuntime) -> Result<(), Fa
     let handle = Observed::new(rt.alloc(), &log);
     let mut interner = StringInterner::new(rt.alloc());
     let mut commands = Vec::new(&handle);
-    commands.push(InternCommand::Intern(
-        String::from_str(rt.alloc(), "a")?,
-        InternHint::None,
-    ))?;
+    commands.push(InternCommand::Intern(String::from_str(rt.alloc(), "a")?, InternHint::None))?;
     commands.push(InternCommand::Len)?;
     log.refuse_once(1);
     let refused = run_interner(&handle, &mut interner, commands).err();

@@ -20,9 +20,9 @@ mod head_vec;
 #[cfg(test)]
 mod heap;
 #[cfg(test)]
-mod memory;
-#[cfg(test)]
 mod interner;
+#[cfg(test)]
+mod memory;
 pub mod observed;
 #[cfg(test)]
 mod ordered_memory;

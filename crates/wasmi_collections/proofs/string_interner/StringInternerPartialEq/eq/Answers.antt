@@ -5,4 +5,4 @@ use Rattle.wasmi_collections.proofs.string_interner.StringInternerPartialEq.eq.G
 pub returns : goal.returns
 returns g c =
     rw (← c.self.view_is, ← c.other.view_is) (
-      c.eq.ensures ∙ pointwise-bytes c.self.inside.texts.items c.other.inside.texts.items)
+    c.eq.ensures ∙ pointwise-bytes c.self.inside.texts.items c.other.inside.texts.items)
