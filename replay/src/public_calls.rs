@@ -50,8 +50,16 @@ pub const TYPES: [(&str, &str, Calls); 9] = [
     ("head_vec", "`HeadVec`", HEAD_VEC),
     ("ordered_map", "ordered `Map`", ORDERED_MAP),
     ("ordered_set", "ordered `Set`", SET),
-    ("hashed_map", "hashed `Map`", HASHED_MAP),
-    ("hashed_set", "hashed `Set`", SET),
+    (
+        "hashed_map",
+        "hashed `Map`, for which Rust's `HashMap` stands",
+        HASHED_MAP,
+    ),
+    (
+        "hashed_set",
+        "hashed `Set`, for which Rust's `HashSet` stands",
+        SET,
+    ),
 ];
 
 const STABLE_VEC: Calls = &[
