@@ -1,10 +1,9 @@
 -- Two values handed in to a deduplicating arena in one run have one key exactly where they are equal.
-use Rattle.std.proofs.Common.{◌≡◌, ◌≢◌, ◌↔◌, ℕ, zero, suc, ◌+◌, ◌<◌, ◌≤◌, Bool, true, false, cond, List, [], ◌∷◌, ◌++◌, length, Option, Some, None, slice_get, inl, inr, refl, sym, ap, ◌∙◌, subst, is_some, true≢false, IsTrue, length-append, unwrap_or, arith}
+use Rattle.std.proofs.Common.{◌≡◌, ◌≢◌, ◌↔◌, ℕ, zero, suc, ◌+◌, ◌<◌, ◌≤◌, Bool, true, false, cond, List, [], ◌∷◌, ◌++◌, length, Some, slice_get, inl, inr, refl, sym, ap, ◌∙◌, subst, is_some, true≢false, IsTrue, length-append, unwrap_or, arith}
 use Rattle.std.specs.Cmp.{IsEquivalence}
 use Rattle.std.specs.List.{position_from}
 use Rattle.std.proofs.lemmas.Iterator.Adapters.{position_from-zero}
 use Rattle.wasmi_arena.specs.Keys.{Keys, KeyLaw}
-use Rattle.wasmi_arena.specs.declared.error.ArenaError.{ArenaError}
 use Rattle.wasmi_collections.specs.Dedup.{DedupState, AllocatesValue}
 use Rattle.wasmi_collections.specs.DedupSteps.{DedupStep, HasKey, NoneClears}
 use Rattle.wasmi_collections.specs.Runs.{IsRun}

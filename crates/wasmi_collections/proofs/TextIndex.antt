@@ -15,6 +15,7 @@ use Rattle.std.proofs.lemmas.List.Sorted.{IsPermutation-refl, IsPermutation-cons
 use Rattle.std.proofs.lemmas.Map.Keys.{sorted_head, sorted_tail, IsDistinct-head, IsDistinct-tail, IsDistinct-push}
 use Rattle.std.proofs.lemmas.Option.{none-some, same_Some, slice_get-map, slice_get_within, slice_get-get_or, get_or_from_slice_get}
 use Rattle.std.proofs.lemmas.Slice.Eq.{bytes_eq-Decides}
+use Rattle.wasmi_collections.proofs.Dedup.{found_last}
 use Rattle.wasmi_collections.specs.Interner.{symbol_of, AreDistinctTexts}
 use Rattle.wasmi_collections.specs.LenOrder.{len_cmp}
 use Rattle.wasmi_collections.specs.LenOrderLaws.{len_cmp_total, len_cmp-Equal}
@@ -126,20 +127,10 @@ module _ (text : List ℕ) where
       slice_get-get_or texts s [] found.0 ∙ ap Some (sym ((bytes_eq-Decides text _).0 found.1))
 
   -- a text that is added to those among which it isn't stands at their end
-  last_place : (i : ℕ) (texts : List (List ℕ)) → position_from (bytes_eq text) i texts ≡ None → position_from (bytes_eq text) i (texts ++ text ∷ []) ≡ Some (i + length texts)
-  last_place i [] none = rw passes_itself (ap Some (omega arith))
-  last_place i (x ∷ xs) none = next (bytes_eq text x) none (last_place (i + 1) xs)
-    where
-      next : (b : Bool) → cond b (Some i) (position_from (bytes_eq text) (i + 1) xs) ≡ None
-          → (position_from (bytes_eq text) (i + 1) xs ≡ None → position_from (bytes_eq text) (i + 1) (xs ++ text ∷ []) ≡ Some (i + 1 + length xs))
-          → cond b (Some i) (position_from (bytes_eq text) (i + 1) (xs ++ text ∷ [])) ≡ Some (i + suc (length xs))
-      next true none rest = absurd (none-some i (sym none))
-      next false none rest = rest none ∙ ap Some (omega arith)
-
   pub symbol_of-last : (texts : List (List ℕ)) → symbol_of texts text ≡ None → symbol_of (texts ++ text ∷ []) text ≡ Some (length texts)
   symbol_of-last texts absent =
       position_from-zero (bytes_eq text) (texts ++ text ∷ [])
-      ∙ (last_place 0 texts (sym (position_from-zero (bytes_eq text) texts) ∙ absent) ∙ ap Some (omega arith))
+      ∙ (found_last (bytes_eq text) text 0 texts (sym (position_from-zero (bytes_eq text) texts) ∙ absent) passes_itself ∙ ap Some (omega arith))
 
   -- and changes no symbol
   kept_place : (other : List ℕ) (i : ℕ) (texts : List (List ℕ)) (s : ℕ) → position_from (bytes_eq other) i texts ≡ Some s → position_from (bytes_eq other) i (texts ++ text ∷ []) ≡ Some s

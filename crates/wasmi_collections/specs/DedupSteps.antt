@@ -1,7 +1,6 @@
 -- The steps of a deduplicating arena, what each command may be replied to, and what it leaves.
 use Rattle.std.specs.Prelude.{◌≡◌, ◌≢◌, ℕ, ◌<◌, ◌≤◌, ◌↔◌, Bool, List, [], length, slice_get, slice_set, Some, IsTrue}
 use Rattle.wasmi_arena.specs.Keys.{Keys}
-use Rattle.wasmi_arena.specs.declared.error.ArenaError.{ArenaError}
 use Rattle.wasmi_arena.specs.declared.error.ArenaError.TheVariants.{KeyOutOfBounds}
 use Rattle.wasmi_collections.specs.Dedup.{DedupState, AllocatesValue, RefusesValue}
 use Rattle.wasmi_collections.specs.declared.run.dedup.DedupCommand.{DedupCommand}
