@@ -187,8 +187,9 @@ fn a_refused_clone_leaves_its_source(rt: HostRuntime) -> Result<(), Fail> {
             );
         }
         log.refuse_none();
+        let asked = log.requests();
         let copy = items.clone()?;
-        assert_eq!(rt; copy, items);
+        assert_eq!(rt; (log.requests(), &copy), (asked.wrapping_add(4), &items));
     }
     assert_eq!(rt; (log.returned(), log.misplaced()), (log.given(), 0));
     Ok(())
