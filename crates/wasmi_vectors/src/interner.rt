@@ -73,7 +73,7 @@ fn symbols_are_numbers(rt: HostRuntime) {
             (symbol.into_u32(), symbol.into_usize()),
             (number, number as usize)
         );
-        assert_eq!(rt; Sym::from_usize(number as usize), symbol);
+        assert_eq!(rt; Sym::from_usize(symbol.into_usize()), symbol);
     }
     assert!(rt; Sym::from_u32(2) < Sym::from_u32(10));
     let mut steps = Steps::new();
