@@ -244,37 +244,52 @@ fn a_refused_clone_leaves_its_source(rt: HostRuntime) -> Result<(), Fail> {
     Ok(())
 }
 
-#[test]
-fn a_run_without_room_for_replies_runs_nothing(rt: HostRuntime) -> Result<(), Fail> {
-    let log = Log::new();
-    let handle = Observed::new(rt.alloc(), &log);
-    let mut interner = StringInterner::new(rt.alloc());
-    let mut commands = Vec::new(&handle);
-    commands.push(InternCommand::Intern(String::from_str(rt.alloc(), "a")?, InternHint::None))?;
-    commands.push(InternCommand::Len)?;
-    log.refuse_once(1);
-    let refused = run_interner(&handle, &mut interner, commands).err();
-    assert_eq!(rt; refused, Some(ArenaError::OutOfSystemMemory));
-    assert!(rt; interner.is_empty());
-    Ok(())
-}
-
+// Each request of a run refused in turn. The first is for the replies.
 #[test]
 fn a_run_goes_on_after_a_refusal(rt: HostRuntime) -> Result<(), Fail> {
-    let log = Log::new();
-    let handle = Observed::new(rt.alloc(), &log);
-    let mut interner = StringInterner::new(&handle);
-    log.refuse_once(1);
-    let replies = run_interner(rt.alloc(), &mut interner, commands(rt.alloc())?)?;
-    let expected = [
-        InternReply::Refused(ArenaError::OutOfSystemMemory),
-        InternReply::Sym(Sym::from_u32(0)),
-        InternReply::Sym(Sym::from_u32(1)),
-        InternReply::Found(Some(Sym::from_u32(0))),
-        InternReply::Found(None),
-        InternReply::Len(2),
-        InternReply::Sym(Sym::from_u32(2)),
-    ];
-    assert!(rt; replies.as_slice() == expected.as_slice());
+    for nth in 1..20 {
+        let log = Log::new();
+        {
+            let handle = Observed::new(rt.alloc(), &log);
+            let mut interner = StringInterner::new(&handle);
+            let mut commands = Vec::new(&handle);
+            for name in NAMES {
+                let text = String::from_str(rt.alloc(), name)?;
+                commands.push(InternCommand::Intern(text, InternHint::None))?;
+            }
+            log.refuse_once(nth);
+            match run_interner(&handle, &mut interner, commands) {
+                Err(error) => {
+                    assert_eq!(rt;
+                        (nth, error, interner.len()),
+                        (1, ArenaError::OutOfSystemMemory, 0)
+                    );
+                }
+                Ok(replies) => {
+                    let mut next = 0u32;
+                    for (name, reply) in NAMES.into_iter().zip(replies) {
+                        let symbol = interner.get(name);
+                        match reply {
+                            InternReply::Sym(given) => {
+                                let wanted = Sym::from_u32(next);
+                                assert_eq!(rt; (given, symbol), (wanted, Some(wanted)), "at {nth}");
+                                next = next.wrapping_add(1);
+                            }
+                            other => {
+                                let refused = InternReply::Refused(ArenaError::OutOfSystemMemory);
+                                assert_eq!(rt; (other, symbol), (refused, None), "at {nth}");
+                            }
+                        }
+                    }
+                    assert_eq!(rt; interner.len(), next as usize, "at {nth}");
+                }
+            }
+            for name in NAMES {
+                let _symbol = interner.get_or_intern(name)?;
+            }
+            assert_eq!(rt; interner.len(), 10, "at {nth}");
+        }
+        assert_eq!(rt; (log.returned(), log.misplaced()), (log.given(), 0));
+    }
     Ok(())
 }
