@@ -237,3 +237,34 @@ fn a_run_goes_on_after_a_refusal(rt: HostRuntime) -> Result<(), Fail> {
     }
     Ok(())
 }
+
+// Each text is one request, and so is each clone of one.
+#[test]
+fn a_new_value_is_cloned_once(rt: HostRuntime) -> Result<(), Fail> {
+    let log = Log::new();
+    {
+        let heap = Observed::new(rt.alloc(), &log);
+        let mut arena: DedupArena<usize, String<&Observed<'_>>, &Observed<'_>> = DedupArena::new(
+            &heap,
+        );
+        for text in ["a", "b"] {
+            let _key = arena.alloc(String::from_str(&heap, text)?)?;
+        }
+        let (asked, returned) = (log.requests(), log.returned());
+        assert_eq!(rt; arena.alloc(String::from_str(&heap, "a")?)?, 0);
+        assert_eq!(rt;
+            (log.requests(), log.returned()),
+            (asked.wrapping_add(1), returned.wrapping_add(1))
+        );
+        assert_eq!(rt; arena.alloc(String::from_str(&heap, "c")?)?, 2);
+        assert_eq!(rt; log.requests(), asked.wrapping_add(3));
+        // The value, and then its clone, are refused.
+        log.refuse_once(2);
+        let refused = arena.alloc(String::from_str(&heap, "d")?);
+        assert_eq!(rt; refused, Err(ArenaError::OutOfSystemMemory));
+        arena.clear();
+        assert_eq!(rt; arena.alloc(String::from_str(&heap, "b")?)?, 0);
+    }
+    assert_eq!(rt; (log.returned(), log.misplaced()), (log.given(), 0));
+    Ok(())
+}

@@ -110,6 +110,25 @@ fn a_search_goes_by_halves(rt: HostRuntime) -> Result<(), Fail> {
     Ok(())
 }
 
+#[test]
+fn the_middle_is_compared_first(rt: HostRuntime) -> Result<(), Fail> {
+    let interner = letters(rt.alloc(), 7)?;
+    for (text, count) in [
+        ("h", 1),
+        ("d", 2),
+        ("n", 2),
+        ("b", 3),
+        ("f", 3),
+        ("l", 3),
+        ("p", 3),
+    ] {
+        let mut steps = Steps::new();
+        let _symbol = interner.get_counted(text, &mut steps);
+        assert_eq!(rt; steps.count(), count, "of {text}");
+    }
+    Ok(())
+}
+
 fn commands(alloc: Global) -> Result<Vec<InternCommand>, AllocError> {
     let b = String::from_str(alloc, "b")?;
     let a = String::from_str(alloc, "a")?;
@@ -184,9 +203,10 @@ fn a_refused_text_changes_nothing(rt: HostRuntime) -> Result<(), Fail> {
             assert!(rt; has_first(&interner, 10), "at {nth}");
             // What is there needs no memory, whatever the hint.
             log.refuse_from(1);
+            let asked = log.requests();
             for hint in HINTS {
                 let symbol = interner.get_or_intern_with_hint("global", hint);
-                assert_eq!(rt; symbol, Ok(Sym::from_u32(3)));
+                assert_eq!(rt; (symbol, log.requests()), (Ok(Sym::from_u32(3)), asked));
             }
             assert!(rt; interner.get_or_intern("import").is_err());
             assert!(rt; has_first(&interner, 10), "at {nth}");
@@ -194,7 +214,7 @@ fn a_refused_text_changes_nothing(rt: HostRuntime) -> Result<(), Fail> {
         assert_eq!(rt; (log.returned(), log.misplaced()), (log.given(), 0));
     }
     // A block for each text that has a byte, and three for the growing index and for the growing texts.
-    assert!(rt; 9 < refusals && refusals < 29);
+    assert_eq!(rt; refusals, 15);
     Ok(())
 }
 
@@ -228,7 +248,8 @@ fn a_refused_clone_leaves_its_source(rt: HostRuntime) -> Result<(), Fail> {
         let before = log.requests();
         let mut copy = interner.clone()?;
         let requests = log.requests().wrapping_sub(before);
-        assert!(rt; 9 < requests);
+        // A block for each text that has a byte, one for the index, and one for the texts.
+        assert_eq!(rt; requests, 11);
         assert!(rt; copy == interner && has_first(&copy, 10));
         let _more = copy.get_or_intern("import")?;
         assert!(rt; copy != interner && has_first(&interner, 10));
