@@ -85,7 +85,31 @@ fn walks_over_two_sets_give_each_element_once(rt: HostRuntime) -> Result<(), Fai
 
 #[test]
 fn a_set_prints_its_elements(rt: HostRuntime) -> Result<(), Fail> {
-    let one: Set<u32> = Set::from_iter(rt.alloc(), [3])?;
-    assert_eq!(rt; format!(in rt.alloc(); "{one:?}")?.as_str(), "{3}");
+    let one: Set<u32> = Set::from_iter(rt.alloc(), [3, 5])?;
+    let text = format!(in rt.alloc(); "{one:?}")?;
+    assert!(rt; text.as_str() == "{3, 5}" || text.as_str() == "{5, 3}");
+    Ok(())
+}
+
+// Two texts without a letter are equal, and only one of them has room for some.
+#[test]
+fn an_element_that_is_there_is_kept(rt: HostRuntime) -> Result<(), Fail> {
+    let alloc = rt.alloc();
+    let roomy = String::with_capacity(alloc, 40)?;
+    let mut set = Set::from_iter(alloc, [roomy, String::new(alloc)])?;
+    assert_eq!(rt; (set.len(), set.insert(String::new(alloc))?), (1, false));
+    set.extend([String::new(alloc)])?;
+    assert!(rt;
+        set.get(&String::new(alloc))
+            .is_some_and(|text| 40 <= text.capacity())
+    );
+    assert!(rt;
+        set.replace(String::new(alloc))?
+            .is_some_and(|text| 40 <= text.capacity())
+    );
+    assert!(rt;
+        set.get(&String::new(alloc))
+            .is_some_and(|text| text.capacity() < 40)
+    );
     Ok(())
 }

@@ -132,10 +132,28 @@ fn walks_ascend(rt: HostRuntime) -> Result<(), Fail> {
 
 #[test]
 fn a_map_prints_in_order(rt: HostRuntime) -> Result<(), Fail> {
-    let map = Map::from_iter(rt.alloc(), [(2, true), (1, false)])?;
+    let mut map = Map::from_iter(rt.alloc(), [(2, true), (1, false), (4, true), (3, false)])?;
     assert_eq!(rt;
         format!(in rt.alloc(); "{map:?}")?.as_str(),
-        "{1: false, 2: true}"
+        "{1: false, 2: true, 3: false, 4: true}"
     );
+    map.clear();
+    assert_eq!(rt; format!(in rt.alloc(); "{map:?}")?.as_str(), "{}");
+    Ok(())
+}
+
+// Two texts without a letter are equal, and only one of them has room for some.
+#[test]
+fn a_key_that_is_there_is_kept(rt: HostRuntime) -> Result<(), Fail> {
+    let alloc = rt.alloc();
+    let roomy = String::with_capacity(alloc, 40)?;
+    let mut map = Map::from_iter(alloc, [(roomy, 1), (String::new(alloc), 2)])?;
+    assert_eq!(rt;
+        (map.len(), map.insert(String::new(alloc), 3)?),
+        (1, Some(2))
+    );
+    map.extend([(String::new(alloc), 4)])?;
+    let entry = map.get_key_value(&String::new(alloc));
+    assert!(rt; entry.is_some_and(|(key, value)| 40 <= key.capacity() && *value == 4));
     Ok(())
 }

@@ -87,7 +87,35 @@ fn walks_over_two_sets_ascend(rt: HostRuntime) -> Result<(), Fail> {
 
 #[test]
 fn a_set_prints_in_order(rt: HostRuntime) -> Result<(), Fail> {
-    let one = set(rt.alloc(), [3, 1, 2])?;
-    assert_eq!(rt; format!(in rt.alloc(); "{one:?}")?.as_str(), "{1, 2, 3}");
+    let mut one = Set::from_iter(rt.alloc(), [5, 3, 1, 4, 2])?;
+    assert_eq!(rt;
+        format!(in rt.alloc(); "{one:?}")?.as_str(),
+        "{1, 2, 3, 4, 5}"
+    );
+    one.clear();
+    assert_eq!(rt; format!(in rt.alloc(); "{one:?}")?.as_str(), "{}");
+    Ok(())
+}
+
+// Two texts without a letter are equal, and only one of them has room for some.
+#[test]
+fn an_element_that_is_there_is_kept(rt: HostRuntime) -> Result<(), Fail> {
+    let alloc = rt.alloc();
+    let roomy = String::with_capacity(alloc, 40)?;
+    let mut set = Set::from_iter(alloc, [roomy, String::new(alloc)])?;
+    assert_eq!(rt; (set.len(), set.insert(String::new(alloc))?), (1, false));
+    set.extend([String::new(alloc)])?;
+    assert!(rt;
+        set.get(&String::new(alloc))
+            .is_some_and(|text| 40 <= text.capacity())
+    );
+    assert!(rt;
+        set.replace(String::new(alloc))?
+            .is_some_and(|text| 40 <= text.capacity())
+    );
+    assert!(rt;
+        set.get(&String::new(alloc))
+            .is_some_and(|text| text.capacity() < 40)
+    );
     Ok(())
 }
