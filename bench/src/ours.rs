@@ -26,6 +26,9 @@ unsafe extern "C" {
     pub safe fn wasmi_bench_dense_iter_mut(n: u64, rounds: u64) -> u64;
     pub safe fn wasmi_bench_dedup_alloc_new(n: u64, rounds: u64) -> u64;
     pub safe fn wasmi_bench_dedup_alloc_again(n: u64, rounds: u64) -> u64;
+    pub safe fn wasmi_bench_intern_new(n: u64, rounds: u64) -> u64;
+    pub safe fn wasmi_bench_intern_again(n: u64, rounds: u64) -> u64;
+    pub safe fn wasmi_bench_resolve(n: u64, rounds: u64) -> u64;
     pub safe fn wasmi_bench_component_set_new(n: u64, rounds: u64) -> u64;
     pub safe fn wasmi_bench_component_set(n: u64, rounds: u64) -> u64;
     pub safe fn wasmi_bench_component_get(n: u64, rounds: u64) -> u64;

@@ -1,12 +1,12 @@
 //! The table of rows. A new row is a line here, and a function of its name on each side.
 
 use crate::tables::{
-    dedup_again, dedup_new, map_append, map_entry, map_get, map_insert, map_iter, set_contains,
-    set_insert, set_iter, set_union,
+    dedup_again, dedup_new, intern_again, intern_new, map_append, map_entry, map_get, map_insert,
+    map_iter, resolve, set_contains, set_insert, set_iter, set_union,
 };
 use crate::tables::{
-    OrderedMap, OrderedSet, PlainDedup, PlainTable, PlainTableSet, PlainTree, PlainTreeSet,
-    RustDedup,
+    OrderedMap, OrderedSet, PlainDedup, PlainInterner, PlainTable, PlainTableSet, PlainTree,
+    PlainTreeSet, RustDedup, RustInterner,
 };
 use crate::{ours, plain, theirs};
 
@@ -35,6 +35,8 @@ pub struct Row {
     pub kit: Option<ExportedWork>,
     /// How many operations a measurement has.
     pub operations: u64,
+    /// The greatest number of items that is timed.
+    pub most: u64,
 }
 
 /// The numbers of items, each a power of two.
@@ -63,6 +65,22 @@ const fn row(
         plain,
         kit: None,
         operations: 1 << 24,
+        most: 1 << 20,
+    }
+}
+
+// The same of texts. A new text is linear in their number, so there are fewer.
+const fn names(
+    name: &'static str,
+    round: Round,
+    ours: ExportedWork,
+    theirs: Work,
+    plain: Work,
+) -> Row {
+    Row {
+        operations: 1 << 19,
+        most: 1 << 16,
+        ..row(name, round, ours, theirs, plain)
     }
 }
 
@@ -154,4 +172,7 @@ pub const ROWS: &[Row] = &[
     walk("Hashed `Set` walk over a union", ours::wasmi_bench_hashed_set_union, ours::wasmi_bench_hash_set_union, set_union::<PlainTableSet>, set_union::<PlainTableSet>),
     long("`DedupArena` alloc, new values", Round::Fills, ours::wasmi_bench_dedup_alloc_new, dedup_new::<RustDedup>, dedup_new::<PlainDedup>),
     long("`DedupArena` alloc, values that are there", Round::Reads, ours::wasmi_bench_dedup_alloc_again, dedup_again::<RustDedup>, dedup_again::<PlainDedup>),
+    names("`StringInterner` intern, new names", Round::Reads, ours::wasmi_bench_intern_new, intern_new::<RustInterner>, intern_new::<PlainInterner>),
+    names("`StringInterner` intern, names that are there", Round::Reads, ours::wasmi_bench_intern_again, intern_again::<RustInterner>, intern_again::<PlainInterner>),
+    names("`StringInterner` resolve, random", Round::Reads, ours::wasmi_bench_resolve, resolve::<RustInterner>, resolve::<PlainInterner>),
 ];

@@ -1,10 +1,12 @@
 //! The rows of maps and sets, for any of Rust's.
 
 mod dedup;
+mod interner;
 mod maps;
 mod sets;
 
 pub use dedup::{dedup_again, dedup_new, DedupRows, PlainDedup, RustDedup};
+pub use interner::{intern_again, intern_new, resolve, InternerRows, PlainInterner, RustInterner};
 pub use maps::{map_append, map_entry, map_get, map_insert, map_iter, MapRows};
 pub use sets::{set_contains, set_insert, set_iter, set_union, SetRows};
 

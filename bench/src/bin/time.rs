@@ -15,7 +15,7 @@ fn main() -> ExitCode {
     settle_heap();
     let mut entries = Vec::new();
     for row in ROWS.iter().filter(|row| row.name.contains(&word)) {
-        for n in SIZES {
+        for n in SIZES.into_iter().filter(|n| *n <= row.most) {
             entries.push((row.name, n, time(row, n)));
         }
     }

@@ -13,6 +13,7 @@ mod dense_rows;
 mod hash_rows;
 mod hashed_rows;
 mod head_rows;
+mod interner_rows;
 mod map_rows;
 mod ordered_rows;
 mod random;
@@ -169,6 +170,24 @@ pub extern "C" fn wasmi_bench_dedup_alloc_new(alloc: Global, n: u64, rounds: u64
 #[unsafe(no_mangle)]
 pub extern "C" fn wasmi_bench_dedup_alloc_again(alloc: Global, n: u64, rounds: u64) -> u64 {
     dedup_rows::alloc_again(alloc, n, rounds).unwrap_or(0)
+}
+
+/// Interns `n` names in an empty interner, no two alike, and drops it.
+#[unsafe(no_mangle)]
+pub extern "C" fn wasmi_bench_intern_new(alloc: Global, n: u64, rounds: u64) -> u64 {
+    interner_rows::intern_new(alloc, n, rounds).unwrap_or(0)
+}
+
+/// Interns `n` names that are there.
+#[unsafe(no_mangle)]
+pub extern "C" fn wasmi_bench_intern_again(alloc: Global, n: u64, rounds: u64) -> u64 {
+    interner_rows::intern_again(alloc, n, rounds).unwrap_or(0)
+}
+
+/// Resolves `n` symbols that jump about.
+#[unsafe(no_mangle)]
+pub extern "C" fn wasmi_bench_resolve(alloc: Global, n: u64, rounds: u64) -> u64 {
+    interner_rows::resolve(alloc, n, rounds).unwrap_or(0)
 }
 
 /// Sets `n` components under the keys from 0 on, and drops them.
