@@ -190,17 +190,18 @@ fn a_refused_clone_changes_nothing(rt: HostRuntime) -> Result<(), Fail> {
     Ok(())
 }
 
-// The first request of a run is for the replies, the second for the first item.
+// Each request of a run refused in turn. The first is for the replies.
 #[test]
 fn a_run_goes_on_after_a_refusal(rt: HostRuntime) -> Result<(), Fail> {
-    for nth in 1..3 {
+    for nth in 1..20 {
         let log = Log::new();
         {
             let heap = Observed::new(rt.alloc(), &log);
             let mut arena: DedupArena<usize, u32, &Observed<'_>> = DedupArena::new(&heap);
             let mut commands = Vec::new(&heap);
-            commands.push(DedupCommand::Alloc(3u32))?;
-            commands.push(DedupCommand::Alloc(3u32))?;
+            for value in 0..20u32 {
+                commands.push(DedupCommand::Alloc(value))?;
+            }
             log.refuse_once(nth);
             match run_dedup(&heap, &mut arena, commands) {
                 Err(error) => {
@@ -210,16 +211,60 @@ fn a_run_goes_on_after_a_refusal(rt: HostRuntime) -> Result<(), Fail> {
                     );
                 }
                 Ok(replies) => {
-                    let refused = DedupReply::Refused(ArenaError::OutOfSystemMemory);
-                    assert_eq!(rt;
-                        (nth, &replies[0], &replies[1]),
-                        (2, &refused, &DedupReply::Key(0))
-                    );
+                    let mut next = 0usize;
+                    for (value, reply) in (0u32..).zip(replies) {
+                        let key = arena.index().get(&value).copied();
+                        match reply {
+                            DedupReply::Key(given) => {
+                                assert_eq!(rt; (given, key), (next, Some(next)), "at {nth}");
+                                next = next.wrapping_add(1);
+                            }
+                            other => {
+                                let refused = DedupReply::Refused(ArenaError::OutOfSystemMemory);
+                                assert_eq!(rt; (other, key), (refused, None), "at {nth}");
+                            }
+                        }
+                    }
+                    assert_eq!(rt; arena.len(), next, "at {nth}");
                 }
             }
-            assert_eq!(rt; (arena.alloc(3)?, arena.len()), (0, 1));
+            for value in 0..20u32 {
+                arena.alloc(value)?;
+            }
+            assert_eq!(rt; arena.len(), 20, "at {nth}");
         }
         assert_eq!(rt; (log.returned(), log.misplaced()), (log.given(), 0));
     }
+    Ok(())
+}
+
+// Each text is one request, and so is each clone of one.
+#[test]
+fn a_new_value_is_cloned_once(rt: HostRuntime) -> Result<(), Fail> {
+    let log = Log::new();
+    {
+        let heap = Observed::new(rt.alloc(), &log);
+        let mut arena: DedupArena<usize, String<&Observed<'_>>, &Observed<'_>> = DedupArena::new(
+            &heap,
+        );
+        for text in ["a", "b"] {
+            let _key = arena.alloc(String::from_str(&heap, text)?)?;
+        }
+        let (asked, returned) = (log.requests(), log.returned());
+        assert_eq!(rt; arena.alloc(String::from_str(&heap, "a")?)?, 0);
+        assert_eq!(rt;
+            (log.requests(), log.returned()),
+            (asked.wrapping_add(1), returned.wrapping_add(1))
+        );
+        assert_eq!(rt; arena.alloc(String::from_str(&heap, "c")?)?, 2);
+        assert_eq!(rt; log.requests(), asked.wrapping_add(3));
+        // The value, and then its clone, are refused.
+        log.refuse_once(2);
+        let refused = arena.alloc(String::from_str(&heap, "d")?);
+        assert_eq!(rt; refused, Err(ArenaError::OutOfSystemMemory));
+        arena.clear();
+        assert_eq!(rt; arena.alloc(String::from_str(&heap, "b")?)?, 0);
+    }
+    assert_eq!(rt; (log.returned(), log.misplaced()), (log.given(), 0));
     Ok(())
 }

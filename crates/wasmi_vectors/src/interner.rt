@@ -73,7 +73,7 @@ fn symbols_are_numbers(rt: HostRuntime) {
             (symbol.into_u32(), symbol.into_usize()),
             (number, number as usize)
         );
-        assert_eq!(rt; Sym::from_usize(number as usize), symbol);
+        assert_eq!(rt; Sym::from_usize(symbol.into_usize()), symbol);
     }
     assert!(rt; Sym::from_u32(2) < Sym::from_u32(10));
     let mut steps = Steps::new();
@@ -106,6 +106,25 @@ fn a_search_goes_by_halves(rt: HostRuntime) -> Result<(), Fail> {
             greatest = steps.count().max(greatest);
         }
         assert_eq!(rt; greatest, most, "among {count}");
+    }
+    Ok(())
+}
+
+#[test]
+fn the_middle_is_compared_first(rt: HostRuntime) -> Result<(), Fail> {
+    let interner = letters(rt.alloc(), 7)?;
+    for (text, count) in [
+        ("h", 1),
+        ("d", 2),
+        ("n", 2),
+        ("b", 3),
+        ("f", 3),
+        ("l", 3),
+        ("p", 3),
+    ] {
+        let mut steps = Steps::new();
+        let _symbol = interner.get_counted(text, &mut steps);
+        assert_eq!(rt; steps.count(), count, "of {text}");
     }
     Ok(())
 }
@@ -184,9 +203,10 @@ fn a_refused_text_changes_nothing(rt: HostRuntime) -> Result<(), Fail> {
             assert!(rt; has_first(&interner, 10), "at {nth}");
             // What is there needs no memory, whatever the hint.
             log.refuse_from(1);
+            let asked = log.requests();
             for hint in HINTS {
                 let symbol = interner.get_or_intern_with_hint("global", hint);
-                assert_eq!(rt; symbol, Ok(Sym::from_u32(3)));
+                assert_eq!(rt; (symbol, log.requests()), (Ok(Sym::from_u32(3)), asked));
             }
             assert!(rt; interner.get_or_intern("import").is_err());
             assert!(rt; has_first(&interner, 10), "at {nth}");
@@ -194,7 +214,7 @@ fn a_refused_text_changes_nothing(rt: HostRuntime) -> Result<(), Fail> {
         assert_eq!(rt; (log.returned(), log.misplaced()), (log.given(), 0));
     }
     // A block for each text that has a byte, and three for the growing index and for the growing texts.
-    assert!(rt; 9 < refusals && refusals < 29);
+    assert_eq!(rt; refusals, 15);
     Ok(())
 }
 
@@ -228,7 +248,8 @@ fn a_refused_clone_leaves_its_source(rt: HostRuntime) -> Result<(), Fail> {
         let before = log.requests();
         let mut copy = interner.clone()?;
         let requests = log.requests().wrapping_sub(before);
-        assert!(rt; 9 < requests);
+        // A block for each text that has a byte, one for the index, and one for the texts.
+        assert_eq!(rt; requests, 11);
         assert!(rt; copy == interner && has_first(&copy, 10));
         let _more = copy.get_or_intern("import")?;
         assert!(rt; copy != interner && has_first(&interner, 10));
@@ -244,37 +265,52 @@ fn a_refused_clone_leaves_its_source(rt: HostRuntime) -> Result<(), Fail> {
     Ok(())
 }
 
-#[test]
-fn a_run_without_room_for_replies_runs_nothing(rt: HostRuntime) -> Result<(), Fail> {
-    let log = Log::new();
-    let handle = Observed::new(rt.alloc(), &log);
-    let mut interner = StringInterner::new(rt.alloc());
-    let mut commands = Vec::new(&handle);
-    commands.push(InternCommand::Intern(String::from_str(rt.alloc(), "a")?, InternHint::None))?;
-    commands.push(InternCommand::Len)?;
-    log.refuse_once(1);
-    let refused = run_interner(&handle, &mut interner, commands).err();
-    assert_eq!(rt; refused, Some(ArenaError::OutOfSystemMemory));
-    assert!(rt; interner.is_empty());
-    Ok(())
-}
-
+// Each request of a run refused in turn. The first is for the replies.
 #[test]
 fn a_run_goes_on_after_a_refusal(rt: HostRuntime) -> Result<(), Fail> {
-    let log = Log::new();
-    let handle = Observed::new(rt.alloc(), &log);
-    let mut interner = StringInterner::new(&handle);
-    log.refuse_once(1);
-    let replies = run_interner(rt.alloc(), &mut interner, commands(rt.alloc())?)?;
-    let expected = [
-        InternReply::Refused(ArenaError::OutOfSystemMemory),
-        InternReply::Sym(Sym::from_u32(0)),
-        InternReply::Sym(Sym::from_u32(1)),
-        InternReply::Found(Some(Sym::from_u32(0))),
-        InternReply::Found(None),
-        InternReply::Len(2),
-        InternReply::Sym(Sym::from_u32(2)),
-    ];
-    assert!(rt; replies.as_slice() == expected.as_slice());
+    for nth in 1..20 {
+        let log = Log::new();
+        {
+            let handle = Observed::new(rt.alloc(), &log);
+            let mut interner = StringInterner::new(&handle);
+            let mut commands = Vec::new(&handle);
+            for name in NAMES {
+                let text = String::from_str(rt.alloc(), name)?;
+                commands.push(InternCommand::Intern(text, InternHint::None))?;
+            }
+            log.refuse_once(nth);
+            match run_interner(&handle, &mut interner, commands) {
+                Err(error) => {
+                    assert_eq!(rt;
+                        (nth, error, interner.len()),
+                        (1, ArenaError::OutOfSystemMemory, 0)
+                    );
+                }
+                Ok(replies) => {
+                    let mut next = 0u32;
+                    for (name, reply) in NAMES.into_iter().zip(replies) {
+                        let symbol = interner.get(name);
+                        match reply {
+                            InternReply::Sym(given) => {
+                                let wanted = Sym::from_u32(next);
+                                assert_eq!(rt; (given, symbol), (wanted, Some(wanted)), "at {nth}");
+                                next = next.wrapping_add(1);
+                            }
+                            other => {
+                                let refused = InternReply::Refused(ArenaError::OutOfSystemMemory);
+                                assert_eq!(rt; (other, symbol), (refused, None), "at {nth}");
+                            }
+                        }
+                    }
+                    assert_eq!(rt; interner.len(), next as usize, "at {nth}");
+                }
+            }
+            for name in NAMES {
+                let _symbol = interner.get_or_intern(name)?;
+            }
+            assert_eq!(rt; interner.len(), 10, "at {nth}");
+        }
+        assert_eq!(rt; (log.returned(), log.misplaced()), (log.given(), 0));
+    }
     Ok(())
 }
