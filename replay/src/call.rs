@@ -19,6 +19,8 @@ pub enum Call {
     LastMut(i64),
     Alloc(i64),
     AllocMany(u16),
+    /// The key of an item, by the index of a `DedupArena`.
+    KeyOf(i64),
     /// A call on the item at an index, or under the key of that number.
     Item(usize, ItemCall),
     Swap(usize, usize),
@@ -100,6 +102,7 @@ impl Call {
             "last_mut" => Call::LastMut(number(words)?),
             "alloc" => Call::Alloc(number(words)?),
             "alloc_many" => Call::AllocMany(number(words)?),
+            "key_of" => Call::KeyOf(number(words)?),
             "get" => Call::Item(number(words)?, ItemCall::Get),
             "get_mut" => Call::Item(number(words)?, ItemCall::GetMut(number(words)?)),
             "put" => Call::Item(number(words)?, ItemCall::Put(number(words)?)),
@@ -166,6 +169,7 @@ impl fmt::Display for Call {
             Call::LastMut(item) => write!(f, "last_mut {item}"),
             Call::Alloc(item) => write!(f, "alloc {item}"),
             Call::AllocMany(count) => write!(f, "alloc_many {count}"),
+            Call::KeyOf(item) => write!(f, "key_of {item}"),
             Call::Item(at, ItemCall::Get) => write!(f, "get {at}"),
             Call::Item(at, ItemCall::GetMut(item)) => write!(f, "get_mut {at} {item}"),
             Call::Item(at, ItemCall::Put(item)) => write!(f, "put {at} {item}"),

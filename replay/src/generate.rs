@@ -3,6 +3,7 @@
 
 mod arena;
 mod component_vec;
+mod dedup_arena;
 mod head_vec;
 mod tables;
 
@@ -12,7 +13,7 @@ use crate::table_call::TableCall;
 use std::fmt::Write;
 
 /// What a line `on ..` names.
-pub const CONTAINERS: [&str; 21] = [
+pub const CONTAINERS: [&str; 23] = [
     "stable_vec",
     "stable_arena u32",
     "stable_arena usize",
@@ -34,6 +35,8 @@ pub const CONTAINERS: [&str; 21] = [
     "ordered_set",
     "hashed_map",
     "hashed_set",
+    "dedup_arena usize",
+    "dedup_arena few",
 ];
 
 /// The first word of such a name.
@@ -42,6 +45,7 @@ enum Kind {
     StableVec,
     StableArena,
     Arena,
+    DedupArena,
     ComponentVec,
     HeadVec,
     Map,
@@ -53,6 +57,7 @@ impl Kind {
         match container.split(' ').next() {
             Some("stable_arena") => Kind::StableArena,
             Some("arena") => Kind::Arena,
+            Some("dedup_arena") => Kind::DedupArena,
             Some("component_vec") => Kind::ComponentVec,
             Some("head_vec") => Kind::HeadVec,
             Some("ordered_map" | "hashed_map") => Kind::Map,
@@ -203,6 +208,7 @@ impl Generator {
         match self.kind {
             Kind::StableVec | Kind::StableArena => self.stable_call(target),
             Kind::Arena => self.arena_call(target),
+            Kind::DedupArena => self.dedup_call(target),
             Kind::ComponentVec => self.component_call(target),
             Kind::HeadVec => self.head_call(target),
             // `phase` draws those of maps and sets.

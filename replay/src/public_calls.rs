@@ -22,6 +22,13 @@ const OTHER_ARENA_TEXT: &str =
     "the port's text is another (docs/DIFFERENCES.md, '`Debug` of `Arena`'); the driver makes that \
     from the keys and the items";
 
+const OTHER_FROM_ITER: &str =
+    "the port keeps no duplicates (docs/DIFFERENCES.md, '`DedupArena::alloc`, `from_iter`')";
+
+const OTHER_DEDUP_TEXT: &str =
+    "the port's text is another (docs/DIFFERENCES.md, '`Debug` of `DedupArena`'); the driver makes that \
+    from the keys and the items";
+
 const OTHER_HEAD_TEXT: &str =
     "the port's text is another (docs/DIFFERENCES.md, '`Debug` of `HeadVec`'); the driver makes that \
     from what a clone's `pop` gives";
@@ -42,7 +49,7 @@ const NO_ENTRY_TEXT: &str = "the port has none (docs/DIFFERENCES.md, 'What was c
 type Calls = &'static [(&'static str, Made)];
 
 /// Each type, with the first word by which a line `on ..` names it, and its calls.
-pub const TYPES: [(&str, &str, Calls); 9] = [
+pub const TYPES: [(&str, &str, Calls); 10] = [
     ("stable_vec", "`StableVec`", STABLE_VEC),
     ("stable_arena", "`StableArena`", STABLE_ARENA),
     ("arena", "`Arena`", ARENA),
@@ -60,6 +67,7 @@ pub const TYPES: [(&str, &str, Calls); 9] = [
         "hashed `Set`, for which Rust's `HashSet` stands",
         SET,
     ),
+    ("dedup_arena", "`DedupArena`", DEDUP_ARENA),
 ];
 
 const STABLE_VEC: Calls = &[
@@ -145,6 +153,31 @@ const ARENA: Calls = &[
     ("`default`", Never(CUT)),
     ("`Debug`", Never(OTHER_ARENA_TEXT)),
     ("`size_hint` and `Debug` of an iterator", Never(CUT)),
+    ("`Send`, `Sync`", Never(CUT)),
+];
+
+const DEDUP_ARENA: Calls = &[
+    ("`new`", By(&["on"])),
+    ("`len`", By(&["len"])),
+    ("`is_empty`", By(&["is_empty"])),
+    ("`clear`", By(&["clear"])),
+    ("`alloc`", By(&["alloc"])),
+    ("`from_iter`, of distinct values", By(&["from_iter"])),
+    ("`get`", By(&["get"])),
+    ("`get_mut`", By(&["get_mut"])),
+    ("`arena[key]`", By(&["index"])),
+    ("`arena[key] = item`", By(&["index_mut"])),
+    ("`iter`, its `next`, `next_back` and `len`", By(&["iter"])),
+    ("`for` over `&`", By(&["for"])),
+    (
+        "`iter_mut`, its `next`, `next_back` and `len`",
+        By(&["iter_mut"]),
+    ),
+    ("`for` over `&mut`", By(&["for_mut"])),
+    ("`==`", By(&["eq"])),
+    ("`from_iter` of equal values", Never(OTHER_FROM_ITER)),
+    ("`default`", Never(CUT)),
+    ("`Debug`", Never(OTHER_DEDUP_TEXT)),
     ("`Send`, `Sync`", Never(CUT)),
 ];
 

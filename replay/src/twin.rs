@@ -5,6 +5,7 @@ mod any_arena;
 mod arena;
 mod buckets;
 mod component_vec;
+mod dedup_arena;
 mod few_keys;
 mod head_vec;
 mod stable_arena;
@@ -15,6 +16,7 @@ use crate::call::Call;
 use crate::table_call::TableCall;
 use any_arena::ArenaTwin;
 use component_vec::ComponentTwin;
+use dedup_arena::DedupTwin;
 use few_keys::FewKeys;
 use head_vec::HeadTwin;
 use stable_vec::VecTwin;
@@ -86,6 +88,7 @@ fn serve_keyed<'a, Key: ArenaKey + Debug>(
     match keyed {
         "stable_arena" => serve(ArenaTwin::<StableArena<Key, i64>>::new(), lines, out),
         "arena" => serve(ArenaTwin::<Arena<Key, i64>>::new(), lines, out),
+        "dedup_arena" => serve(DedupTwin::<Key>::new(), lines, out),
         "component_vec" => serve(ComponentTwin::<Key>::new(), lines, out),
         _ => {
             answers::bad(out)?;

@@ -18,6 +18,8 @@ pub enum Call<'a> {
     LastMut(i64),
     Alloc(i64),
     AllocMany(u16),
+    /// The key of an item, by the index of a `DedupArena`.
+    KeyOf(i64),
     /// A call on the item at an index, or under the key of that number.
     Item(usize, ItemCall),
     Swap(usize, usize),
@@ -103,6 +105,7 @@ impl<'a> Call<'a> {
             "last_mut" => Call::LastMut(number(words)?),
             "alloc" => Call::Alloc(number(words)?),
             "alloc_many" => Call::AllocMany(number(words)?),
+            "key_of" => Call::KeyOf(number(words)?),
             "get" => Call::Item(number(words)?, ItemCall::Get),
             "get_mut" => Call::Item(number(words)?, ItemCall::GetMut(number(words)?)),
             "put" => Call::Item(number(words)?, ItemCall::Put(number(words)?)),

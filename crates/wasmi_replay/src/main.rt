@@ -6,6 +6,7 @@ mod arena;
 mod call;
 mod component_vec;
 mod counted;
+mod dedup_arena;
 mod few_keys;
 mod hashed_map;
 mod hashed_set;

@@ -23,6 +23,7 @@ pub enum Tabled {
 pub enum Keyed {
     StableArena,
     Arena,
+    DedupArena,
     ComponentVec,
 }
 
@@ -52,6 +53,7 @@ impl Named {
             "hashed_set" => Named::Tabled(Tabled::HashedSet),
             "stable_arena" => Named::Keyed(Keyed::StableArena, Keys::parse(words.next()?)?),
             "arena" => Named::Keyed(Keyed::Arena, Keys::parse(words.next()?)?),
+            "dedup_arena" => Named::Keyed(Keyed::DedupArena, Keys::parse(words.next()?)?),
             "component_vec" => Named::Keyed(Keyed::ComponentVec, Keys::parse(words.next()?)?),
             _ => return None,
         };

@@ -4,6 +4,7 @@ use crate::answers::{bad, value};
 use crate::arena::ArenaReplay;
 use crate::call::Call;
 use crate::component_vec::ComponentReplay;
+use crate::dedup_arena::DedupReplay;
 use crate::few_keys::FewKeys;
 use crate::hashed_map::HashedMapReplay;
 use crate::hashed_set::HashedSetReplay;
@@ -89,6 +90,7 @@ fn serve_keyed<Key: PairKey + Debug, R: Read + Drop, W: Write>(
     match keyed {
         Keyed::StableArena => serve(StableArenaReplay::<Key>::new(alloc), lines, out),
         Keyed::Arena => serve(ArenaReplay::<Key>::new(alloc), lines, out),
+        Keyed::DedupArena => serve(DedupReplay::<Key>::new(alloc), lines, out),
         Keyed::ComponentVec => serve(ComponentReplay::<Key>::new(alloc), lines, out),
     }
 }

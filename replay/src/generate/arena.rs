@@ -37,7 +37,7 @@ impl Generator {
     }
 
     /// All items. Mostly their number where there are many.
-    fn shown(&mut self) -> Call {
+    pub(super) fn shown(&mut self) -> Call {
         if self.len > SHORT && !self.seldom() {
             return Call::Len;
         }
@@ -68,7 +68,7 @@ impl Generator {
 
     /// Both containers begin anew with the same items and are compared, mostly with another item in one. Never a long
     /// one.
-    fn rebuilt(&mut self) -> Call {
+    pub(super) fn rebuilt(&mut self) -> Call {
         let (first, count) = (self.value(), self.count());
         if self.len.max(self.other_len) > LONG || count > self.most {
             return Call::Eq;

@@ -1,0 +1,188 @@
+//! Calls on the Rust crate's `DedupArena`.
+
+use crate::call::{Call, ItemCall};
+use crate::twin::answers::{bad, counted, option, result, step, unless_it_panics};
+use crate::twin::Container;
+use std::fmt::{self, Debug};
+use std::io::{self, Write};
+use std::mem;
+use wasmi_collections::arena::{ArenaError, ArenaKey, DedupArena};
+
+/// An arena of distinct numbers, with the values handed in, by which the port's `index` is compared: by
+/// docs/DIFFERENCES.md, `DedupArena`, the Rust crate lends no index.
+struct Handed<Key> {
+    arena: DedupArena<Key, i64>,
+    handed: Vec<i64>,
+}
+
+/// Such an arena, and another one beside it. A line names a key by its number.
+pub struct DedupTwin<Key> {
+    one: Handed<Key>,
+    other: Handed<Key>,
+}
+
+impl<Key: ArenaKey> Handed<Key> {
+    fn new() -> Self {
+        Handed {
+            arena: DedupArena::new(),
+            handed: Vec::new(),
+        }
+    }
+
+    fn alloc(&mut self, item: i64) -> Result<Key, ArenaError> {
+        let key = self.arena.alloc(item)?;
+        if key.into_usize() == self.handed.len() {
+            self.handed.push(item);
+        }
+        Ok(key)
+    }
+
+    /// By docs/DIFFERENCES.md, `DedupArena::alloc`, `from_iter`, this keeps duplicates, and the port doesn't. The
+    /// numbers of a line are distinct. The port fails where one gets no key; here that panics.
+    fn collect(&mut self, items: impl ExactSizeIterator<Item = i64>) -> Result<(), ArenaError> {
+        if let Some(last) = items.len().checked_sub(1) {
+            Key::from_usize(last).ok_or(ArenaError::NotEnoughKeys)?;
+        }
+        self.handed = items.collect();
+        self.arena = self.handed.iter().copied().collect();
+        Ok(())
+    }
+
+    fn key_of(&self, item: i64) -> Option<usize> {
+        self.handed.iter().position(|handed| *handed == item)
+    }
+}
+
+impl<Key: ArenaKey> DedupTwin<Key> {
+    pub fn new() -> Self {
+        DedupTwin {
+            one: Handed::new(),
+            other: Handed::new(),
+        }
+    }
+
+    fn write(&mut self, key: Key, new: i64) -> Result<i64, ArenaError> {
+        let item = self.one.arena.get_mut(key)?;
+        Ok(mem::replace(item, new))
+    }
+
+    fn answer_item(&mut self, key: Key, call: ItemCall, out: &mut impl Write) -> io::Result<()> {
+        match call {
+            ItemCall::Get => result(out, self.one.arena.get(key)),
+            ItemCall::GetMut(item) => result(out, self.write(key, item)),
+            ItemCall::Index => match unless_it_panics(|| self.one.arena[key]) {
+                Some(item) => writeln!(out, "{item}"),
+                None => writeln!(out, "no item"),
+            },
+            ItemCall::IndexMut(item) => match unless_it_panics(|| self.one.arena[key] = item) {
+                Some(()) => writeln!(out, "written"),
+                None => writeln!(out, "no item"),
+            },
+            _ => bad(out),
+        }
+    }
+}
+
+impl<Key: ArenaKey + Debug> Container for DedupTwin<Key> {
+    fn answer(&mut self, call: Call, out: &mut impl Write) -> io::Result<()> {
+        match call {
+            Call::Len => writeln!(out, "{}", self.one.arena.len()),
+            Call::IsEmpty => writeln!(out, "{}", self.one.arena.is_empty()),
+            Call::Clear => {
+                self.one.arena.clear();
+                self.one.handed.clear();
+                writeln!(out, "done")
+            }
+            Call::Alloc(item) => result(out, self.one.alloc(item).map(Key::into_usize)),
+            Call::KeyOf(item) => option(out, self.one.key_of(item)),
+            Call::FromIter(first, count) => result(
+                out,
+                self.one.collect(counted(first, count)).map(|()| "done"),
+            ),
+            Call::Item(number, call) => match Key::from_usize(number) {
+                Some(key) => self.answer_item(key, call, out),
+                None => writeln!(out, "no key"),
+            },
+            Call::Exchange => {
+                mem::swap(&mut self.one, &mut self.other);
+                writeln!(out, "done")
+            }
+            Call::Eq => writeln!(out, "{}", self.one.arena == self.other.arena),
+            Call::Debug => writeln!(out, "{:?}", AsMap(&self.one.arena)),
+            Call::Iter(steps) => iter(&self.one.arena, &steps, out),
+            Call::For => all(&self.one.arena, out),
+            Call::IterMut(steps, first) => iter_mut(&mut self.one.arena, &steps, first, out),
+            Call::ForMut(first) => all_mut(&mut self.one.arena, first, out),
+            _ => bad(out),
+        }
+    }
+}
+
+/// The text of an arena. By docs/DIFFERENCES.md, '`Debug` of `DedupArena`', the Rust crate shows the private fields,
+/// and the port a map from keys to items.
+struct AsMap<'a, Key>(&'a DedupArena<Key, i64>);
+
+impl<Key: ArenaKey + Debug> Debug for AsMap<'_, Key> {
+    fn fmt(&self, f: &mut fmt::Formatter<'_>) -> fmt::Result {
+        f.debug_map().entries(self.0.iter()).finish()
+    }
+}
+
+fn iter<Key: ArenaKey>(
+    arena: &DedupArena<Key, i64>,
+    steps: &str,
+    out: &mut impl Write,
+) -> io::Result<()> {
+    let mut entries = arena.iter();
+    for letter in steps.chars() {
+        match step(&mut entries, letter) {
+            Some((key, item)) => write!(out, "{}={item} ", key.into_usize())?,
+            None => write!(out, "none ")?,
+        }
+    }
+    writeln!(out, "left {}", entries.len())
+}
+
+fn all<Key: ArenaKey>(arena: &DedupArena<Key, i64>, out: &mut impl Write) -> io::Result<()> {
+    write!(out, "{}:", arena.len())?;
+    for (key, item) in arena {
+        write!(out, " {}={item}", key.into_usize())?;
+    }
+    writeln!(out)
+}
+
+fn iter_mut<Key: ArenaKey>(
+    arena: &mut DedupArena<Key, i64>,
+    steps: &str,
+    first: i64,
+    out: &mut impl Write,
+) -> io::Result<()> {
+    let mut new = first;
+    let mut entries = arena.iter_mut();
+    for letter in steps.chars() {
+        match step(&mut entries, letter) {
+            Some((key, item)) => {
+                write!(out, "{}={item} ", key.into_usize())?;
+                *item = new;
+                new = new.wrapping_add(1);
+            }
+            None => write!(out, "none ")?,
+        }
+    }
+    writeln!(out, "left {}", entries.len())
+}
+
+fn all_mut<Key: ArenaKey>(
+    arena: &mut DedupArena<Key, i64>,
+    first: i64,
+    out: &mut impl Write,
+) -> io::Result<()> {
+    write!(out, "{}:", arena.len())?;
+    let mut new = first;
+    for (key, item) in arena {
+        write!(out, " {}={item}", key.into_usize())?;
+        *item = new;
+        new = new.wrapping_add(1);
+    }
+    writeln!(out)
+}
