@@ -1,4 +1,4 @@
-use Rattle.std.proofs.Common.{List, [], ◌∷◌, ℕ, nat_eq, eqb-true, eq-eqb, refl, arith}
+use Rattle.std.proofs.Common.{[], ◌∷◌, nat_eq, eqb-true, eq-eqb, refl, arith}
 use Rattle.std.specs.Bool.{one_answer}
 use Rattle.wasmi_collections.specs.declared.run.dedup.DedupCommand.TheVariants.{Alloc}
 use Rattle.wasmi_collections.specs.declared.run.dedup.DedupReply.TheVariants.{Key}
