@@ -5,6 +5,7 @@ mod arena;
 mod component_vec;
 mod dedup_arena;
 mod head_vec;
+mod string_interner;
 mod tables;
 
 use crate::call::{Call, ItemCall};
@@ -13,7 +14,7 @@ use crate::table_call::TableCall;
 use std::fmt::Write;
 
 /// What a line `on ..` names.
-pub const CONTAINERS: [&str; 23] = [
+pub const CONTAINERS: [&str; 24] = [
     "stable_vec",
     "stable_arena u32",
     "stable_arena usize",
@@ -37,6 +38,7 @@ pub const CONTAINERS: [&str; 23] = [
     "hashed_set",
     "dedup_arena usize",
     "dedup_arena few",
+    "string_interner",
 ];
 
 /// The first word of such a name.
@@ -50,6 +52,7 @@ enum Kind {
     HeadVec,
     Map,
     Set,
+    StringInterner,
 }
 
 impl Kind {
@@ -62,6 +65,7 @@ impl Kind {
             Some("head_vec") => Kind::HeadVec,
             Some("ordered_map" | "hashed_map") => Kind::Map,
             Some("ordered_set" | "hashed_set") => Kind::Set,
+            Some("string_interner") => Kind::StringInterner,
             _ => Kind::StableVec,
         }
     }
@@ -188,6 +192,9 @@ impl Generator {
             } else if matches!(self.kind, Kind::Map | Kind::Set) {
                 let call = self.table_call(target);
                 self.line(call);
+            } else if self.kind == Kind::StringInterner {
+                let call = self.interner_call(target);
+                self.line(call);
             } else {
                 let call = self.call(target);
                 self.line(call);
@@ -211,8 +218,8 @@ impl Generator {
             Kind::DedupArena => self.dedup_call(target),
             Kind::ComponentVec => self.component_call(target),
             Kind::HeadVec => self.head_call(target),
-            // `phase` draws those of maps and sets.
-            Kind::Map | Kind::Set => Call::Len,
+            // `phase` draws those of maps, sets and interners.
+            Kind::Map | Kind::Set | Kind::StringInterner => Call::Len,
         }
     }
 
@@ -251,7 +258,7 @@ impl Generator {
     /// A call that prints all items.
     fn all(&self) -> Call {
         match self.kind {
-            Kind::ComponentVec | Kind::HeadVec => Call::Debug,
+            Kind::ComponentVec | Kind::HeadVec | Kind::StringInterner => Call::Debug,
             _ => Call::For,
         }
     }

@@ -45,29 +45,37 @@ const NO_INTO_KEY: &str =
 
 const NO_ENTRY_TEXT: &str = "the port has none (docs/DIFFERENCES.md, 'What was cut')";
 
-/// The calls of a type, and of its iterators.
+const OTHER_TEXTS: &str = "the port takes a `&str` (docs/DIFFERENCES.md, '`StringInterner::get`, \
+    `get_or_intern`, `get_or_intern_with_hint`')";
+
+const OTHER_INTERNER_TEXT: &str =
+    "the port's text is another (docs/DIFFERENCES.md, '`Debug` of `StringInterner`'); the driver makes that \
+    from what `resolve` gives";
+
+/// Calls of a type, and of its iterators.
 type Calls = &'static [(&'static str, Made)];
 
 /// Each type, with the first word by which a line `on ..` names it, and its calls.
-pub const TYPES: [(&str, &str, Calls); 10] = [
-    ("stable_vec", "`StableVec`", STABLE_VEC),
-    ("stable_arena", "`StableArena`", STABLE_ARENA),
-    ("arena", "`Arena`", ARENA),
-    ("component_vec", "`ComponentVec`", COMPONENT_VEC),
-    ("head_vec", "`HeadVec`", HEAD_VEC),
-    ("ordered_map", "ordered `Map`", ORDERED_MAP),
-    ("ordered_set", "ordered `Set`", SET),
+pub const TYPES: [(&str, &str, &[Calls]); 11] = [
+    ("stable_vec", "`StableVec`", &[STABLE_VEC]),
+    ("stable_arena", "`StableArena`", &[STABLE_ARENA]),
+    ("arena", "`Arena`", &[ARENA]),
+    ("component_vec", "`ComponentVec`", &[COMPONENT_VEC]),
+    ("head_vec", "`HeadVec`", &[HEAD_VEC]),
+    ("ordered_map", "ordered `Map`", &[MAP, ORDERED_MAP]),
+    ("ordered_set", "ordered `Set`", &[SET]),
     (
         "hashed_map",
         "hashed `Map`, for which Rust's `HashMap` stands",
-        HASHED_MAP,
+        &[MAP, HASHED_MAP],
     ),
     (
         "hashed_set",
         "hashed `Set`, for which Rust's `HashSet` stands",
-        SET,
+        &[SET],
     ),
-    ("dedup_arena", "`DedupArena`", DEDUP_ARENA),
+    ("dedup_arena", "`DedupArena`", &[DEDUP_ARENA]),
+    ("string_interner", "`StringInterner`", &[STRING_INTERNER]),
 ];
 
 const STABLE_VEC: Calls = &[
@@ -231,7 +239,7 @@ const ENTRIES: &[&str] = &[
     "vacant_into_key",
 ];
 
-const ORDERED_MAP: Calls = &[
+const MAP: Calls = &[
     ("`new`", By(&["on"])),
     ("`clear`", By(&["clear"])),
     ("`len`", By(&["len"])),
@@ -281,7 +289,6 @@ const ORDERED_MAP: Calls = &[
         By(&["occupied_remove_entry"]),
     ),
     ("`VacantEntry::insert`", By(&["vacant_insert"])),
-    ("`VacantEntry::into_key`", By(&["vacant_into_key"])),
     ("`default`", Never(CUT)),
     ("look-ups by a `&Q`", Never(BORROWED)),
     ("`Debug`", Never(OTHER_TABLE_TEXT)),
@@ -293,67 +300,9 @@ const ORDERED_MAP: Calls = &[
     ("`Send`, `Sync`", Never(CUT)),
 ];
 
-const HASHED_MAP: Calls = &[
-    ("`new`", By(&["on"])),
-    ("`clear`", By(&["clear"])),
-    ("`len`", By(&["len"])),
-    ("`is_empty`", By(&["is_empty"])),
-    ("`reserve`", By(&["reserve"])),
-    ("`contains_key`", By(&["contains_key"])),
-    ("`get`", By(&["get"])),
-    ("`get_key_value`", By(&["get_key_value"])),
-    ("`get_mut`", By(&["get_mut"])),
-    ("`map[&key]`", By(&["index"])),
-    ("`insert`", By(&["insert"])),
-    ("`remove`", By(&["remove"])),
-    ("`remove_entry`", By(&["remove_entry"])),
-    ("`retain`", By(&["retain"])),
-    ("`iter`, its `next` and `len`", By(&["iter"])),
-    ("`keys`, its `next` and `len`", By(&["keys"])),
-    ("`values`, its `next` and `len`", By(&["values"])),
-    ("`iter_mut`, its `next` and `len`", By(&["iter_mut"])),
-    ("`values_mut`, its `next` and `len`", By(&["values_mut"])),
-    ("`into_iter`, its `next` and `len`", By(&["into_iter"])),
-    ("`into_keys`, its `next` and `len`", By(&["into_keys"])),
-    ("`into_values`, its `next` and `len`", By(&["into_values"])),
-    ("`for` over `&`", By(&["for"])),
-    ("`for` over `&mut`", By(&["for_mut"])),
-    ("`extend`", By(&["extend"])),
-    ("`extend` by reference", By(&["extend_ref"])),
-    ("`from_iter`", By(&["from_iter"])),
-    ("`clone`", By(&["clone"])),
-    ("`==`", By(&["eq"])),
-    ("`entry`", By(ENTRIES)),
-    ("`Entry::key`", By(&["entry_key"])),
-    ("`Entry::or_insert`", By(&["or_insert", "and_modify"])),
-    ("`Entry::or_insert_with`", By(&["or_insert_with"])),
-    ("`Entry::or_insert_with_key`", By(&["or_insert_with_key"])),
-    ("`Entry::or_default`", By(&["or_default"])),
-    ("`Entry::and_modify`", By(&["and_modify"])),
-    (
-        "`OccupiedEntry::key`, `get`; `VacantEntry::key`",
-        By(&["entry"]),
-    ),
-    ("`OccupiedEntry::get_mut`", By(&["occupied_get_mut"])),
-    ("`OccupiedEntry::insert`", By(&["occupied_insert"])),
-    ("`OccupiedEntry::into_mut`", By(&["occupied_into_mut"])),
-    ("`OccupiedEntry::remove`", By(&["occupied_remove"])),
-    (
-        "`OccupiedEntry::remove_entry`",
-        By(&["occupied_remove_entry"]),
-    ),
-    ("`VacantEntry::insert`", By(&["vacant_insert"])),
-    ("`VacantEntry::into_key`", Never(NO_INTO_KEY)),
-    ("`default`", Never(CUT)),
-    ("look-ups by a `&Q`", Never(BORROWED)),
-    ("`Debug`", Never(OTHER_TABLE_TEXT)),
-    ("`Debug` of an entry", Never(NO_ENTRY_TEXT)),
-    (
-        "`size_hint`, `Clone` and `Debug` of an iterator",
-        Never(CUT),
-    ),
-    ("`Send`, `Sync`", Never(CUT)),
-];
+const ORDERED_MAP: Calls = &[("`VacantEntry::into_key`", By(&["vacant_into_key"]))];
+
+const HASHED_MAP: Calls = &[("`VacantEntry::into_key`", Never(NO_INTO_KEY))];
 
 const SET: Calls = &[
     ("`default`, as the port's `new`", By(&["on"])),
@@ -396,6 +345,34 @@ const SET: Calls = &[
     ("`Send`, `Sync`", Never(CUT)),
 ];
 
+const STRING_INTERNER: Calls = &[
+    ("`default`, as the port's `new`", By(&["on"])),
+    ("`len`", By(&["len"])),
+    ("`is_empty`", By(&["is_empty"])),
+    ("`get`", By(&["get", "get_counted"])),
+    ("`get_or_intern`", By(&["get_or_intern"])),
+    (
+        "`get_or_intern_with_hint`, `Debug` of a hint",
+        By(&["get_or_intern_with_hint"]),
+    ),
+    ("`resolve`", By(&["resolve"])),
+    ("`clone`", By(&["clone"])),
+    ("`==`", By(&["eq"])),
+    (
+        "`from_u32` and `into_u32` of a symbol",
+        By(&["resolve", "get"]),
+    ),
+    ("`from_usize` of a symbol", By(&["symbols"])),
+    ("`into_usize` of a symbol", By(&["get_counted"])),
+    (
+        "`==`, `partial_cmp`, `cmp`, `hash` and `Debug` of symbols",
+        By(&["symbols"]),
+    ),
+    ("a text by `AsRef<str>`", Never(OTHER_TEXTS)),
+    ("`Debug`", Never(OTHER_INTERNER_TEXT)),
+    ("`Send`, `Sync`", Never(CUT)),
+];
+
 /// How many lines there were of each name.
 #[derive(Default)]
 pub struct Counts {
@@ -421,11 +398,11 @@ impl Counts {
 }
 
 /// Prints how often each call was made, and which ones never. False if one of the first kind never was.
-pub fn print(name: &str, calls: Calls, counts: &Counts) -> bool {
+pub fn print(name: &str, calls: &[Calls], counts: &Counts) -> bool {
     println!("\n| Call of the Rust crate's {name} | Lines that make it | How many |");
     println!("|---|---|---|");
     let mut all_made = true;
-    for (call, made) in calls {
+    for (call, made) in calls.iter().copied().flatten() {
         if let By(names) = made {
             let times = counts.of(names);
             all_made &= times > 0;
@@ -434,7 +411,7 @@ pub fn print(name: &str, calls: Calls, counts: &Counts) -> bool {
     }
     println!("\n| Never made on {name} | Why |");
     println!("|---|---|");
-    for (call, made) in calls {
+    for (call, made) in calls.iter().copied().flatten() {
         if let Never(why) = made {
             println!("| {call} | {why} |");
         }

@@ -10,10 +10,9 @@ mod few_keys;
 mod head_vec;
 mod stable_arena;
 mod stable_vec;
+mod string_interner;
 mod tables;
 
-use crate::call::Call;
-use crate::table_call::TableCall;
 use any_arena::ArenaTwin;
 use component_vec::ComponentTwin;
 use dedup_arena::DedupTwin;
@@ -23,19 +22,14 @@ use stable_vec::VecTwin;
 use std::fmt::Debug;
 use std::io::{self, Write};
 use std::num::NonZero;
+use string_interner::InternerTwin;
 use tables::{HashedMapTwin, HashedSetTwin, OrderedMapTwin, OrderedSetTwin};
 use wasmi_collections::arena::{Arena, ArenaKey, StableArena};
 
 /// A container at work.
 trait Container {
-    /// Makes a call, and writes the line of its answer.
-    fn answer(&mut self, call: Call, out: &mut impl Write) -> io::Result<()>;
-}
-
-/// A map or a set at work.
-trait Table {
-    /// Makes a call, and writes the line of its answer.
-    fn answer(&mut self, call: TableCall, out: &mut impl Write) -> io::Result<()>;
+    /// Makes the call that a line names, and writes the line of its answer.
+    fn answer(&mut self, line: &str, out: &mut impl Write) -> io::Result<()>;
 }
 
 /// Writes one line for each line of the input.
@@ -63,10 +57,11 @@ fn serve_named<'a>(
     match name.split_once(' ') {
         None if name == "stable_vec" => serve(VecTwin::new(), lines, out),
         None if name == "head_vec" => serve(HeadTwin::default(), lines, out),
-        None if name == "ordered_map" => serve_table(OrderedMapTwin::default(), lines, out),
-        None if name == "ordered_set" => serve_table(OrderedSetTwin::default(), lines, out),
-        None if name == "hashed_map" => serve_table(HashedMapTwin::default(), lines, out),
-        None if name == "hashed_set" => serve_table(HashedSetTwin::default(), lines, out),
+        None if name == "ordered_map" => serve(OrderedMapTwin::default(), lines, out),
+        None if name == "ordered_set" => serve(OrderedSetTwin::default(), lines, out),
+        None if name == "hashed_map" => serve(HashedMapTwin::default(), lines, out),
+        None if name == "hashed_set" => serve(HashedSetTwin::default(), lines, out),
+        None if name == "string_interner" => serve(InternerTwin::default(), lines, out),
         Some((keyed, "u32")) => serve_keyed::<u32>(keyed, lines, out),
         Some((keyed, "usize")) => serve_keyed::<usize>(keyed, lines, out),
         Some((keyed, "non_zero_u32")) => serve_keyed::<NonZero<u32>>(keyed, lines, out),
@@ -109,29 +104,7 @@ fn serve<'a>(
         if line.starts_with("on ") {
             return Ok(Some(line));
         }
-        match Call::parse(line) {
-            Some(call) => container.answer(call, out)?,
-            None => answers::bad(out)?,
-        }
-    }
-    Ok(None)
-}
-
-/// The same, of a map or a set.
-fn serve_table<'a>(
-    mut table: impl Table,
-    lines: &mut impl Iterator<Item = &'a str>,
-    out: &mut impl Write,
-) -> io::Result<Option<&'a str>> {
-    writeln!(out, "new")?;
-    for line in lines {
-        if line.starts_with("on ") {
-            return Ok(Some(line));
-        }
-        match TableCall::parse(line) {
-            Some(call) => table.answer(call, out)?,
-            None => answers::bad(out)?,
-        }
+        container.answer(line, out)?;
     }
     Ok(None)
 }

@@ -54,7 +54,10 @@ impl<Key: ArenaKey> ComponentReplay<Key> {
 }
 
 impl<Key: ArenaKey> Container for ComponentReplay<Key> {
-    fn answer<W: Write>(&mut self, call: Call<'_>, out: &mut W) -> io::Result<()> {
+    fn answer<W: Write>(&mut self, line: &str, out: &mut W) -> io::Result<()> {
+        let Some(call) = Call::parse(line) else {
+            return bad(out);
+        };
         match call {
             Call::Extent => value(out, self.components.extent()),
             Call::Clear => {

@@ -58,7 +58,10 @@ impl<Key: ArenaKey> DedupReplay<Key> {
 }
 
 impl<Key: ArenaKey + Debug> Container for DedupReplay<Key> {
-    fn answer<W: Write>(&mut self, call: Call<'_>, out: &mut W) -> io::Result<()> {
+    fn answer<W: Write>(&mut self, line: &str, out: &mut W) -> io::Result<()> {
+        let Some(call) = Call::parse(line) else {
+            return bad(out);
+        };
         match call {
             Call::Len => value(out, self.arena.len()),
             Call::IsEmpty => value(out, self.arena.is_empty()),

@@ -2,7 +2,7 @@
 
 use crate::answers::{bad, debug, found, option, pair, refusal, result, value};
 use crate::counted::Pairs;
-use crate::replay::Table;
+use crate::replay::Container;
 use crate::table_call::{EntryCall, KeyCall, TableCall, WalkCall};
 use crate::walk::walk;
 use std::alloc::Global;
@@ -83,8 +83,11 @@ impl HashedMapReplay {
     }
 }
 
-impl Table for HashedMapReplay {
-    fn answer<W: Write>(&mut self, call: TableCall, out: &mut W) -> io::Result<()> {
+impl Container for HashedMapReplay {
+    fn answer<W: Write>(&mut self, line: &str, out: &mut W) -> io::Result<()> {
+        let Some(call) = TableCall::parse(line) else {
+            return bad(out);
+        };
         match call {
             TableCall::Len => value(out, self.map.len()),
             TableCall::IsEmpty => value(out, self.map.is_empty()),

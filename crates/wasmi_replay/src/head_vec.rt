@@ -38,7 +38,10 @@ impl HeadReplay {
 }
 
 impl Container for HeadReplay {
-    fn answer<W: Write>(&mut self, call: Call<'_>, out: &mut W) -> io::Result<()> {
+    fn answer<W: Write>(&mut self, line: &str, out: &mut W) -> io::Result<()> {
+        let Some(call) = Call::parse(line) else {
+            return bad(out);
+        };
         match call {
             Call::Len => value(out, self.list.len()),
             Call::IsEmpty => value(out, self.list.is_empty()),

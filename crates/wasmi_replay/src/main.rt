@@ -11,6 +11,7 @@ mod few_keys;
 mod hashed_map;
 mod hashed_set;
 mod head_vec;
+mod interner_call;
 mod lines;
 mod named;
 mod ordered_map;
@@ -19,6 +20,7 @@ mod pair_key;
 mod replay;
 mod stable_arena;
 mod stable_vec;
+mod string_interner;
 mod table_call;
 mod walk;
 

@@ -5,17 +5,12 @@
 pub enum Named {
     StableVec,
     HeadVec,
-    Keyed(Keyed, Keys),
-    Tabled(Tabled),
-}
-
-/// A map or a set.
-#[derive(Clone, Copy, Debug)]
-pub enum Tabled {
     OrderedMap,
     OrderedSet,
     HashedMap,
     HashedSet,
+    StringInterner,
+    Keyed(Keyed, Keys),
 }
 
 /// A container whose items have keys.
@@ -47,10 +42,11 @@ impl Named {
         let named = match words.next()? {
             "stable_vec" => Named::StableVec,
             "head_vec" => Named::HeadVec,
-            "ordered_map" => Named::Tabled(Tabled::OrderedMap),
-            "ordered_set" => Named::Tabled(Tabled::OrderedSet),
-            "hashed_map" => Named::Tabled(Tabled::HashedMap),
-            "hashed_set" => Named::Tabled(Tabled::HashedSet),
+            "ordered_map" => Named::OrderedMap,
+            "ordered_set" => Named::OrderedSet,
+            "hashed_map" => Named::HashedMap,
+            "hashed_set" => Named::HashedSet,
+            "string_interner" => Named::StringInterner,
             "stable_arena" => Named::Keyed(Keyed::StableArena, Keys::parse(words.next()?)?),
             "arena" => Named::Keyed(Keyed::Arena, Keys::parse(words.next()?)?),
             "dedup_arena" => Named::Keyed(Keyed::DedupArena, Keys::parse(words.next()?)?),

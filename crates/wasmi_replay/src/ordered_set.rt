@@ -2,7 +2,7 @@
 
 use crate::answers::{bad, debug, option, result, value};
 use crate::counted::Stepped;
-use crate::replay::Table;
+use crate::replay::Container;
 use crate::table_call::{BothCall, KeyCall, TableCall, WalkCall};
 use crate::walk::{walk, walk_all};
 use std::alloc::Global;
@@ -114,8 +114,11 @@ impl OrderedSetReplay {
     }
 }
 
-impl Table for OrderedSetReplay {
-    fn answer<W: Write>(&mut self, call: TableCall, out: &mut W) -> io::Result<()> {
+impl Container for OrderedSetReplay {
+    fn answer<W: Write>(&mut self, line: &str, out: &mut W) -> io::Result<()> {
+        let Some(call) = TableCall::parse(line) else {
+            return bad(out);
+        };
         match call {
             TableCall::Len => value(out, self.set.len()),
             TableCall::IsEmpty => value(out, self.set.is_empty()),

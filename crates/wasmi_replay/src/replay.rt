@@ -2,7 +2,6 @@
 
 use crate::answers::{bad, value};
 use crate::arena::ArenaReplay;
-use crate::call::Call;
 use crate::component_vec::ComponentReplay;
 use crate::dedup_arena::DedupReplay;
 use crate::few_keys::FewKeys;
@@ -10,13 +9,13 @@ use crate::hashed_map::HashedMapReplay;
 use crate::hashed_set::HashedSetReplay;
 use crate::head_vec::HeadReplay;
 use crate::lines::Lines;
-use crate::named::{Keyed, Keys, Named, Tabled};
+use crate::named::{Keyed, Keys, Named};
 use crate::ordered_map::OrderedMapReplay;
 use crate::ordered_set::OrderedSetReplay;
 use crate::pair_key::PairKey;
 use crate::stable_arena::StableArenaReplay;
 use crate::stable_vec::VecReplay;
-use crate::table_call::TableCall;
+use crate::string_interner::InternerReplay;
 use std::alloc::Global;
 use std::fmt::Debug;
 use std::io;
@@ -25,14 +24,8 @@ use std::num::NonZero;
 
 /// A container at work.
 pub trait Container {
-    /// Makes a call, and writes the line of its answer.
-    fn answer<W: Write>(&mut self, call: Call<'_>, out: &mut W) -> io::Result<()>;
-}
-
-/// A map or a set at work.
-pub trait Table {
-    /// Makes a call, and writes the line of its answer.
-    fn answer<W: Write>(&mut self, call: TableCall, out: &mut W) -> io::Result<()>;
+    /// Makes the call that a line names, and writes the line of its answer.
+    fn answer<W: Write>(&mut self, line: &str, out: &mut W) -> io::Result<()>;
 }
 
 /// Makes the calls of the input on the containers that it names, and writes one line for each of its
@@ -53,7 +46,11 @@ pub fn run<R: Read + Drop, W: Write + Drop>(alloc: Global, reader: R, writer: W)
             Some(Named::Keyed(keyed, keys)) => {
                 serve_under(keyed, keys, alloc, &mut lines, &mut out)?
             }
-            Some(Named::Tabled(tabled)) => serve_tabled(tabled, alloc, &mut lines, &mut out)?,
+            Some(Named::OrderedMap) => serve(OrderedMapReplay::new(alloc), &mut lines, &mut out)?,
+            Some(Named::OrderedSet) => serve(OrderedSetReplay::new(alloc), &mut lines, &mut out)?,
+            Some(Named::HashedMap) => serve(HashedMapReplay::new(alloc), &mut lines, &mut out)?,
+            Some(Named::HashedSet) => serve(HashedSetReplay::new(alloc), &mut lines, &mut out)?,
+            Some(Named::StringInterner) => serve(InternerReplay::new(alloc), &mut lines, &mut out)?,
             None => {
                 bad(&mut out)?;
                 lines.advance()?
@@ -111,48 +108,7 @@ fn serve<C: Container + Drop, R: Read + Drop, W: Write>(
         if line.starts_with("on ") {
             return Ok(true);
         }
-        match Call::parse(line) {
-            Some(call) => container.answer(call, out)?,
-            None => bad(out)?,
-        }
-    }
-    Ok(false)
-}
-
-// The same as `serve_table`, on a new map or set.
-fn serve_tabled<R: Read + Drop, W: Write>(
-    tabled: Tabled,
-    alloc: Global,
-    lines: &mut Lines<R>,
-    out: &mut W,
-) -> io::Result<bool> {
-    match tabled {
-        Tabled::OrderedMap => serve_table(OrderedMapReplay::new(alloc), lines, out),
-        Tabled::OrderedSet => serve_table(OrderedSetReplay::new(alloc), lines, out),
-        Tabled::HashedMap => serve_table(HashedMapReplay::new(alloc), lines, out),
-        Tabled::HashedSet => serve_table(HashedSetReplay::new(alloc), lines, out),
-    }
-}
-
-// The same as `serve`, of a map or a set.
-fn serve_table<T: Table + Drop, R: Read + Drop, W: Write>(
-    mut table: T,
-    lines: &mut Lines<R>,
-    out: &mut W,
-) -> io::Result<bool> {
-    value(out, "new")?;
-    for _ in 0..u64::MAX {
-        if !lines.advance()? {
-            break;
-        }
-        let line = lines.text().unwrap_or("");
-        if line.starts_with("on ") {
-            return Ok(true);
-        }
-        match TableCall::parse(line) {
-            Some(call) => table.answer(call, out)?,
-            None => bad(out)?,
-        }
+        container.answer(line, out)?;
     }
     Ok(false)
 }

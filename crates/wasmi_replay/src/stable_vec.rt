@@ -53,7 +53,10 @@ impl VecReplay {
 }
 
 impl Container for VecReplay {
-    fn answer<W: Write>(&mut self, call: Call<'_>, out: &mut W) -> io::Result<()> {
+    fn answer<W: Write>(&mut self, line: &str, out: &mut W) -> io::Result<()> {
+        let Some(call) = Call::parse(line) else {
+            return bad(out);
+        };
         match call {
             Call::Len => value(out, self.vec.len()),
             Call::IsEmpty => value(out, self.vec.is_empty()),

@@ -175,7 +175,10 @@ impl<A: AnyArena> ArenaTwin<A> {
 }
 
 impl<A: AnyArena> Container for ArenaTwin<A> {
-    fn answer(&mut self, call: Call, out: &mut impl Write) -> io::Result<()> {
+    fn answer(&mut self, line: &str, out: &mut impl Write) -> io::Result<()> {
+        let Some(call) = Call::parse(line) else {
+            return bad(out);
+        };
         match call {
             Call::Len => writeln!(out, "{}", self.arena.len()),
             Call::IsEmpty => writeln!(out, "{}", self.arena.is_empty()),

@@ -76,7 +76,10 @@ impl<Key: ArenaKey> ComponentTwin<Key> {
 }
 
 impl<Key: ArenaKey> Container for ComponentTwin<Key> {
-    fn answer(&mut self, call: Call, out: &mut impl Write) -> io::Result<()> {
+    fn answer(&mut self, line: &str, out: &mut impl Write) -> io::Result<()> {
+        let Some(call) = Call::parse(line) else {
+            return bad(out);
+        };
         match call {
             Call::Extent => writeln!(out, "{}", self.components.extent),
             Call::Clear => {

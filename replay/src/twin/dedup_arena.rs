@@ -84,7 +84,10 @@ impl<Key: ArenaKey> DedupTwin<Key> {
 }
 
 impl<Key: ArenaKey + Debug> Container for DedupTwin<Key> {
-    fn answer(&mut self, call: Call, out: &mut impl Write) -> io::Result<()> {
+    fn answer(&mut self, line: &str, out: &mut impl Write) -> io::Result<()> {
+        let Some(call) = Call::parse(line) else {
+            return bad(out);
+        };
         match call {
             Call::Len => writeln!(out, "{}", self.one.arena.len()),
             Call::IsEmpty => writeln!(out, "{}", self.one.arena.is_empty()),

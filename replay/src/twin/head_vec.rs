@@ -14,7 +14,10 @@ pub struct HeadTwin {
 }
 
 impl Container for HeadTwin {
-    fn answer(&mut self, call: Call, out: &mut impl Write) -> io::Result<()> {
+    fn answer(&mut self, line: &str, out: &mut impl Write) -> io::Result<()> {
+        let Some(call) = Call::parse(line) else {
+            return bad(out);
+        };
         let list = &mut self.list;
         match call {
             Call::Len => writeln!(out, "{}", list.len()),

@@ -30,7 +30,10 @@ impl VecTwin {
 }
 
 impl Container for VecTwin {
-    fn answer(&mut self, call: Call, out: &mut impl Write) -> io::Result<()> {
+    fn answer(&mut self, line: &str, out: &mut impl Write) -> io::Result<()> {
+        let Some(call) = Call::parse(line) else {
+            return bad(out);
+        };
         let vec = &mut self.vec;
         match call {
             Call::Len => writeln!(out, "{}", vec.len()),

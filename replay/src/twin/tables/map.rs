@@ -3,7 +3,7 @@
 use super::{braced, stepped, walk};
 use crate::table_call::{EntryCall, KeyCall, TableCall, WalkCall};
 use crate::twin::answers::{bad, counted, option, unless_it_panics};
-use crate::twin::Table;
+use crate::twin::Container;
 use std::collections::{hash_map, HashMap};
 use std::io::{self, Write};
 use std::mem;
@@ -163,8 +163,11 @@ macro_rules! map_twin {
             }
         }
 
-        impl Table for $Twin {
-            fn answer(&mut self, call: TableCall, out: &mut impl Write) -> io::Result<()> {
+        impl Container for $Twin {
+            fn answer(&mut self, line: &str, out: &mut impl Write) -> io::Result<()> {
+                let Some(call) = TableCall::parse(line) else {
+                    return bad(out);
+                };
                 let map = &mut self.map;
                 match call {
                     TableCall::Len => return writeln!(out, "{}", map.len()),

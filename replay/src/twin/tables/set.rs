@@ -3,7 +3,7 @@
 use super::{braced, stepped, walk, walk_all};
 use crate::table_call::{BothCall, KeyCall, TableCall, WalkCall};
 use crate::twin::answers::{bad, option};
-use crate::twin::Table;
+use crate::twin::Container;
 use std::collections::HashSet;
 use std::io::{self, Write};
 use std::mem;
@@ -74,8 +74,11 @@ macro_rules! set_twin {
             }
         }
 
-        impl Table for $Twin {
-            fn answer(&mut self, call: TableCall, out: &mut impl Write) -> io::Result<()> {
+        impl Container for $Twin {
+            fn answer(&mut self, line: &str, out: &mut impl Write) -> io::Result<()> {
+                let Some(call) = TableCall::parse(line) else {
+                    return bad(out);
+                };
                 let set = &mut self.set;
                 match call {
                     TableCall::Len => return writeln!(out, "{}", set.len()),

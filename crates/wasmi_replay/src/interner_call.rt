@@ -1,0 +1,73 @@
+//! What a line asks of an interner.
+
+use crate::call::number;
+use std::str::Split;
+use wasmi_collections::string_interner::InternHint;
+
+/// A call on an interner, named as the method is.
+#[derive(Clone, Copy, Debug)]
+pub enum InternerCall<'a> {
+    Len,
+    IsEmpty,
+    Get(&'a str),
+    /// The same, with the texts that it compares counted.
+    GetCounted(&'a str),
+    GetOrIntern(&'a str),
+    GetOrInternWithHint(InternHint, &'a str),
+    Resolve(u32),
+    /// Two symbols, by their numbers: printed, compared and hashed.
+    Symbols(u32, u32),
+    /// A clone, in the place of the other interner.
+    Clone,
+    /// Go on with the other interner.
+    Exchange,
+    /// `==`, with the other interner.
+    Eq,
+    Debug,
+}
+
+impl<'a> InternerCall<'a> {
+    /// Reads a line, given without its line feed. `None` if it names no call, or not with its text or
+    /// numbers.
+    pub fn parse(line: &'a str) -> Option<InternerCall<'a>> {
+        let mut words = line.split(' ');
+        let name = words.next()?;
+        let call = InternerCall::named(name, &mut words)?;
+        match words.next() {
+            None => Some(call),
+            Some(_) => None,
+        }
+    }
+
+    // The call of a name, with its text or numbers.
+    fn named(name: &str, words: &mut Split<'a, char>) -> Option<InternerCall<'a>> {
+        let call = match name {
+            "len" => InternerCall::Len,
+            "is_empty" => InternerCall::IsEmpty,
+            "get" => InternerCall::Get(words.next()?),
+            "get_counted" => InternerCall::GetCounted(words.next()?),
+            "get_or_intern" => InternerCall::GetOrIntern(words.next()?),
+            "get_or_intern_with_hint" => {
+                InternerCall::GetOrInternWithHint(hint(words.next()?)?, words.next()?)
+            }
+            "resolve" => InternerCall::Resolve(number(words)?),
+            "symbols" => InternerCall::Symbols(number(words)?, number(words)?),
+            "clone" => InternerCall::Clone,
+            "exchange" => InternerCall::Exchange,
+            "eq" => InternerCall::Eq,
+            "debug" => InternerCall::Debug,
+            _ => return None,
+        };
+        Some(call)
+    }
+}
+
+// The hint of a name.
+fn hint(name: &str) -> Option<InternHint> {
+    match name {
+        "none" => Some(InternHint::None),
+        "likely_exists" => Some(InternHint::LikelyExists),
+        "likely_new" => Some(InternHint::LikelyNew),
+        _ => None,
+    }
+}

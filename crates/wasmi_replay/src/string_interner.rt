@@ -1,0 +1,97 @@
+//! Calls on a `StringInterner`.
+
+use crate::answers::{bad, debug, option, result, value};
+use crate::interner_call::InternerCall;
+use crate::replay::Container;
+use std::alloc::Global;
+use std::hash::{DefaultHasher, Hash, Hasher};
+use std::io::Write;
+use std::{io, mem};
+use wasmi_arena::ArenaError;
+use wasmi_collections::StringInterner;
+use wasmi_collections::string_interner::{InternHint, Steps, Sym};
+
+/// An interner at work, and another one beside it. A line names a symbol by its number.
+#[derive(Drop)]
+pub struct InternerReplay {
+    interner: StringInterner,
+    other: StringInterner,
+}
+
+impl InternerReplay {
+    pub fn new(alloc: Global) -> Self {
+        InternerReplay {
+            interner: StringInterner::new(alloc),
+            other: StringInterner::new(alloc),
+        }
+    }
+
+    // Puts a clone in the place of the other interner.
+    fn keep_clone(&mut self) -> Result<(), ArenaError> {
+        self.other = self.interner.clone()?;
+        Ok(())
+    }
+}
+
+impl Container for InternerReplay {
+    fn answer<W: Write>(&mut self, line: &str, out: &mut W) -> io::Result<()> {
+        let Some(call) = InternerCall::parse(line) else {
+            return bad(out);
+        };
+        match call {
+            InternerCall::Len => value(out, self.interner.len()),
+            InternerCall::IsEmpty => value(out, self.interner.is_empty()),
+            InternerCall::Get(text) => option(out, self.interner.get(text).map(Sym::into_u32)),
+            InternerCall::GetCounted(text) => counted(&self.interner, text, out),
+            InternerCall::GetOrIntern(text) => {
+                result(out, self.interner.get_or_intern(text).map(Sym::into_u32))
+            }
+            InternerCall::GetOrInternWithHint(hint, text) => {
+                write!(out, "{hint:?} ")?;
+                let symbol = self.interner.get_or_intern_with_hint(text, hint);
+                result(out, symbol.map(Sym::into_u32))
+            }
+            InternerCall::Resolve(number) => match self.interner.resolve(Sym::from_u32(number)) {
+                Some(text) => writeln!(out, "\"{text}\""),
+                None => value(out, "none"),
+            },
+            InternerCall::Symbols(first, second) => symbols(first, second, out),
+            InternerCall::Clone => result(out, self.keep_clone().map(|()| "done")),
+            InternerCall::Exchange => {
+                mem::swap(&mut self.interner, &mut self.other);
+                value(out, "done")
+            }
+            InternerCall::Eq => value(out, self.interner == self.other),
+            InternerCall::Debug => debug(out, &self.interner),
+        }
+    }
+}
+
+// Writes the symbol of a text, and whether so many texts were compared as a search by halves does: at
+// most one for each binary digit of the number of texts, and one where there is a text.
+fn counted<W: Write>(interner: &StringInterner, text: &str, out: &mut W) -> io::Result<()> {
+    let mut steps = Steps::new();
+    let found = interner.get_counted(text, &mut steps);
+    let is_few = match interner.len().checked_ilog2() {
+        Some(log) => 0 < steps.count() && steps.count() <= u64::from(log) + 1,
+        None => steps.count() == 0,
+    };
+    match found {
+        Some(symbol) => writeln!(out, "{} {is_few}", symbol.into_usize()),
+        None => writeln!(out, "none {is_few}"),
+    }
+}
+
+// Writes two symbols, how they compare, and the hash of the first.
+fn symbols<W: Write>(first: u32, second: u32, out: &mut W) -> io::Result<()> {
+    let (first, second) = (Sym::from_u32(first), Sym::from_u32(second));
+    let mut hasher = DefaultHasher::new();
+    first.hash(&mut hasher);
+    let hash = hasher.finish();
+    let (is_equal, order) = (first == second, first.cmp(&second));
+    let partial = first.partial_cmp(&second);
+    writeln!(
+        out,
+        "{first:?} {second:?} {is_equal} {order:?} {partial:?} {hash}"
+    )
+}
