@@ -4,6 +4,7 @@ pub mod chart;
 pub mod ours;
 pub mod plain;
 pub mod rows;
+pub mod script;
 pub mod tables;
 pub mod theirs;
 pub mod timing;

@@ -14,38 +14,61 @@ const HINTS: [InternHint; 3] = [
     InternHint::LikelyNew,
 ];
 
+fn five_texts(alloc: Global) -> Result<StringInterner, ArenaError> {
+    let mut interner = StringInterner::new(alloc);
+    for text in ["b", "a", "bb", "", "é"] {
+        let _symbol = interner.get_or_intern(text)?;
+    }
+    Ok(interner)
+}
+
 #[test]
 fn five_texts_have_the_first_symbols(rt: HostRuntime) -> Result<(), Fail> {
     let mut interner = StringInterner::new(rt.alloc());
     assert!(rt; interner.is_empty());
     for (text, number) in [("b", 0), ("a", 1), ("bb", 2), ("", 3), ("é", 4)] {
-        assert_eq!(rt; interner.get(text), None, "of {text}");
-        assert_eq!(rt;
-            interner.get_or_intern(text)?,
-            Sym::from_u32(number),
-            "of {text}"
-        );
-        assert_eq!(rt;
-            interner.get(text),
-            Some(Sym::from_u32(number)),
-            "of {text}"
-        );
-    }
-    for hint in HINTS {
-        assert_eq!(rt;
-            interner.get_or_intern_with_hint("b", hint)?,
-            Sym::from_u32(0)
-        );
+        let symbol = Sym::from_u32(number);
+        assert!(rt; interner.get(text).is_none(), "of {text}");
+        assert_eq!(rt; interner.get_or_intern(text)?, symbol, "of {text}");
+        assert_eq!(rt; interner.get(text), Some(symbol), "of {text}");
     }
     assert_eq!(rt; (interner.len(), interner.is_empty()), (5, false));
-    assert_eq!(rt; interner.resolve(Sym::from_u32(4)), Some("é"));
-    assert_eq!(rt; interner.resolve(Sym::from_u32(5)), None);
-    assert_eq!(rt; interner.resolve(Sym::from_u32(u32::MAX)), None);
+    Ok(())
+}
+
+#[test]
+fn a_hint_changes_nothing(rt: HostRuntime) -> Result<(), Fail> {
+    let mut interner = five_texts(rt.alloc())?;
+    for hint in HINTS {
+        let symbol = interner.get_or_intern_with_hint("b", hint)?;
+        assert_eq!(rt; (symbol.into_u32(), interner.len()), (0, 5));
+    }
+    Ok(())
+}
+
+#[test]
+fn a_symbol_has_its_text(rt: HostRuntime) -> Result<(), Fail> {
+    let interner = five_texts(rt.alloc())?;
+    for (number, text) in [(0, Some("b")), (4, Some("é")), (5, None), (u32::MAX, None)] {
+        assert_eq!(rt; interner.resolve(Sym::from_u32(number)), text);
+    }
+    Ok(())
+}
+
+#[test]
+fn five_texts_take_three_steps_at_most(rt: HostRuntime) -> Result<(), Fail> {
+    let interner = five_texts(rt.alloc())?;
     for text in ["", "a", "b", "c", "aa", "bb", "bc", "é", "zz", "bbb"] {
         let mut steps = Steps::new();
         assert_eq!(rt; interner.get_counted(text, &mut steps), interner.get(text));
         assert!(rt; 1 <= steps.count() && steps.count() <= 3, "of {text}");
     }
+    Ok(())
+}
+
+#[test]
+fn texts_are_shown_as_a_list(rt: HostRuntime) -> Result<(), Fail> {
+    let interner = five_texts(rt.alloc())?;
     let text = format!(in rt.alloc(); "{interner:?}")?;
     assert_eq!(rt; text.as_str(), "[\"b\", \"a\", \"bb\", \"\", \"é\"]");
     Ok(())
