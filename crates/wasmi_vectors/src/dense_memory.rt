@@ -232,3 +232,23 @@ fn items_without_size(rt: HostRuntime) -> Result<(), Fail> {
     );
     Ok(())
 }
+
+// The vector has no room, and need not grow to lend two items.
+#[test]
+fn a_pair_needs_no_memory(rt: HostRuntime) -> Result<(), Fail> {
+    let log = Log::new();
+    let mut arena: Arena<usize, u64, Observed<'_>> = Arena::new(Observed::new(rt.alloc(), &log));
+    arena.alloc(7)?;
+    arena.alloc(8)?;
+    for _ in 0..arena.room() {
+        arena.alloc(9)?;
+    }
+    let requests = log.requests();
+    assert_eq!(rt; arena.get_disjoint_mut([1, 0])?, (&mut 8, &mut 7));
+    assert_eq!(rt;
+        arena.get_disjoint_mut([1, 1]).err(),
+        Some(ArenaError::AliasingPairAccess)
+    );
+    assert_eq!(rt; (arena.room(), log.requests()), (0, requests));
+    Ok(())
+}

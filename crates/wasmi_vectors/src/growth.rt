@@ -158,3 +158,48 @@ fn items_without_size_ask_for_nothing(rt: HostRuntime) -> Result<(), Fail> {
     assert_eq!(rt; log.requests(), 0);
     Ok(())
 }
+
+// The item that is refused is the last that is drawn.
+#[test]
+fn a_refused_extend_draws_no_further(rt: HostRuntime) -> Result<(), Fail> {
+    let log = Log::new();
+    let draws = Cell::new(0u64);
+    let mut vec = StableVec::new(Observed::new(rt.alloc(), &log));
+    log.refuse_once(2);
+    let numbers = (0..100u64).map(|number| {
+        draws.set(draws.get().wrapping_add(1));
+        number
+    });
+    assert_eq!(rt; vec.extend(numbers), Err(ArenaError::OutOfSystemMemory));
+    assert_eq!(rt; (vec.len(), draws.get()), (32, 33));
+    Ok(())
+}
+
+#[test]
+fn a_refused_collection_drops_all_items(rt: HostRuntime) -> Result<(), Fail> {
+    for nth in 1..4 {
+        let log = Log::new();
+        let drops = counts(rt.alloc(), 2)?;
+        log.refuse_once(nth);
+        let first = items(rt.alloc(), &drops, 0, 100)?;
+        let refused = StableVec::from_iter(Observed::new(rt.alloc(), &log), first).err();
+        assert_eq!(rt; refused, Some(ArenaError::OutOfSystemMemory), "at {nth}");
+        assert!(rt; counts_are(&drops, &[100, 0]));
+        log.refuse_once(nth);
+        let second = items(rt.alloc(), &drops, 1, 100)?;
+        let refused: Result<StableArena<usize, Counted<'_>, Observed<'_>>, ArenaError> =
+            StableArena::from_iter(Observed::new(rt.alloc(), &log), second);
+        assert_eq!(rt;
+            refused.err(),
+            Some(ArenaError::OutOfSystemMemory),
+            "at {nth}"
+        );
+        assert!(rt; counts_are(&drops, &[100, 100]));
+        assert_eq!(rt;
+            (log.returned(), log.misplaced()),
+            (log.given(), 0),
+            "at {nth}"
+        );
+    }
+    Ok(())
+}

@@ -121,6 +121,12 @@ fn debug_texts_of_vectors_and_arenas(rt: HostRuntime) -> Result<(), Fail> {
         format!(in rt.alloc(); "{arena:?}")?.as_str(),
         "{0: true, 1: false}"
     );
+    // Its keys, and not its positions.
+    let keyed: StableArena<NonZero<u32>, u8> = StableArena::from_iter(rt.alloc(), 7..9)?;
+    assert_eq!(rt;
+        format!(in rt.alloc(); "{keyed:?}")?.as_str(),
+        "{1: 7, 2: 8}"
+    );
     Ok(())
 }
 

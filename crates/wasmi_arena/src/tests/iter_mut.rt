@@ -149,6 +149,31 @@ fn each_item_of_an_arena_is_written(rt: HostRuntime) -> Result<(), Fail> {
 }
 
 #[test]
+fn an_iterator_of_an_arena_that_is_left_early(rt: HostRuntime) -> Result<(), Fail> {
+    let mut arena: StableArena<u32, u32> = StableArena::new(rt.alloc());
+    for item in 0..300 {
+        arena.alloc(item)?;
+    }
+    {
+        let mut entries = arena.iter_mut();
+        let (_, first) = entries.next().ok_or("first")?;
+        *first = 1000;
+        let (_, last) = entries.next_back().ok_or("last")?;
+        *last = 2000;
+        assert_eq!(rt; entries.len(), 298);
+    }
+    for (key, item) in &arena {
+        let wanted = match key {
+            0 => 1000,
+            299 => 2000,
+            _ => key,
+        };
+        assert_eq!(rt; *item, wanted, "at {key}");
+    }
+    Ok(())
+}
+
+#[test]
 fn items_without_size_are_written(rt: HostRuntime) -> Result<(), Fail> {
     let mut vec = StableVec::new(rt.alloc());
     for _ in 0..100 {

@@ -105,6 +105,32 @@ fn equal_indices_are_refused_before_those_out_of_bounds(rt: HostRuntime) -> Resu
     Ok(())
 }
 
+// In each bucket, and at its ends.
+#[test]
+fn a_refused_pair_changes_no_item(rt: HostRuntime) -> Result<(), Fail> {
+    let mut vec = counted(rt.alloc(), 300)?;
+    let mut arena = StableArena::new(rt.alloc());
+    for item in 0..300 {
+        arena.alloc(item)?;
+    }
+    for index in [0, 1, 31, 32, 33, 95, 96, 223, 224, 299] {
+        for (indices, error) in [
+            ([index, index], ArenaError::AliasingPairAccess),
+            ([index, 300], ArenaError::KeyOutOfBounds),
+            ([300, index], ArenaError::KeyOutOfBounds),
+        ] {
+            assert_eq!(rt;
+                errors(&mut vec, &mut arena, indices),
+                (Some(error), Some(error))
+            );
+            for (number, (one, other)) in (0..300u32).zip(vec.iter().zip(arena.items())) {
+                assert_eq!(rt; (*one, *other), (number, number), "after {indices:?}");
+            }
+        }
+    }
+    Ok(())
+}
+
 #[test]
 fn two_items_without_size(rt: HostRuntime) -> Result<(), Fail> {
     let mut vec: StableVec<()> = StableVec::new(rt.alloc());
