@@ -26,23 +26,35 @@ impl Clone for Even {
 #[test]
 fn equal_values_have_one_key(rt: HostRuntime) -> Result<(), Fail> {
     let mut arena: DedupArena<usize, &str> = DedupArena::new(rt.alloc());
-    let mut plain: Arena<usize, &str> = Arena::new(rt.alloc());
-    for round in 0..2usize {
+    for _ in 0..2 {
         for (nth, value) in ["a", "b", "c", "d"].iter().enumerate() {
             assert_eq!(rt; arena.alloc(*value)?, nth);
-            assert_eq!(rt;
-                plain.alloc(*value)?,
-                nth.wrapping_add(round.wrapping_mul(4))
-            );
         }
     }
-    assert_eq!(rt; (arena.len(), plain.len()), (4, 8));
+    assert_eq!(rt; arena.len(), 4);
+    Ok(())
+}
+
+// As a deduplicating arena would, if it always appended.
+#[test]
+fn a_plain_arena_keeps_equal_values(rt: HostRuntime) -> Result<(), Fail> {
+    let mut plain: Arena<usize, &str> = Arena::new(rt.alloc());
+    for first in [0usize, 4] {
+        for (nth, value) in ["a", "b", "c", "d"].iter().enumerate() {
+            assert_eq!(rt; plain.alloc(*value)?, nth.wrapping_add(first));
+        }
+    }
+    assert_eq!(rt; plain.len(), 8);
+    Ok(())
+}
+
+#[test]
+fn equal_values_of_an_iterator_have_one_key(rt: HostRuntime) -> Result<(), Fail> {
     let mut made: DedupArena<usize, &str> = DedupArena::from_iter(rt.alloc(), ["a", "b", "a"])?;
-    assert_eq!(rt; (made.len(), made.alloc("a")?), (2, 0));
-    assert_eq!(rt;
-        (made.get(1), made.get(2)),
-        (Ok(&"b"), Err(ArenaError::KeyOutOfBounds))
-    );
+    assert_eq!(rt; made.len(), 2);
+    assert_eq!(rt; made.alloc("a")?, 0);
+    assert_eq!(rt; made.get(1), Ok(&"b"));
+    assert_eq!(rt; made.get(2), Err(ArenaError::KeyOutOfBounds));
     Ok(())
 }
 

@@ -259,24 +259,38 @@ fn a_third_text_is_refused(rt: HostRuntime) -> Result<(), Fail> {
     Ok(())
 }
 
+fn with_names<'a, 'l>(
+    handle: &'a Observed<'l>,
+) -> Result<StringInterner<&'a Observed<'l>>, ArenaError> {
+    let mut interner = StringInterner::new(handle);
+    for name in NAMES {
+        let _symbol = interner.get_or_intern(name)?;
+    }
+    Ok(interner)
+}
+
+#[test]
+fn a_clone_has_texts_of_its_own(rt: HostRuntime) -> Result<(), Fail> {
+    let log = Log::new();
+    let handle = Observed::new(rt.alloc(), &log);
+    let interner = with_names(&handle)?;
+    let before = log.requests();
+    let mut copy = interner.clone()?;
+    // A block for each text that has a byte, one for the index, and one for the texts.
+    assert_eq!(rt; log.requests().wrapping_sub(before), 11);
+    assert!(rt; copy == interner);
+    let _more = copy.get_or_intern("import")?;
+    assert!(rt; copy != interner && has_first(&interner, 10));
+    Ok(())
+}
+
 #[test]
 fn a_refused_clone_leaves_its_source(rt: HostRuntime) -> Result<(), Fail> {
     let log = Log::new();
     {
         let handle = Observed::new(rt.alloc(), &log);
-        let mut interner = StringInterner::new(&handle);
-        for name in NAMES {
-            let _symbol = interner.get_or_intern(name)?;
-        }
-        let before = log.requests();
-        let mut copy = interner.clone()?;
-        let requests = log.requests().wrapping_sub(before);
-        // A block for each text that has a byte, one for the index, and one for the texts.
-        assert_eq!(rt; requests, 11);
-        assert!(rt; copy == interner && has_first(&copy, 10));
-        let _more = copy.get_or_intern("import")?;
-        assert!(rt; copy != interner && has_first(&interner, 10));
-        for nth in 1..=requests {
+        let interner = with_names(&handle)?;
+        for nth in 1..12 {
             log.refuse_once(nth);
             let refused = interner.clone().err();
             assert_eq!(rt; refused, Some(ArenaError::OutOfSystemMemory), "at {nth}");
