@@ -1,4 +1,5 @@
-//! The chart of the ratios to the Rust crate: a bar for each row and size, and a line at 1.
+//! The chart of the ratios to the Rust crate: a bar for each row and size, and a line at 1. It has nearly two hundred
+//! bars, so they are thin.
 
 use crate::timing::Times;
 use std::fmt::Write;
@@ -6,10 +7,10 @@ use std::fmt::Write;
 const WIDTH: f64 = 880.0;
 const LEFT: f64 = 300.0;
 const RIGHT: f64 = 60.0;
-const TOP: f64 = 48.0;
-const BAR: f64 = 14.0;
-const STEP: f64 = 18.0;
-const GAP: f64 = 10.0;
+const TOP: f64 = 62.0;
+const BAR: f64 = 5.0;
+const STEP: f64 = 6.5;
+const GAP: f64 = 9.0;
 
 // Where a ratio lies, in a chart whose right edge is `last`. A greater ratio ends there.
 struct Scale {
@@ -34,14 +35,14 @@ pub fn chart(entries: &[(&str, u64, Times)]) -> String {
     let mut bars = String::new();
     let mut y = TOP;
     let mut last_name = "";
-    for (name, n, times) in entries {
+    for (name, _, times) in entries {
         if *name != last_name {
             y += GAP;
             let text = name.replace('`', "");
-            let _ = writeln!(bars, r#"<text x="8" y="{}">{text}</text>"#, y + BAR - 3.0);
+            let _ = writeln!(bars, r#"<text x="8" y="{}">{text}</text>"#, y + 2.0 * STEP);
             last_name = name;
         }
-        bar(&mut bars, &scale, y, *n, times.to_theirs());
+        bar(&mut bars, &scale, y, times.to_theirs());
         y += STEP;
     }
     let (height, one) = (y + GAP, scale.x(1.0));
@@ -49,22 +50,21 @@ pub fn chart(entries: &[(&str, u64, Times)]) -> String {
         r##"<svg xmlns="http://www.w3.org/2000/svg" width="{WIDTH}" height="{height}" font-family="sans-serif" font-size="12">
 <rect width="100%" height="100%" fill="#ffffff"/>
 <text x="8" y="20" font-size="14">Time of the port over the time of the Rust crate: left of the line the port is faster</text>
-<text x="{one:.1}" y="42" text-anchor="middle">1</text>
+<text x="8" y="38" fill="#555555">The bars of a row are those at 2^8, 2^12, 2^16 and 2^20 items, as far as they were timed</text>
+<text x="{one:.1}" y="56" text-anchor="middle">1</text>
 {bars}<line x1="{one:.1}" y1="{TOP}" x2="{one:.1}" y2="{y}" stroke="#222222" stroke-width="1.5"/>
 </svg>
 "##
     )
 }
 
-fn bar(bars: &mut String, scale: &Scale, y: f64, n: u64, ratio: f64) {
+fn bar(bars: &mut String, scale: &Scale, y: f64, ratio: f64) {
     let colour = if ratio <= 1.0 { "#3a8f5c" } else { "#d9822b" };
-    let (end, label, line) = (scale.x(ratio), LEFT - 8.0, y + BAR - 3.0);
-    let (width, after) = (end - LEFT, end + 6.0);
-    let power = n.trailing_zeros();
+    let end = scale.x(ratio);
+    let (width, after, line) = (end - LEFT, end + 4.0, y + BAR);
     let _ = writeln!(
         bars,
-        r##"<text x="{label}" y="{line}" text-anchor="end" fill="#555555">2^{power}</text>
-<rect x="{LEFT}" y="{y}" width="{width:.1}" height="{BAR}" fill="{colour}"/>
-<text x="{after:.1}" y="{line}">{ratio:.2}</text>"##
+        r##"<rect x="{LEFT}" y="{y}" width="{width:.1}" height="{BAR}" fill="{colour}"/>
+<text x="{after:.1}" y="{line}" font-size="7">{ratio:.2}</text>"##
     );
 }
