@@ -21,3 +21,5 @@ pub mod TableMemory
 pub mod VecMemory
 pub mod ArenaMemory
 pub mod LoanMemory
+pub mod Refusals
+pub mod Answered

@@ -1,7 +1,7 @@
 -- What a stable arena is once a `&mut` to an item of it has ended.
-use Rattle.std.specs.Prelude.{List, Result, length, slice_set}
+use Rattle.std.specs.Prelude.{◌≡◌, List, Result, length, slice_set}
 use Rattle.std.specs.List.{refill}
-use Rattle.std.specs.Borrow.{Fml, GName, RattleType, MutBor, Lends, LendsIfOk, follows}
+use Rattle.std.specs.Borrow.{Fml, GName, RattleType, MutBor, Lends, LendsIfOk, RestsIfErr, follows}
 use Rattle.std.specs.declared.alloc.Allocator as alloc
 use Rattle.wasmi_arena.specs.declared.error.ArenaError.{ArenaError}
 use Rattle.wasmi_arena.specs.declared.key.ArenaKey as key
@@ -20,3 +20,7 @@ module _ (K R A : RattleType) (keys : key.Ghosts K.Denot) (heap : alloc.Ghosts A
   -- each item is what was written last through the loan of that name, and there are as many
   abbrev pub lends_items : MutBor (List R.Denot) → GName → Fml
   lends_items arena loan = follows (the_row K R A keys heap) (the_row K R A keys heap) arena.ghost_name loan (refill (length arena.now) arena.now)
+
+  -- where the call failed, the arena is as before
+  abbrev pub rests_if_refused : {X E : Type 0} → MutBor (List R.Denot) → Result X E → Fml
+  rests_if_refused arena result = RestsIfErr (the_row K R A keys heap) arena (λ _. arena.ghost_name) result (λ now. now ≡ arena.now)

@@ -20,3 +20,4 @@ pub mod ArenaLend
 pub mod Entries
 pub mod Growth
 pub mod Apart
+pub mod Pairs

@@ -1,6 +1,6 @@
 -- What a stable vector is once a `&mut` to an item of it has ended.
-use Rattle.std.specs.Prelude.{ℕ, List, length, slice_set, Option}
-use Rattle.std.specs.Borrow.{Fml, GName, RattleType, MutBor, Lends, LendsIf, follows}
+use Rattle.std.specs.Prelude.{◌≡◌, ℕ, List, length, slice_set, Option, Result}
+use Rattle.std.specs.Borrow.{Fml, GName, RattleType, MutBor, Lends, LendsIf, RestsIfErr, follows}
 use Rattle.std.specs.List.{refill}
 use Rattle.std.specs.declared.alloc.Allocator.{Ghosts}
 use Rattle.wasmi_arena.specs.contracts.stable_vec.StableVec.{the_row}
@@ -17,3 +17,7 @@ module _ (R A : RattleType) (alloc : Ghosts A.Denot) where
   -- each item is what was written last through the loan of that name, and there are as many
   abbrev pub lends_items : MutBor (List R.Denot) → GName → Fml
   lends_items vec loan = follows (the_row R A alloc) (the_row R A alloc) vec.ghost_name loan (refill (length vec.now) vec.now)
+
+  -- where the call failed, the vector is as before
+  abbrev pub rests_if_refused : {X E : Type 0} → MutBor (List R.Denot) → Result X E → Fml
+  rests_if_refused vec result = RestsIfErr (the_row R A alloc) vec (λ _. vec.ghost_name) result (λ now. now ≡ vec.now)

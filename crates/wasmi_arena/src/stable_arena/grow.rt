@@ -79,6 +79,7 @@ impl<Key: ArenaKey, T: Clone, A: Allocator> StableArena<Key, T, A> {
         ensures errors { IsOkUnless result ArenaError.OutOfSystemMemory }
         ensures without_size { type_size T.row ≡ 0 → All T.is_infallible self.now
             → ((a : A) → A.is_infallible a) → IsOk result }
+        ensures empty { self.now ≡ [] → ((a : A) → A.is_infallible a) → IsOk result }
     {
         Ok(StableArena {
             items: self.items.clone()?,
@@ -98,6 +99,7 @@ impl<Key: ArenaKey, T: Clone, A: Allocator> StableArena<Key, T, A> {
         ensures errors { IsOkUnless result ArenaError.OutOfSystemMemory }
         ensures without_size { type_size T.row ≡ 0 → All T.is_infallible self.now
             → ((b : B) → B.is_infallible b) → IsOk result }
+        ensures empty { self.now ≡ [] → IsOk result }
     {
         Ok(StableArena {
             items: self.items.clone_in(alloc)?,

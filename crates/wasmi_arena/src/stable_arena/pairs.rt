@@ -1,34 +1,68 @@
 //! Two items of a stable arena at once.
-ghost use Rattle.std.specs.Prelude.{◌≡◌, ◌≢◌, ◌≤◌, ◌↔◌, ◌⊎◌, [], ◌∷◌, length, IfOk, IfErr, IsErrOf, slice_get, Some};
+ghost use Rattle.std.specs.Prelude.{◌≡◌, ◌≢◌, ◌<◌, ◌≤◌, ◌↔◌, ◌⊎◌, [], ◌∷◌, length, IfOk, IfErr, IsOk, IsErrOf, slice_get, Some};
+ghost use Rattle.std.specs.Borrow.{sem};
+ghost use Rattle.wasmi_arena.specs.Pairs.{PairAnswer, AreNumbers};
+ghost use Rattle.wasmi_arena.specs.ArenaLend.{rests_if_refused};
 
 use super::StableArena;
 use crate::{ArenaError, ArenaKey};
 use std::alloc::Allocator;
 
 impl<Key: ArenaKey, T, A: Allocator> StableArena<Key, T, A> {
-    // The items under two keys.
-    fn two_mut(&mut self, first: Key, second: Key) -> Result<(&mut T, &mut T), ArenaError>
-        ensures items { IfOk result (λ pair.
-            (slice_get self.old (Key.keys.number first) ≡ Some pair.0.now)
-            × (slice_get self.old (Key.keys.number second) ≡ Some pair.1.now)) }
-        ensures aliasing { IsErrOf result ArenaError.AliasingPairAccess
-            ↔ (Key.keys.number first ≡ Key.keys.number second) }
-        ensures out_of_bounds { IsErrOf result ArenaError.KeyOutOfBounds
-            ↔ ((Key.keys.number first ≢ Key.keys.number second)
-            × ((length self.old ≤ Key.keys.number first) ⊎ (length self.old ≤ Key.keys.number second))) }
-        ensures errors { IfErr result (λ error. (error ≡ ArenaError.AliasingPairAccess)
-            ⊎ (error ≡ ArenaError.KeyOutOfBounds)) }
+    // The items at two positions that have one each.
+    fn two_of(&mut self, first: usize, second: usize) -> Result<(&mut T, &mut T), ArenaError>
+        requires disjoint { first ≢ second }
+        requires first { first < length self.old }
+        requires second { second < length self.old }
+        ensures items { IfOk result (λ pair. (slice_get self.old first ≡ Some pair.0.now)
+            × (slice_get self.old second ≡ Some pair.1.now)) }
+        ensures ok { IsOk result }
+    {
+        let all = self.lend();
+        all.disjoint(first, second)
+    }
+
+    // The items at two positions, of an arena of this length.
+    fn two_mut(
+        &mut self,
+        len: usize,
+        first: usize,
+        second: usize,
+    ) -> Result<(&mut T, &mut T), ArenaError>
+        requires len { len ≡ length self.old }
+        ensures* refused { sem 𝓛 (rests_if_refused Key.row T.row A.row Key.ArenaKey A.Allocator self.entry result) }
+        ensures answer { PairAnswer self.old first second result }
+    {
+        if first == second {
+            return Err(ArenaError::AliasingPairAccess);
+        }
+        if len <= first {
+            return Err(ArenaError::KeyOutOfBounds);
+        }
+        if len <= second {
+            return Err(ArenaError::KeyOutOfBounds);
+        }
+        self.two_of(first, second)
+    }
+
+    // The arena itself, with its length and the numbers of the two keys.
+    fn asked(&mut self, keys: [Key; 2]) -> (&mut Self, usize, usize, usize)
+        ensures same { result.0.ghost_name ≡ self.entry.ghost_name }
+        ensures arena { result.0.now ≡ self.old }
+        ensures len { result.1 ≡ length self.old }
+        ensures keys { AreNumbers Key.keys.number keys result.2 result.3 }
     {
         let len = self.len();
-        let all = self.lend();
-        all.disjoint(len, first.into_usize(), second.into_usize())
+        let [first, second] = keys;
+        (self, len, first.into_usize(), second.into_usize())
     }
 
     /// The items under two keys to write to, in the order of the keys.
     ///
     /// Fails with `AliasingPairAccess` if the keys are equal, and then with `KeyOutOfBounds` if there is
-    /// no item under one. Constant time.
+    /// no item under one. After an error the arena is as before. Constant time.
     pub fn get_disjoint_mut(&mut self, keys: [Key; 2]) -> Result<(&mut T, &mut T), ArenaError>
+        ensures* refused { sem 𝓛 (rests_if_refused Key.row T.row A.row Key.ArenaKey A.Allocator self.entry result) }
         ensures items { (first second : Key) → keys ≡ first ∷ second ∷ [] → IfOk result (λ pair.
             (slice_get self.old (Key.keys.number first) ≡ Some pair.0.now)
             × (slice_get self.old (Key.keys.number second) ≡ Some pair.1.now)) }
@@ -42,7 +76,7 @@ impl<Key: ArenaKey, T, A: Allocator> StableArena<Key, T, A> {
         ensures errors { IfErr result (λ error. (error ≡ ArenaError.AliasingPairAccess)
             ⊎ (error ≡ ArenaError.KeyOutOfBounds)) }
     {
-        let [first, second] = keys;
-        self.two_mut(first, second)
+        let (arena, len, first, second) = self.asked(keys);
+        arena.two_mut(len, first, second)
     }
 }

@@ -57,6 +57,7 @@ impl<T: Clone, A: Allocator> StableVec<T, A> {
         ensures errors { IsOkUnless result ArenaError.OutOfSystemMemory }
         ensures without_size { type_size T.row ≡ 0 → All T.is_infallible self.now
             → ((a : A) → A.is_infallible a) → IsOk result }
+        ensures empty { self.now ≡ [] → ((a : A) → A.is_infallible a) → IsOk result }
     {
         self.clone_in(self.alloc.clone()?)
     }
@@ -70,6 +71,7 @@ impl<T: Clone, A: Allocator> StableVec<T, A> {
         ensures errors { IsOkUnless result ArenaError.OutOfSystemMemory }
         ensures without_size { type_size T.row ≡ 0 → All T.is_infallible self.now
             → ((b : B) → B.is_infallible b) → IsOk result }
+        ensures empty { self.now ≡ [] → IsOk result }
     {
         let mut made = StableVec::new(alloc);
         for item in self.iter() {

@@ -1,7 +1,10 @@
 //! Two items of a stable vector at once.
-ghost use Rattle.std.specs.Prelude.{◌≡◌, ◌≢◌, ◌<◌, ◌≤◌, ◌↔◌, ◌⊎◌, ℕ, [], ◌∷◌, length, IfOk, IfErr, OnOk, OnErr, IsErrOf, slice_get, slice_index_or, Some, None};
+ghost use Rattle.std.specs.Prelude.{◌≡◌, ◌≢◌, ◌<◌, ◌≤◌, ◌↔◌, ◌⊎◌, ℕ, [], ◌∷◌, length, IfOk, IfErr, OnOk, OnErr, IsOk, IsErrOf, slice_get, slice_index_or, Some, None};
+ghost use Rattle.std.specs.Borrow.{sem};
+ghost use Rattle.wasmi_arena.specs.Pairs.{PairAnswer, AreNumbers};
 ghost use Rattle.std.specs.List.{swap};
 ghost use Rattle.wasmi_arena.specs.Table.{items_in, with_item, write};
+ghost use Rattle.wasmi_arena.specs.VecLend.{rests_if_refused};
 
 use super::{StableVec, slot_mut};
 use crate::{ArenaError, Bucket};
@@ -105,26 +108,60 @@ impl<T, A: Allocator> StableVec<T, A> {
         Ok(())
     }
 
-    // The items at two indices.
-    fn two_mut(&mut self, first: usize, second: usize) -> Result<(&mut T, &mut T), ArenaError>
+    // The items at two indices that have one each.
+    fn two_of(&mut self, first: usize, second: usize) -> Result<(&mut T, &mut T), ArenaError>
+        requires disjoint { first ≢ second }
+        requires first { first < length self.old }
+        requires second { second < length self.old }
         ensures items { IfOk result (λ pair. (slice_get self.old first ≡ Some pair.0.now)
             × (slice_get self.old second ≡ Some pair.1.now)) }
-        ensures aliasing { IsErrOf result ArenaError.AliasingPairAccess ↔ (first ≡ second) }
-        ensures out_of_bounds { IsErrOf result ArenaError.KeyOutOfBounds
-            ↔ ((first ≢ second) × ((length self.old ≤ first) ⊎ (length self.old ≤ second))) }
-        ensures errors { IfErr result (λ error. (error ≡ ArenaError.AliasingPairAccess)
-            ⊎ (error ≡ ArenaError.KeyOutOfBounds)) }
+        ensures ok { IsOk result }
+    {
+        let all = self.lend();
+        all.disjoint(first, second)
+    }
+
+    // The items at two indices, of a vector of this length.
+    fn two_mut(
+        &mut self,
+        len: usize,
+        first: usize,
+        second: usize,
+    ) -> Result<(&mut T, &mut T), ArenaError>
+        requires len { len ≡ length self.old }
+        ensures* refused { sem 𝓛 (rests_if_refused T.row A.row A.Allocator self.entry result) }
+        ensures answer { PairAnswer self.old first second result }
+    {
+        if first == second {
+            return Err(ArenaError::AliasingPairAccess);
+        }
+        if len <= first {
+            return Err(ArenaError::KeyOutOfBounds);
+        }
+        if len <= second {
+            return Err(ArenaError::KeyOutOfBounds);
+        }
+        self.two_of(first, second)
+    }
+
+    // The vector itself, with its length and the two indices.
+    fn asked(&mut self, indices: [usize; 2]) -> (&mut Self, usize, usize, usize)
+        ensures same { result.0.ghost_name ≡ self.entry.ghost_name }
+        ensures vec { result.0.now ≡ self.old }
+        ensures len { result.1 ≡ length self.old }
+        ensures indices { AreNumbers (λ index. index) indices result.2 result.3 }
     {
         let len = self.len;
-        let all = self.lend();
-        all.disjoint(len, first, second)
+        let [first, second] = indices;
+        (self, len, first, second)
     }
 
     /// The items at two indices to write to, in the order of the indices.
     ///
     /// Fails with `AliasingPairAccess` if the indices are equal, and then with `KeyOutOfBounds` if one
-    /// isn't below the length. Constant time.
+    /// isn't below the length. After an error the vector is as before. Constant time.
     pub fn get_disjoint_mut(&mut self, indices: [usize; 2]) -> Result<(&mut T, &mut T), ArenaError>
+        ensures* refused { sem 𝓛 (rests_if_refused T.row A.row A.Allocator self.entry result) }
         ensures items { (first second : ℕ) → indices ≡ first ∷ second ∷ [] → IfOk result (λ pair.
             (slice_get self.old first ≡ Some pair.0.now)
             × (slice_get self.old second ≡ Some pair.1.now)) }
@@ -136,7 +173,7 @@ impl<T, A: Allocator> StableVec<T, A> {
         ensures errors { IfErr result (λ error. (error ≡ ArenaError.AliasingPairAccess)
             ⊎ (error ≡ ArenaError.KeyOutOfBounds)) }
     {
-        let [first, second] = indices;
-        self.two_mut(first, second)
+        let (vec, len, first, second) = self.asked(indices);
+        vec.two_mut(len, first, second)
     }
 }

@@ -1,5 +1,5 @@
 //! Two items of a loan at once.
-ghost use Rattle.std.specs.Prelude.{◌≡◌, ◌≢◌, ◌<◌, ◌≤◌, ◌⊎◌, ◌↔◌, length, IfOk, IfErr, IsErrOf, slice_get, slice_index_or, Some, None};
+ghost use Rattle.std.specs.Prelude.{◌≡◌, ◌≢◌, ◌<◌, ◌≤◌, length, IfOk, IsOk, slice_get, slice_index_or, Some, None};
 ghost use Rattle.wasmi_arena.specs.Table.{items_in, items_of, HasBuckets};
 
 use super::ItemsLoan;
@@ -53,30 +53,21 @@ impl<'a, T, A: Allocator> ItemsLoan<'a, T, A> {
         self.pair(first, second)
     }
 
-    // The items at two indices, of which there are `len`: the loan is that of a whole vector.
+    // The items at two indices, in their order.
     pub(crate) fn disjoint(
         self,
-        len: usize,
         first: usize,
         second: usize,
     ) -> Result<(&'a mut T, &'a mut T), ArenaError>
         requires buckets { HasBuckets (items_of self.buckets) self.buckets }
-        requires len { len ≡ length (items_of self.buckets) }
+        requires disjoint { first ≢ second }
+        requires first { first < length (items_of self.buckets) }
+        requires second { second < length (items_of self.buckets) }
         ensures items { IfOk result (λ pair.
             (slice_get (items_of self.entry.buckets) first ≡ Some pair.0.now)
             × (slice_get (items_of self.entry.buckets) second ≡ Some pair.1.now)) }
-        ensures aliasing { IsErrOf result ArenaError.AliasingPairAccess ↔ (first ≡ second) }
-        ensures out_of_bounds { IsErrOf result ArenaError.KeyOutOfBounds
-            ↔ ((first ≢ second) × ((len ≤ first) ⊎ (len ≤ second))) }
-        ensures errors { IfErr result (λ error. (error ≡ ArenaError.AliasingPairAccess)
-            ⊎ (error ≡ ArenaError.KeyOutOfBounds)) }
+        ensures ok { IsOk result }
     {
-        if first == second {
-            return Err(ArenaError::AliasingPairAccess);
-        }
-        if first >= len || second >= len {
-            return Err(ArenaError::KeyOutOfBounds);
-        }
         if first < second {
             Ok(self.pair_at(first, second))
         } else {

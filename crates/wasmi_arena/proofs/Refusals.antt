@@ -1,0 +1,120 @@
+-- What the walks of `two_mut` share. Assumes `Logic`.
+--     Pair, PairOr      two `&mut T`, and these or an `ArenaError`.        pair_or_laws      their laws, which say that one is a single machine value
+--     refused      an error as the result.        stays, keeps      the lender is as it was;  or it ends as itself, whatever that is
+use Rattle.std.proofs.Common.{◌≡◌, ◌≢◌, ℕ, List, [], ◌∷◌, refl, sym, subst, MutBor}
+use Rattle.std.specs.Prelude.{Result, Ok, Err, OnOk, OnErr, IsOk}
+use lib.Dec as dec
+use lib.Dec.{T_not, eqb, eqb_refl}
+use mathlib.Core.Bool.{not}
+use Rattle.std.specs.Borrow.{RestsIfErr}
+use base.Logic.{SProp, wand, ent, emp}
+use mathlib.Core.Option.{none, some}
+use base.Fml.{Lft, Fml, GName, fex, feq, fsep, fres, fauth}
+use seplogic.Ra.Ura.{Ura}
+use mir.Syntax.{Lifetime, named}
+use mir.Val.{Val, of_list}
+use types.Logic.{Logic, sem}
+use types.Kit.{‵, raw, ◌$◌, ◌∵◌, !, qed, done, drop, each, assume, move, use0, use1, fjoin, fpack, feq_i}
+use types.Match.{live}
+use denote.RattleType.{RattleType, Valss, owns}
+use denote.Enum.Row.{tagged_with}
+use denote.Enum.Enum.{form_of, in_a_row}
+use denote.Enum.Declared.{shape}
+use denote.Follow.{follows, follows_so, follows_by, such_by}
+use denote.Param.Laws.{Laws, of_field, is_one}
+use denote.Param.Shared.{Sharable, mut_ref_shared}
+use denote.Ref.{MutRef, NamedLft}
+use denote.Steps.{nothing}
+use denote.Struct.Field.{mut_ref_field, row_field}
+use denote.Struct.Laws.{mut_ref_laws}
+use denote.Struct.Tuple.{Tuple, tuple_laws}
+use Rattle.core.proofs.once.Made.{err_of}
+use Rattle.core.proofs.result.Result.TheLaws as ResultLaws
+use Rattle.core.specs.contracts.result.Result as ResultType
+use Rattle.wasmi_arena.specs.contracts.error.ArenaError as ErrorType
+use Rattle.wasmi_arena.specs.declared.error.ArenaError.{ArenaError}
+use Rattle.wasmi_arena.specs.declared.error.ArenaError.TheVariants.{KeyOutOfBounds, AliasingPairAccess}
+use Rattle.wasmi_arena.proofs.error.ArenaError.TheLaws as ErrorLaws
+
+module _ (κ : Lft) (T : RattleType) where
+  abbrev pub Lent : RattleType
+  Lent = MutRef (named 0) κ T
+
+  abbrev pub Pair : RattleType
+  Pair = Tuple (Lent ∷ Lent ∷ [])
+
+  abbrev pub PairOr : RattleType
+  PairOr = ResultType.the_row Pair ErrorType.the_row
+
+module _ {M : Type 1} {𝓤 : Ura M} (𝓛 : Logic 𝓤) (S : RattleType) (γ : GName) where
+  open 𝓛 use {A}
+
+  -- a name follows itself
+  itself : ent 𝓤 (emp 𝓤) (sem 𝓛 (follows S S γ γ (λ w. w)))
+  itself =
+      let From : S.Denot → S.Denot → Fml = λ z w. fsep (feq S.Denot z w) (fauth γ (S.coded.code w)) in
+      let said = qed 𝓛 [] ∵ each ! (λ (w : S.Denot). wand 𝓤 (A.res γ (S.coded.code w)) (A.res γ (S.coded.code w))) (λ w. assume ! (‵ (fres γ (S.coded.code w))) $ done !) in
+      let back = qed 𝓛 [] ∵ each ! (λ (z : S.Denot). wand 𝓤 (A.auth γ (S.coded.code z)) (sem 𝓛 (fex S.Denot (From z)))) (λ z. assume ! (‵ (fauth γ (S.coded.code z))) $
+      feq_i ! S.Denot z z refl $ fjoin ! $ fpack ! S.Denot (From z) z $ done !) in
+      record { apply = λ a p. (said.apply a p, back.apply a p) }
+
+module _ {M : Type 1} {𝓤 : Ura M} (𝓛 : Logic 𝓤) (S : RattleType) (lender : MutBor S.Denot) (X : Type 0) where
+  -- what is said of the lender
+  abbrev pub Rests : Result X ArenaError → Fml
+  Rests r = RestsIfErr S lender (λ (_ : X). lender.ghost_name) r (λ now. now ≡ lender.now)
+
+  -- what its last value is known by
+  abbrev Known : Result X ArenaError → Type 0
+  Known r = (s : (S.Denot → S.Denot) × S.Denot) × ((w : S.Denot) → OnOk r (s.0 w ≡ w)) × OnErr r (s.1 ≡ lender.now)
+
+  -- where the call failed, it is as it was
+  pub stays : (e : ArenaError) → ent 𝓤 (sem 𝓛 (fres lender.ghost_name (S.coded.code lender.now))) (sem 𝓛 (Rests (Err e)))
+  unfolding such_by follows_by
+  stays e =
+      qed 𝓛 (‵ (fres lender.ghost_name (S.coded.code lender.now)) ∷ []) ∵
+      fpack ! (Known (Err e)) (λ s. follows_by S.Denot S.Denot S.coded.code S.coded.code lender.ghost_name none s.0.0 s.0.1) (((λ w. w), lender.now), (λ w. tt), refl) $ done !
+
+  -- else it ends as itself, whatever that is
+  pub ends : (x : X) → ent 𝓤 (emp 𝓤) (sem 𝓛 (Rests (Ok x)))
+  unfolding such_by follows_by
+  ends x =
+      qed 𝓛 [] ∵ use0 𝓛 (‵ (follows S S lender.ghost_name lender.ghost_name (λ w. w))) (itself 𝓛 S lender.ghost_name) $
+      fpack ! (Known (Ok x)) (λ s. follows_by S.Denot S.Denot S.coded.code S.coded.code lender.ghost_name (some lender.ghost_name) s.0.0 s.0.1) (((λ w. w), lender.now), (λ w. refl), tt) $ done !
+
+-- the machine's value of an error, by its number
+abbrev pub error_val : ℕ → Val
+error_val n = live n (of_list [])
+
+module _ {M : Type 1} {𝓤 : Ura M} (𝓛 : Logic 𝓤) (κ : Lft) (T : RattleType) where
+  pub aliasing : ent 𝓤 (emp 𝓤) (sem 𝓛 ((PairOr κ T).own_val (Err AliasingPairAccess) (live 1 (of_list (error_val 3 ∷ [])) ∷ [])))
+  aliasing =
+      qed 𝓛 [] ∵ nothing ! $ feq_i ! (List Val) [] [] refl $ fjoin ! $ fpack ! (Valss []) (in_a_row [] (owns [] tt) []) tt $
+      feq_i ! (List Val) (error_val 3 ∷ []) (error_val 3 ∷ []) refl $ fjoin ! $
+      fpack ! (List Val) (tagged_with (form_of (shape ErrorType.the_type)) (form_of (shape ErrorType.the_type)).payload (ErrorType.the_type.to AliasingPairAccess) (error_val 3 ∷ [])) [] $
+      use1 𝓛 (‵ ((PairOr κ T).own_val (Err AliasingPairAccess) (live 1 (of_list (error_val 3 ∷ [])) ∷ []))) (err_of 𝓛 (Pair κ T) ErrorType.the_row AliasingPairAccess (error_val 3)) $ done !
+
+  pub out_of_bounds : ent 𝓤 (emp 𝓤) (sem 𝓛 ((PairOr κ T).own_val (Err KeyOutOfBounds) (live 1 (of_list (error_val 1 ∷ [])) ∷ [])))
+  out_of_bounds =
+      qed 𝓛 [] ∵ nothing ! $ feq_i ! (List Val) [] [] refl $ fjoin ! $ fpack ! (Valss []) (in_a_row [] (owns [] tt) []) tt $
+      feq_i ! (List Val) (error_val 1 ∷ []) (error_val 1 ∷ []) refl $ fjoin ! $
+      fpack ! (List Val) (tagged_with (form_of (shape ErrorType.the_type)) (form_of (shape ErrorType.the_type)).payload (ErrorType.the_type.to KeyOutOfBounds) (error_val 1 ∷ [])) [] $
+      use1 𝓛 (‵ ((PairOr κ T).own_val (Err KeyOutOfBounds) (live 1 (of_list (error_val 1 ∷ [])) ∷ []))) (err_of 𝓛 (Pair κ T) ErrorType.the_row KeyOutOfBounds (error_val 1)) $ done !
+
+module _ (κ : Lft) (T : RattleType) (L : Laws T) where
+  lent_laws : Laws (Lent κ T)
+  lent_laws =
+      let ℓ : NamedLft = record { mir = named 0; lft = κ } in let one = is_one T L in
+      let shared : Sharable (row_field T) = record { alone = L.one; single = λ M 𝓤 𝓛. L.single; shares = λ M 𝓤 𝓛. L.shares 𝓛; shr_laws = L.shr_laws } in
+      of_field (mut_ref_field ℓ T one) (mut_ref_laws ℓ T one) refl (mut_ref_shared ℓ T one shared)
+
+  pub pair_or_laws : Laws (PairOr κ T)
+  pair_or_laws = ResultLaws.the_row_laws (Pair κ T) ErrorType.the_row (tuple_laws (Lent κ T ∷ Lent κ T ∷ []) (lent_laws, (lent_laws, tt))) ErrorLaws.the_row_laws
+
+-- what a test that failed says
+pub neqb→neq : (m n : ℕ) → dec.T (not (eqb m n)) → m ≢ n
+neqb→neq m n differ e = T_not (eqb m n) differ (subst (λ (k : ℕ). dec.T (eqb m k)) e (eqb_refl m))
+
+-- a result that is no error is a value
+pub ok_is : {A B : Type 0} (r : Result A B) → IsOk r → (x : A) × (r ≡ Ok x)
+ok_is (Ok x) ok = (x, refl)
+ok_is (Err e) ok = absurd (subst dec.T (sym ok) tt)

@@ -1,0 +1,125 @@
+-- `two_mut` lends two items, or leaves the vector as it is. Assumes `Logic`.
+use Rattle.std.proofs.Common.{◌≡◌, ◌≢◌, ℕ, ◌<◌, ◌≤◌, ◌^◌, List, [], ◌∷◌, length, Result, Ok, Err, Some, refl, sym, ap, ◌∙◌, subst, inl, inr, lit<, MutBor}
+use lib.Dec.{eqb→eq, leb→le, nleb→lt}
+use Rattle.std_alloc.proofs.VecSteps.Shapes.{after as rest_of}
+use Rattle.std.proofs.raw_atomic.Walks.{proved}
+use Rattle.std.specs.Prelude.{IsOk, IfOk, slice_get}
+use base.Logic.{ent, id⊢, emp}
+use types.Logic.{Logic, sem}
+use base.Fml.{ftrue, flft, fobs, fres, fbor}
+use contract.BorrowLft.{◌⊑◌}
+use contract.Fact.{fact_i}
+use contract.Monad.{fact}
+use contract.Running.{tables}
+use mir.Syntax.{named, Args, a_type, dcons, dnil, w64}
+use mir.MapTy.{inst_fn}
+use mir.Val.{Val, vptr, vint, of_list}
+use prog.Memory.{size}
+use types.ByLocal.{alloc_all, pass_all, free_all, look_at, get, through, sets, lands_as, env}
+use types.Kit.{‵, raw, ◌⊛◌, some, later, prop, at_ret, Sq, ◌$◌, ◌∵◌, !, qed, done, move, keep, drop, join, split, fsplit, fsplit3, fjoin, use0, use1, use2, pick, rewrite, await, group, frame, suffices}
+use types.Match.{live}
+use types.Part.{agg}
+use types.Run.{enter, addr, stop, bin, lit, and_then, no_more, first, branches, skips, exec, returns, returns_within}
+use denote.Builtin.{usize}
+use denote.Exit.{no, yes}
+use denote.Param.{layout, bounded}
+use denote.Param.Laws.{param_laws}
+use denote.Plain.{uint_vals, uint_Tells, uint_Makes}
+use denote.RattleType.{RattleType, Valss, owns}
+use denote.Ref.{MutRef, mut_vals, mut_Tells}
+use denote.Signature.{plain}
+use denote.Laws.{shows}
+use denote.Steps.{nothing, heard, owned, peeks}
+use denote.Triple.Call.{calls_at}
+use denote.Triple.Clauses.{lasts}
+use denote.Triple.Spec.{triple_of}
+use denote.Triple.Table.{framed}
+use denote.Triple.Walked.{Stays, walk_of, says, stay_dropped, Goes-spent_ref, Goes-dropped, ends_at}
+use Rattle.core.proofs.alloc.Calls.{Al}
+use Rattle.core.proofs.mem.Param.{El, R}
+use Rattle.wasmi_arena.specs.Pairs.{PairAnswer}
+use Rattle.wasmi_arena.specs.declared.error.ArenaError.{ArenaError}
+use Rattle.wasmi_arena.specs.declared.error.ArenaError.TheVariants.{KeyOutOfBounds, AliasingPairAccess}
+use Rattle.wasmi_arena.specs.contracts.stable_vec.StableVec.two_mut as F
+use Rattle.wasmi_arena.specs.contracts.stable_vec.StableVec.two_of as Call
+use Rattle.wasmi_arena.proofs.stable_vec.StableVec.two_of.Met as Lends
+use Rattle.wasmi_arena.proofs.stable_vec.StableVec.two_mut.Statement.{statement}
+use Rattle.wasmi_arena.proofs.stable_vec.StableVec.two_mut.Code as code
+use Rattle.wasmi_arena.proofs.Frame.{let_go, gone}
+use Rattle.wasmi_arena.proofs.Refusals.{Pair, PairOr, pair_or_laws, error_val, aliasing, out_of_bounds, Rests, stays, ends, neqb→neq, ok_is}
+use Rattle.wasmi_arena.proofs.VecMemory.{VecRow}
+
+pub two_mut_spec : {M : Type 1} → statement M
+two_mut_spec 𝓤 𝓛 𝓜 𝓡 wired X Y LX LY g d dd met md =
+    let E : El = record { row = X; laws = LX } in let Z : Al = record { row = Y; laws = LY; g = g; d = d; drops = dd } in
+    let args : Args = bounded (a_type ∷ a_type ∷ []) (X, (Y, tt)) (dcons d (dcons dd dnil)) in
+    let call = F.ended X Y g d dd in let c = F.clauses X Y g d dd 𝓛 𝓜.mem 𝓡.returns in
+    let T = R E in let Self = VecRow E Z in let function = inst_fn args code.function in
+    let stayed : Stays call.signature.params call.kept = (stay_dropped _ no, (stay_dropped _ yes, (stay_dropped _ yes, (stay_dropped _ yes, tt)))) in
+    let W = walk_of 𝓛 call stayed c in let 𝓣 = tables 𝓤 𝓛.H 𝓜 𝓡 𝓡.env in
+    let number = Goes-dropped 𝓛 3 (plain (λ _. usize)) yes (λ κs x w. refl) in
+    proved 𝓛 call stayed c 𝓜 𝓡 (Goes-spent_ref 𝓛 3 (0 ∷ []) tt (plain (λ _. Self)), (number, (number, (number, tt))))
+    (F.Key.name args) function (code.unfolded 𝓤 𝓛.H 𝓜 𝓡 wired (X, (Y, tt)) d dd)
+    (λ κs. (mut_vals, (uint_vals w64, (uint_vals w64, (uint_vals w64, tt))))) (λ κs. (mut_Tells (named 0) κs.0 Self, (uint_Tells w64, (uint_Tells w64, (uint_Tells w64, tt)))))
+    (λ κs qs bounds a _ are.
+    let items = a.0.now in let b = a.0.ref_ptr.0 in let o = a.0.ref_ptr.1 in let κ = κs.0 in let q = qs.0 in let γ = a.0.ghost_name in
+    let len = a.1.0 in let i = a.1.1.0 in let j = a.1.1.1.0 in
+    let Taken : List RattleType = MutRef (named 0) κ Self ∷ usize ∷ usize ∷ usize ∷ [] in
+    let vals : Valss Taken = (mut_vals a.0, (uint_vals w64 len, (uint_vals w64 i, (uint_vals w64 j, tt)))) in
+    let y : W.Ghost = ((κs, qs, bounds, a, vals), tt) in
+    let others_alive = ‵ (flft κs.1.0 qs.1.0) ⊛ ‵ (flft κs.1.1.0 qs.1.1.0) ⊛ ‵ ftrue in
+    let alive = ‵ (flft κ q) ⊛ others_alive in let Two : Type 0 = MutBor X.Denot × MutBor X.Denot in
+    let refuses : (e : ArenaError) (v : Val) → ent 𝓤 (emp 𝓤) (sem 𝓛 ((PairOr κ T).own_val (Err e) (v ∷ []))) → PairAnswer items i j (Err e)
+    → Sq 𝓛 (‵ ((MutRef (named 0) κ Self).own_val a.0 (mut_vals a.0)) ∷ alive ∷ []) (prop (W.post y v)) = λ e v made says_so.
+    suffices ! _ (ends_at 𝓛 call stayed c y v (Err e) (tt, (tt, (tt, (tt, tt)))) (tt, (tt, (tt, (tt, tt))))) $
+    fsplit3 ! $ keep ! (1 ∷ 3 ∷ []) $ use1 𝓛 (‵ (fres γ (Self.coded.code items))) (𝓛.names.obs-res γ (Self.coded.code items)) $
+    use1 𝓛 (‵ (Rests 𝓛 Self a.0 Two (Err e))) (stays 𝓛 Self a.0 Two e) $ use0 𝓛 (‵ ((PairOr κ T).own_val (Err e) (v ∷ []))) made $
+    use0 𝓛 (‵ (let_go 4)) (gone 𝓛 4) $ move ! (3 ∷ 0 ∷ 1 ∷ 2 ∷ []) $ group ! 3 $ frame ! $ says ! says_so $ done ! in
+    qed 𝓛 ((alive ⊛ ‵ (owns Taken a vals))
+    ∷ (raw (fact 𝓤 (κs.1.0 ⊑ X.lives)) ⊛ raw (fact 𝓤 (κs.1.1.0 ⊑ Y.lives)) ⊛ raw (fact 𝓤 (size (layout Self) < 2 ^ 63)) ⊛ raw (fact 𝓤 (len ≡ length items))) ∷ []) ∵
+    move ! (1 ∷ []) $ split ! $ heard ! _ (λ in_T. split ! $ heard ! _ (λ in_A. split ! $ heard ! _ (λ small. heard ! _ (λ counted.
+    split ! $ move ! (1 ∷ []) $ fsplit ! $ keep ! (0 ∷ 2 ∷ []) $
+    -- [the reference; the tokens]
+    enter ! _ _ _ _ _ $ alloc_all ! (λ l. let here = env function.locals l in pass_all ! refl ((tt, tt), ((tt, record { fits = are.1.0.1 }), ((tt, record { fits = are.1.1.0.1 }), ((tt, record { fits = are.1.1.1.0.1 }), tt)))) $
+    sets ! (bin ! (get ! refl) (get ! refl) tt) refl (tt, tt) $ first ! $ branches ! (get ! refl)
+    (λ same. sets ! (agg ! (and_then ! (lit ! tt) (no_more !))) refl (tt, (record { fits = lit< tt }, tt)) $
+    sets ! (agg ! (and_then ! (lit ! tt) (and_then ! (get ! refl) (no_more !)))) refl (tt, (record { fits = lit< tt }, ((record { fits = lit< tt }, tt), tt))) $
+    returns_within ! (W.post y) refl (look_at ! 0 refl) $ free_all ! refl $ refuses AliasingPairAccess (live 1 (of_list (error_val 3 ∷ []))) (aliasing 𝓛 κ T) (eqb→eq i j same))
+    (λ differ. let distinct : i ≢ j = neqb→neq i j differ in
+    skips ! $ exec ! 𝓣.C 𝓣.Λ here (rest_of 2 function.body) (at_ret here (W.post y)) $
+    sets ! (bin ! (get ! refl) (get ! refl) tt) refl (tt, tt) $ first ! $ branches ! (get ! refl)
+    (λ out. sets ! (agg ! (and_then ! (lit ! tt) (no_more !))) refl (tt, (record { fits = lit< tt }, tt)) $
+    sets ! (agg ! (and_then ! (lit ! tt) (and_then ! (get ! refl) (no_more !)))) refl (tt, (record { fits = lit< tt }, ((record { fits = lit< tt }, tt), tt))) $
+    returns_within ! (W.post y) refl (look_at ! 0 refl) $ free_all ! refl $ refuses KeyOutOfBounds (live 1 (of_list (error_val 1 ∷ []))) (out_of_bounds 𝓛 κ T) (distinct, inl (subst (λ (n : ℕ). n ≤ i) counted (leb→le len i out))))
+    (λ within_i. skips ! $ exec ! 𝓣.C 𝓣.Λ here (rest_of 4 function.body) (at_ret here (W.post y)) $
+    sets ! (bin ! (get ! refl) (get ! refl) tt) refl (tt, tt) $ first ! $ branches ! (get ! refl)
+    (λ out. sets ! (agg ! (and_then ! (lit ! tt) (no_more !))) refl (tt, (record { fits = lit< tt }, tt)) $
+    sets ! (agg ! (and_then ! (lit ! tt) (and_then ! (get ! refl) (no_more !)))) refl (tt, (record { fits = lit< tt }, ((record { fits = lit< tt }, tt), tt))) $
+    returns_within ! (W.post y) refl (look_at ! 0 refl) $ free_all ! refl $ refuses KeyOutOfBounds (live 1 (of_list (error_val 1 ∷ []))) (out_of_bounds 𝓛 κ T) (distinct, inr (subst (λ (n : ℕ). n ≤ j) counted (leb→le len j out))))
+    (λ within_j. skips ! $ exec ! 𝓣.C 𝓣.Λ here (rest_of 6 function.body) (at_ret here (W.post y)) $
+    let low : i < length items = subst (λ (n : ℕ). i < n) counted (nleb→lt len i within_i) in let high : j < length items = subst (λ (n : ℕ). j < n) counted (nleb→lt len j within_j) in
+    sets ! (addr ! (through ! refl (stop !))) refl (tt, tt) $
+    let G = triple_of 𝓛 (Call.signature X Y g d dd) (Call.spec X Y g d dd 𝓛 𝓜.mem 𝓡.returns) in
+    let z : G.Ghost = ((κs, qs, bounds, (a.0, (i, (j, tt))), (mut_vals a.0, (uint_vals w64 i, (uint_vals w64 j, tt)))), tt) in
+    nothing ! $ owned ! usize _ (uint_Makes 𝓛 w64) j _ (refl, are.1.1.1.0.1) $ fjoin ! $ owned ! usize _ (uint_Makes 𝓛 w64) i _ (refl, are.1.1.0.1) $ fjoin ! $
+    move ! (1 ∷ 0 ∷ []) $ fjoin ! $ move ! (1 ∷ 0 ∷ []) $ join ! $
+    use0 𝓛 (raw (fact 𝓤 (j < length items))) (fact_i 𝓤 _ (emp 𝓤) high) $ use0 𝓛 (raw (fact 𝓤 (i < length items))) (fact_i 𝓤 _ (emp 𝓤) low) $ join ! $
+    use0 𝓛 (raw (fact 𝓤 (i ≢ j))) (fact_i 𝓤 _ (emp 𝓤) distinct) $ join ! $ use0 𝓛 (raw (fact 𝓤 (size (layout Self) < 2 ^ 63))) (fact_i 𝓤 _ (emp 𝓤) small) $ join ! $
+    use0 𝓛 (raw (fact 𝓤 (κs.1.1.0 ⊑ Y.lives))) (fact_i 𝓤 _ (emp 𝓤) in_A) $ join ! $ use0 𝓛 (raw (fact 𝓤 (κs.1.0 ⊑ X.lives))) (fact_i 𝓤 _ (emp 𝓤) in_T) $ join ! $
+    move ! (1 ∷ 0 ∷ []) $ use2 𝓛 (raw (G.pre z)) (id⊢ 𝓤 _) $
+    calls_at ! (framed 𝓤 𝓛.H 𝓜 𝓣) G (Lends.met 𝓤 𝓛 𝓜 𝓡 (code.calls-wasmi_arena::stable_vec::StableVec::two_of 𝓡.env wired) X Y LX LY g d dd met md) z
+    (and_then ! (get ! refl) (and_then ! (get ! refl) (and_then ! (get ! refl) (no_more !)))) (λ v.
+    use1 𝓛 (later (some (λ (r : Result Two ArenaError). (alive ⊛ ‵ ((PairOr κ T).own_val r (v ∷ []))) ⊛
+    some (λ (ws : Unit {0} × (Unit {0} × (Unit {0} × Unit {0}))). ‵ (lasts (Call.ended X Y g d dd) κs (a.0, (i, (j, tt))) ws)
+    ⊛ raw (fact 𝓤 (IfOk r (λ pair. (slice_get items i ≡ Some pair.0.now) × (slice_get items j ≡ Some pair.1.now)))) ⊛ raw (fact 𝓤 (IsOk r)))))) (id⊢ 𝓤 _) $
+    await ! tt $ pick ! (λ r. split ! $ split ! $ move ! (2 ∷ []) $ pick ! (λ ws. split ! $ drop ! $ split ! $ heard ! _ (λ there. heard ! _ (λ ok.
+    let found = ok_is r ok in let pair : Two = found.0 in
+    move ! (1 ∷ []) $ peeks ! (PairOr κ T) _ (shows 𝓛 (PairOr κ T)) r (v ∷ []) (λ seen.
+    lands_as ! refl refl (((pair_or_laws κ T (param_laws 0 X LX)).lawful 𝓛).typed r (v ∷ []) seen).0 $
+    returns ! (look_at ! 0 refl) $ free_all ! refl $
+    rewrite ! 0 (λ (s : Result Two ArenaError). ‵ ((PairOr κ T).own_val s (v ∷ []))) found.1 refl $
+    suffices ! _ (ends_at 𝓛 call stayed c y v (Ok pair) (tt, (tt, (tt, (tt, tt)))) (tt, (tt, (tt, (tt, tt))))) $
+    use0 𝓛 (‵ (Rests 𝓛 Self a.0 Two (Ok pair))) (ends 𝓛 Self a.0 Two pair) $ use0 𝓛 (‵ (let_go 4)) (gone 𝓛 4) $
+    move ! (3 ∷ 0 ∷ 2 ∷ 1 ∷ []) $ group ! 3 $ frame ! $
+    let at = subst (λ (s : Result Two ArenaError). IfOk s (λ both. (slice_get items i ≡ Some both.0.now) × (slice_get items j ≡ Some both.1.now))) found.1 there in
+    says ! (distinct, at.0, at.1) $ done !)))))))))))))))
