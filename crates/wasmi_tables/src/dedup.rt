@@ -1,6 +1,4 @@
 //! Deduplicating arenas: the worked rows, and an allocator that refuses requests.
-use crate::observed::{Log, Observed};
-use crate::tiny::Tiny;
 use std::alloc::{AllocError, Allocator, Global};
 use std::fmt::Write;
 use std::hash::{Hash, Hasher};
@@ -8,6 +6,8 @@ use std::test::Fail;
 use wasmi_arena::ArenaKey;
 use wasmi_collections::arena::{Arena, ArenaError, DedupArena};
 use wasmi_collections::run::{DedupCommand, DedupReply, run_dedup};
+use wasmi_vectors::observed::{Log, Observed};
+use wasmi_vectors::tiny::Tiny;
 
 // An item whose clone fails where the number is odd.
 #[derive(Debug, PartialEq, Eq, Hash, Drop)]
@@ -58,28 +58,46 @@ fn equal_values_of_an_iterator_have_one_key(rt: HostRuntime) -> Result<(), Fail>
     Ok(())
 }
 
+// An arena that was handed "x" and "y". Its item under the key of "x" was written over by "y".
+fn written(alloc: Global) -> Result<DedupArena<usize, &'static str>, ArenaError> {
+    let mut arena = DedupArena::new(alloc);
+    let first = arena.alloc("x")?;
+    *arena.get_mut(first)? = "y";
+    let _second = arena.alloc("y")?;
+    Ok(arena)
+}
+
 #[test]
 fn writes_change_no_key(rt: HostRuntime) -> Result<(), Fail> {
-    let mut arena: DedupArena<usize, &str> = DedupArena::new(rt.alloc());
-    assert_eq!(rt; arena.alloc("x")?, 0);
-    *arena.get_mut(0)? = "y";
+    let mut arena = written(rt.alloc())?;
     assert_eq!(rt; (arena.alloc("x")?, arena.alloc("y")?), (0, 1));
     assert_eq!(rt;
         (arena.get(0), arena.get(1), arena.len()),
         (Ok(&"y"), Ok(&"y"), 2)
     );
+    Ok(())
+}
+
+#[test]
+fn writes_do_not_reach_the_index(rt: HostRuntime) -> Result<(), Fail> {
+    let arena = written(rt.alloc())?;
     let index = arena.index();
     assert_eq!(rt;
         (index.len(), index.get(&"x"), index.get(&"y")),
         (2, Some(&0), Some(&1))
     );
+    Ok(())
+}
+
+#[test]
+fn writes_in_a_loop_change_no_key(rt: HostRuntime) -> Result<(), Fail> {
+    let mut arena = written(rt.alloc())?;
     for (_, item) in &mut arena {
         *item = "z";
     }
-    assert_eq!(rt;
-        (arena.alloc("x")?, arena.alloc("y")?, arena.alloc("z")?),
-        (0, 1, 2)
-    );
+    for (key, value) in ["x", "y", "z"].iter().enumerate() {
+        assert_eq!(rt; arena.alloc(*value)?, key);
+    }
     assert_eq!(rt; (arena.get(0), arena.get(1)), (Ok(&"z"), Ok(&"z")));
     Ok(())
 }

@@ -1,10 +1,10 @@
 //! Hashed maps and sets over an allocator that refuses requests.
-use crate::observed::{Log, Observed};
 use std::test::Fail;
 use wasmi_arena::ArenaError;
 use wasmi_hashed::hash::FixedState;
 use wasmi_hashed::map::Entry;
 use wasmi_hashed::{Map, Set};
+use wasmi_vectors::observed::{Log, Observed};
 
 // Whether the keys are those below `len`, each with itself.
 fn has_first(map: &Map<u32, u32, FixedState, Observed<'_>>, len: u32) -> bool {

@@ -1,10 +1,10 @@
 //! Ordered maps and sets over an allocator that refuses requests.
-use crate::observed::{Log, Observed};
 use std::alloc::{AllocError, Global};
 use std::test::Fail;
 use wasmi_arena::ArenaError;
 use wasmi_ordered::map::Entry;
 use wasmi_ordered::{Map, Set};
+use wasmi_vectors::observed::{Log, Observed};
 
 // Whether the keys are 0, 1, 2 and so on, so many of them, each under itself.
 fn has_first(map: &Map<u32, u32, Observed<'_>>, len: usize) -> bool {
