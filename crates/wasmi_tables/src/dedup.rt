@@ -192,7 +192,34 @@ fn each_request_refused_in_turn(rt: HostRuntime) -> Result<(), Fail> {
                 }
             }
             assert!(rt; has_first(&arena, 100), "at {nth}");
-            // What is there needs no memory.
+        }
+        assert_eq!(rt; (log.returned(), log.misplaced()), (log.given(), 0));
+    }
+    Ok(())
+}
+
+// An arena of 0 to 99. A value that is refused is handed in again.
+fn hundred<'a, 'l>(
+    heap: &'a Observed<'l>,
+) -> Result<DedupArena<usize, u32, &'a Observed<'l>>, ArenaError> {
+    let mut arena = DedupArena::new(heap);
+    for value in 0..100u32 {
+        if arena.alloc(value).is_err() {
+            let _key = arena.alloc(value)?;
+        }
+    }
+    Ok(arena)
+}
+
+// What is there needs no memory, whichever request was refused before.
+#[test]
+fn a_value_that_is_there_needs_no_memory(rt: HostRuntime) -> Result<(), Fail> {
+    for nth in 1..30 {
+        let log = Log::new();
+        {
+            let heap = Observed::new(rt.alloc(), &log);
+            log.refuse_once(nth);
+            let mut arena = hundred(&heap)?;
             log.refuse_from(1);
             let asked = log.requests();
             assert_eq!(rt; (arena.alloc(0), arena.alloc(99)), (Ok(0), Ok(99)));

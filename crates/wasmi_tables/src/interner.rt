@@ -204,6 +204,17 @@ fn has_first(interner: &StringInterner<&Observed<'_>>, len: usize) -> bool {
     known && interner.len() == len
 }
 
+// Whether a name that was refused isn't there and all before it are, and has the next symbol the second time.
+fn goes_on(
+    interner: &mut StringInterner<&Observed<'_>>,
+    len: usize,
+    name: &str,
+) -> Result<bool, ArenaError> {
+    let is_as_before = interner.get(name).is_none() && has_first(interner, len);
+    let symbol = interner.get_or_intern_with_hint(name, InternHint::LikelyNew)?;
+    Ok(is_as_before && symbol.into_usize() == len)
+}
+
 #[test]
 fn a_refused_text_changes_nothing(rt: HostRuntime) -> Result<(), Fail> {
     let mut refusals = 0u64;
@@ -216,11 +227,8 @@ fn a_refused_text_changes_nothing(rt: HostRuntime) -> Result<(), Fail> {
             for (len, name) in NAMES.into_iter().enumerate() {
                 if let Err(error) = interner.get_or_intern(name) {
                     assert_eq!(rt; error, ArenaError::OutOfSystemMemory);
-                    assert_eq!(rt; interner.get(name), None);
-                    assert!(rt; has_first(&interner, len), "at {nth}");
+                    assert!(rt; goes_on(&mut interner, len, name)?, "at {nth}");
                     refusals = refusals.wrapping_add(1);
-                    let symbol = interner.get_or_intern_with_hint(name, InternHint::LikelyNew)?;
-                    assert_eq!(rt; symbol.into_usize(), len);
                 }
             }
             assert!(rt; has_first(&interner, 10), "at {nth}");
