@@ -295,18 +295,23 @@ fn a_run_goes_on_after_a_refusal(rt: HostRuntime) -> Result<(), Fail> {
     Ok(())
 }
 
-// Each text is one request, and so is each clone of one.
+// An arena of "a" and "b". Each text is one request, and so is each clone of one.
+fn two_texts<'a, 'l>(
+    heap: &'a Observed<'l>,
+) -> Result<DedupArena<usize, String<&'a Observed<'l>>, &'a Observed<'l>>, ArenaError> {
+    let mut arena = DedupArena::new(heap);
+    for text in ["a", "b"] {
+        let _key = arena.alloc(String::from_str(heap, text)?)?;
+    }
+    Ok(arena)
+}
+
 #[test]
 fn a_new_value_is_cloned_once(rt: HostRuntime) -> Result<(), Fail> {
     let log = Log::new();
     {
         let heap = Observed::new(rt.alloc(), &log);
-        let mut arena: DedupArena<usize, String<&Observed<'_>>, &Observed<'_>> = DedupArena::new(
-            &heap,
-        );
-        for text in ["a", "b"] {
-            let _key = arena.alloc(String::from_str(&heap, text)?)?;
-        }
+        let mut arena = two_texts(&heap)?;
         let (asked, returned) = (log.requests(), log.returned());
         assert_eq!(rt; arena.alloc(String::from_str(&heap, "a")?)?, 0);
         assert_eq!(rt;
@@ -315,7 +320,18 @@ fn a_new_value_is_cloned_once(rt: HostRuntime) -> Result<(), Fail> {
         );
         assert_eq!(rt; arena.alloc(String::from_str(&heap, "c")?)?, 2);
         assert_eq!(rt; log.requests(), asked.wrapping_add(3));
-        // The value, and then its clone, are refused.
+    }
+    assert_eq!(rt; (log.returned(), log.misplaced()), (log.given(), 0));
+    Ok(())
+}
+
+// The value is given memory, and its clone is refused.
+#[test]
+fn a_value_whose_clone_is_refused_is_dropped(rt: HostRuntime) -> Result<(), Fail> {
+    let log = Log::new();
+    {
+        let heap = Observed::new(rt.alloc(), &log);
+        let mut arena = two_texts(&heap)?;
         log.refuse_once(2);
         let refused = arena.alloc(String::from_str(&heap, "d")?);
         assert_eq!(rt; refused, Err(ArenaError::OutOfSystemMemory));
