@@ -18,7 +18,7 @@ fn four(alloc: Global) -> Result<Arena<usize, &'static str>, ArenaError> {
 }
 
 #[test]
-fn items_come_under_their_keys(rt: HostRuntime) -> Result<(), Fail> {
+fn items_get_their_keys_in_turn(rt: HostRuntime) -> Result<(), Fail> {
     let mut arena: Arena<usize, &'static str> = Arena::new(rt.alloc());
     assert!(rt; arena.is_empty());
     assert_eq!(rt; arena.get(0), Err(ArenaError::KeyOutOfBounds));
@@ -27,6 +27,12 @@ fn items_come_under_their_keys(rt: HostRuntime) -> Result<(), Fail> {
         assert_eq!(rt; arena.alloc(text)?, index);
         assert_eq!(rt; arena.len(), index + 1);
     }
+    Ok(())
+}
+
+#[test]
+fn items_come_under_their_keys(rt: HostRuntime) -> Result<(), Fail> {
+    let arena = four(rt.alloc())?;
     for (index, text) in ["a", "b", "c", "d"].iter().enumerate() {
         assert_eq!(rt; arena.get(index), Ok(text));
         if index < arena.len() {
@@ -53,17 +59,32 @@ fn a_cleared_arena_begins_at_key_0(rt: HostRuntime) -> Result<(), Fail> {
 }
 
 #[test]
-fn walks_have_each_entry_once(rt: HostRuntime) -> Result<(), Fail> {
+fn a_walk_goes_from_both_ends(rt: HostRuntime) -> Result<(), Fail> {
     let arena = four(rt.alloc())?;
     let mut walk = arena.iter();
-    assert_eq!(rt; walk.len(), 4);
-    assert_eq!(rt; walk.next(), Some((0, &"a")));
-    assert_eq!(rt; walk.next_back(), Some((3, &"d")));
-    assert_eq!(rt; walk.len(), 2);
-    assert_eq!(rt; walk.next_back(), Some((2, &"c")));
-    assert_eq!(rt; walk.next(), Some((1, &"b")));
-    assert_eq!(rt; walk.next(), None);
-    assert_eq!(rt; walk.next_back(), None);
+    // Whether the step is from the back, what it gives, and how many entries are ahead before it.
+    for (is_back, entry, ahead) in [
+        (false, Some((0, &"a")), 4),
+        (true, Some((3, &"d")), 3),
+        (true, Some((2, &"c")), 2),
+        (false, Some((1, &"b")), 1),
+        (false, None, 0),
+        (true, None, 0),
+    ] {
+        assert_eq!(rt; walk.len(), ahead);
+        let step = if is_back {
+            walk.next_back()
+        } else {
+            walk.next()
+        };
+        assert_eq!(rt; step, entry);
+    }
+    Ok(())
+}
+
+#[test]
+fn walks_have_each_entry_once(rt: HostRuntime) -> Result<(), Fail> {
+    let arena = four(rt.alloc())?;
     let mut visited = 0;
     for (key, text) in &arena {
         assert_eq!(rt; key, visited);

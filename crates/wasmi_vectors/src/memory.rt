@@ -397,17 +397,31 @@ fn a_run_hands_back_what_makes_way(rt: HostRuntime) -> Result<(), Fail> {
     Ok(())
 }
 
-// All slots are filled, and no more memory is given.
-#[test]
-fn a_vector_lends_its_items_without_memory(rt: HostRuntime) -> Result<(), Fail> {
-    let log = Log::new();
-    let mut vec = StableVec::new(Observed::new(rt.alloc(), &log));
+// A vector of 0 to 95, whose slots are all filled.
+fn full<'l>(handle: Observed<'l>) -> Result<StableVec<u64, Observed<'l>>, ArenaError> {
+    let mut vec = StableVec::new(handle);
     for item in 0..96u64 {
         vec.push(item)?;
     }
+    Ok(vec)
+}
+
+#[test]
+fn a_vector_lends_two_items_without_memory(rt: HostRuntime) -> Result<(), Fail> {
+    let log = Log::new();
+    let mut vec = full(Observed::new(rt.alloc(), &log))?;
     log.refuse_from(1);
     assert_eq!(rt; vec.get_disjoint_mut([32, 31])?, (&mut 32, &mut 31));
     assert!(rt; vec.get_disjoint_mut([32, 96]).is_err());
+    assert_eq!(rt; log.requests(), 2);
+    Ok(())
+}
+
+#[test]
+fn a_vector_lends_its_items_without_memory(rt: HostRuntime) -> Result<(), Fail> {
+    let log = Log::new();
+    let mut vec = full(Observed::new(rt.alloc(), &log))?;
+    log.refuse_from(1);
     vec.swap(0, 95)?;
     assert_eq!(rt; vec.get_mut(95), Some(&mut 0));
     assert_eq!(rt; vec.iter_mut().len(), 96);
@@ -416,19 +430,33 @@ fn a_vector_lends_its_items_without_memory(rt: HostRuntime) -> Result<(), Fail> 
     Ok(())
 }
 
-#[test]
-fn an_arena_lends_its_items_without_memory(rt: HostRuntime) -> Result<(), Fail> {
-    let log = Log::new();
-    let mut arena: StableArena<usize, u64, Observed<'_>> = StableArena::new(Observed::new(
-        rt.alloc(),
-        &log,
-    ));
+// An arena of 0 to 95, whose slots are all filled.
+fn full_arena<'l>(
+    handle: Observed<'l>,
+) -> Result<StableArena<usize, u64, Observed<'l>>, ArenaError> {
+    let mut arena = StableArena::new(handle);
     for item in 0..96u64 {
         arena.alloc(item)?;
     }
+    Ok(arena)
+}
+
+#[test]
+fn an_arena_lends_two_items_without_memory(rt: HostRuntime) -> Result<(), Fail> {
+    let log = Log::new();
+    let mut arena = full_arena(Observed::new(rt.alloc(), &log))?;
     log.refuse_from(1);
     assert_eq!(rt; arena.get_disjoint_mut([32, 31])?, (&mut 32, &mut 31));
     assert!(rt; arena.get_disjoint_mut([32, 32]).is_err());
+    assert_eq!(rt; log.requests(), 2);
+    Ok(())
+}
+
+#[test]
+fn an_arena_lends_its_items_without_memory(rt: HostRuntime) -> Result<(), Fail> {
+    let log = Log::new();
+    let mut arena = full_arena(Observed::new(rt.alloc(), &log))?;
+    log.refuse_from(1);
     arena.swap(0, 95)?;
     assert_eq!(rt; arena.put(95, 7), Ok(0));
     assert_eq!(rt; arena.iter_mut().len(), 96);

@@ -1,12 +1,12 @@
 //! Interners: worked rows and runs, how many texts a search compares, and each request for memory refused
 //! in turn.
-use crate::observed::{Log, Observed};
 use std::alloc::{AllocError, Global};
 use std::test::Fail;
 use wasmi_arena::ArenaError;
 use wasmi_collections::StringInterner;
 use wasmi_collections::run::{InternCommand, InternReply, run_interner};
 use wasmi_collections::string_interner::{InternHint, LenOrder, Steps, Sym};
+use wasmi_vectors::observed::{Log, Observed};
 
 const HINTS: [InternHint; 3] = [
     InternHint::None,
@@ -204,6 +204,17 @@ fn has_first(interner: &StringInterner<&Observed<'_>>, len: usize) -> bool {
     known && interner.len() == len
 }
 
+// Whether a name that was refused isn't there and all before it are, and has the next symbol the second time.
+fn goes_on(
+    interner: &mut StringInterner<&Observed<'_>>,
+    len: usize,
+    name: &str,
+) -> Result<bool, ArenaError> {
+    let is_as_before = interner.get(name).is_none() && has_first(interner, len);
+    let symbol = interner.get_or_intern_with_hint(name, InternHint::LikelyNew)?;
+    Ok(is_as_before && symbol.into_usize() == len)
+}
+
 #[test]
 fn a_refused_text_changes_nothing(rt: HostRuntime) -> Result<(), Fail> {
     let mut refusals = 0u64;
@@ -216,15 +227,41 @@ fn a_refused_text_changes_nothing(rt: HostRuntime) -> Result<(), Fail> {
             for (len, name) in NAMES.into_iter().enumerate() {
                 if let Err(error) = interner.get_or_intern(name) {
                     assert_eq!(rt; error, ArenaError::OutOfSystemMemory);
-                    assert_eq!(rt; interner.get(name), None);
-                    assert!(rt; has_first(&interner, len), "at {nth}");
+                    assert!(rt; goes_on(&mut interner, len, name)?, "at {nth}");
                     refusals = refusals.wrapping_add(1);
-                    let symbol = interner.get_or_intern_with_hint(name, InternHint::LikelyNew)?;
-                    assert_eq!(rt; symbol.into_usize(), len);
                 }
             }
             assert!(rt; has_first(&interner, 10), "at {nth}");
-            // What is there needs no memory, whatever the hint.
+        }
+        assert_eq!(rt; (log.returned(), log.misplaced()), (log.given(), 0));
+    }
+    // A block for each text that has a byte, and three for the growing index and for the growing texts.
+    assert_eq!(rt; refusals, 15);
+    Ok(())
+}
+
+// An interner of the names. One that is refused is interned again.
+fn with_names<'a, 'l>(
+    handle: &'a Observed<'l>,
+) -> Result<StringInterner<&'a Observed<'l>>, ArenaError> {
+    let mut interner = StringInterner::new(handle);
+    for name in NAMES {
+        if interner.get_or_intern(name).is_err() {
+            let _symbol = interner.get_or_intern_with_hint(name, InternHint::LikelyNew)?;
+        }
+    }
+    Ok(interner)
+}
+
+// What is there needs no memory, whatever the hint, and whichever request was refused before.
+#[test]
+fn a_text_that_is_there_needs_no_memory(rt: HostRuntime) -> Result<(), Fail> {
+    for nth in 1..30 {
+        let log = Log::new();
+        {
+            let handle = Observed::new(rt.alloc(), &log);
+            log.refuse_once(nth);
+            let mut interner = with_names(&handle)?;
             log.refuse_from(1);
             let asked = log.requests();
             for hint in HINTS {
@@ -236,8 +273,6 @@ fn a_refused_text_changes_nothing(rt: HostRuntime) -> Result<(), Fail> {
         }
         assert_eq!(rt; (log.returned(), log.misplaced()), (log.given(), 0));
     }
-    // A block for each text that has a byte, and three for the growing index and for the growing texts.
-    assert_eq!(rt; refusals, 15);
     Ok(())
 }
 
@@ -259,14 +294,17 @@ fn a_third_text_is_refused(rt: HostRuntime) -> Result<(), Fail> {
     Ok(())
 }
 
-fn with_names<'a, 'l>(
-    handle: &'a Observed<'l>,
-) -> Result<StringInterner<&'a Observed<'l>>, ArenaError> {
-    let mut interner = StringInterner::new(handle);
-    for name in NAMES {
-        let _symbol = interner.get_or_intern(name)?;
-    }
-    Ok(interner)
+// A block for each text that has a byte, one for the index, and one for the texts.
+#[test]
+fn a_clone_asks_for_eleven_blocks(rt: HostRuntime) -> Result<(), Fail> {
+    let log = Log::new();
+    let handle = Observed::new(rt.alloc(), &log);
+    let interner = with_names(&handle)?;
+    let before = log.requests();
+    let copy = interner.clone()?;
+    assert_eq!(rt; log.requests().wrapping_sub(before), 11);
+    assert!(rt; copy == interner);
+    Ok(())
 }
 
 #[test]
@@ -274,11 +312,7 @@ fn a_clone_has_texts_of_its_own(rt: HostRuntime) -> Result<(), Fail> {
     let log = Log::new();
     let handle = Observed::new(rt.alloc(), &log);
     let interner = with_names(&handle)?;
-    let before = log.requests();
     let mut copy = interner.clone()?;
-    // A block for each text that has a byte, one for the index, and one for the texts.
-    assert_eq!(rt; log.requests().wrapping_sub(before), 11);
-    assert!(rt; copy == interner);
     let _more = copy.get_or_intern("import")?;
     assert!(rt; copy != interner && has_first(&interner, 10));
     Ok(())

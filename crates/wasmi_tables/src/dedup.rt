@@ -1,6 +1,4 @@
 //! Deduplicating arenas: the worked rows, and an allocator that refuses requests.
-use crate::observed::{Log, Observed};
-use crate::tiny::Tiny;
 use std::alloc::{AllocError, Allocator, Global};
 use std::fmt::Write;
 use std::hash::{Hash, Hasher};
@@ -8,6 +6,8 @@ use std::test::Fail;
 use wasmi_arena::ArenaKey;
 use wasmi_collections::arena::{Arena, ArenaError, DedupArena};
 use wasmi_collections::run::{DedupCommand, DedupReply, run_dedup};
+use wasmi_vectors::observed::{Log, Observed};
+use wasmi_vectors::tiny::Tiny;
 
 // An item whose clone fails where the number is odd.
 #[derive(Debug, PartialEq, Eq, Hash, Drop)]
@@ -58,28 +58,46 @@ fn equal_values_of_an_iterator_have_one_key(rt: HostRuntime) -> Result<(), Fail>
     Ok(())
 }
 
+// An arena that was handed "x" and "y". Its item under the key of "x" was written over by "y".
+fn written(alloc: Global) -> Result<DedupArena<usize, &'static str>, ArenaError> {
+    let mut arena = DedupArena::new(alloc);
+    let first = arena.alloc("x")?;
+    *arena.get_mut(first)? = "y";
+    let _second = arena.alloc("y")?;
+    Ok(arena)
+}
+
 #[test]
 fn writes_change_no_key(rt: HostRuntime) -> Result<(), Fail> {
-    let mut arena: DedupArena<usize, &str> = DedupArena::new(rt.alloc());
-    assert_eq!(rt; arena.alloc("x")?, 0);
-    *arena.get_mut(0)? = "y";
+    let mut arena = written(rt.alloc())?;
     assert_eq!(rt; (arena.alloc("x")?, arena.alloc("y")?), (0, 1));
     assert_eq!(rt;
         (arena.get(0), arena.get(1), arena.len()),
         (Ok(&"y"), Ok(&"y"), 2)
     );
+    Ok(())
+}
+
+#[test]
+fn writes_do_not_reach_the_index(rt: HostRuntime) -> Result<(), Fail> {
+    let arena = written(rt.alloc())?;
     let index = arena.index();
     assert_eq!(rt;
         (index.len(), index.get(&"x"), index.get(&"y")),
         (2, Some(&0), Some(&1))
     );
+    Ok(())
+}
+
+#[test]
+fn writes_in_a_loop_change_no_key(rt: HostRuntime) -> Result<(), Fail> {
+    let mut arena = written(rt.alloc())?;
     for (_, item) in &mut arena {
         *item = "z";
     }
-    assert_eq!(rt;
-        (arena.alloc("x")?, arena.alloc("y")?, arena.alloc("z")?),
-        (0, 1, 2)
-    );
+    for (key, value) in ["x", "y", "z"].iter().enumerate() {
+        assert_eq!(rt; arena.alloc(*value)?, key);
+    }
     assert_eq!(rt; (arena.get(0), arena.get(1)), (Ok(&"z"), Ok(&"z")));
     Ok(())
 }
@@ -174,7 +192,34 @@ fn each_request_refused_in_turn(rt: HostRuntime) -> Result<(), Fail> {
                 }
             }
             assert!(rt; has_first(&arena, 100), "at {nth}");
-            // What is there needs no memory.
+        }
+        assert_eq!(rt; (log.returned(), log.misplaced()), (log.given(), 0));
+    }
+    Ok(())
+}
+
+// An arena of 0 to 99. A value that is refused is handed in again.
+fn hundred<'a, 'l>(
+    heap: &'a Observed<'l>,
+) -> Result<DedupArena<usize, u32, &'a Observed<'l>>, ArenaError> {
+    let mut arena = DedupArena::new(heap);
+    for value in 0..100u32 {
+        if arena.alloc(value).is_err() {
+            let _key = arena.alloc(value)?;
+        }
+    }
+    Ok(arena)
+}
+
+// What is there needs no memory, whichever request was refused before.
+#[test]
+fn a_value_that_is_there_needs_no_memory(rt: HostRuntime) -> Result<(), Fail> {
+    for nth in 1..30 {
+        let log = Log::new();
+        {
+            let heap = Observed::new(rt.alloc(), &log);
+            log.refuse_once(nth);
+            let mut arena = hundred(&heap)?;
             log.refuse_from(1);
             let asked = log.requests();
             assert_eq!(rt; (arena.alloc(0), arena.alloc(99)), (Ok(0), Ok(99)));
@@ -250,18 +295,23 @@ fn a_run_goes_on_after_a_refusal(rt: HostRuntime) -> Result<(), Fail> {
     Ok(())
 }
 
-// Each text is one request, and so is each clone of one.
+// An arena of "a" and "b". Each text is one request, and so is each clone of one.
+fn two_texts<'a, 'l>(
+    heap: &'a Observed<'l>,
+) -> Result<DedupArena<usize, String<&'a Observed<'l>>, &'a Observed<'l>>, ArenaError> {
+    let mut arena = DedupArena::new(heap);
+    for text in ["a", "b"] {
+        let _key = arena.alloc(String::from_str(heap, text)?)?;
+    }
+    Ok(arena)
+}
+
 #[test]
 fn a_new_value_is_cloned_once(rt: HostRuntime) -> Result<(), Fail> {
     let log = Log::new();
     {
         let heap = Observed::new(rt.alloc(), &log);
-        let mut arena: DedupArena<usize, String<&Observed<'_>>, &Observed<'_>> = DedupArena::new(
-            &heap,
-        );
-        for text in ["a", "b"] {
-            let _key = arena.alloc(String::from_str(&heap, text)?)?;
-        }
+        let mut arena = two_texts(&heap)?;
         let (asked, returned) = (log.requests(), log.returned());
         assert_eq!(rt; arena.alloc(String::from_str(&heap, "a")?)?, 0);
         assert_eq!(rt;
@@ -270,7 +320,18 @@ fn a_new_value_is_cloned_once(rt: HostRuntime) -> Result<(), Fail> {
         );
         assert_eq!(rt; arena.alloc(String::from_str(&heap, "c")?)?, 2);
         assert_eq!(rt; log.requests(), asked.wrapping_add(3));
-        // The value, and then its clone, are refused.
+    }
+    assert_eq!(rt; (log.returned(), log.misplaced()), (log.given(), 0));
+    Ok(())
+}
+
+// The value is given memory, and its clone is refused.
+#[test]
+fn a_value_whose_clone_is_refused_is_dropped(rt: HostRuntime) -> Result<(), Fail> {
+    let log = Log::new();
+    {
+        let heap = Observed::new(rt.alloc(), &log);
+        let mut arena = two_texts(&heap)?;
         log.refuse_once(2);
         let refused = arena.alloc(String::from_str(&heap, "d")?);
         assert_eq!(rt; refused, Err(ArenaError::OutOfSystemMemory));
