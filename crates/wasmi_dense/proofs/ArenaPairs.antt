@@ -1,7 +1,32 @@
--- Two items of a list that is cut between them.
-use Rattle.std.proofs.Common.{◌≡◌, ℕ, ◌-◌, ◌<◌, ◌≤◌, List, ◌++◌, length, get_or, slice_get, slice_set, Some, refl, arith, length-append}
+-- Two items of a list.
+use Rattle.std.proofs.Common.{◌≡◌, ◌≢◌, ℕ, zero, suc, ◌-◌, ◌<◌, ◌≤◌, List, [], ◌∷◌, ◌++◌, length, take, drop, get_or, slice_get, slice_set, Some, refl, sym, ap, ◌∙◌, arith, length-append}
+use Rattle.std.proofs.Math.Seq.{take-append_seam}
 use Rattle.std.proofs.lemmas.List.{get_or_append_left, get_or-append_right, set-append_left, set-append_right, length-set}
 use Rattle.std.proofs.lemmas.Option.{slice_get_read}
+use Rattle.wasmi_dense.specs.ArenaLoan.{written}
+
+-- two writes, at positions that differ, in either order
+pub slice_set-apart : {T : Type 0} (items : List T) (one other : ℕ) (x y : T) → one ≢ other
+    → slice_set (slice_set items other y) one x ≡ slice_set (slice_set items one x) other y
+slice_set-apart [] one other x y apart = refl
+slice_set-apart (item ∷ items) zero zero x y apart = absurd (apart refl)
+slice_set-apart (item ∷ items) zero (suc other) x y apart = refl
+slice_set-apart (item ∷ items) (suc one) zero x y apart = refl
+slice_set-apart (item ∷ items) (suc one) (suc other) x y apart = ap (λ tail. item ∷ tail) (slice_set-apart items one other x y (λ same. apart (ap suc same)))
+
+-- a list written over itself
+pub written-same : {T : Type 0} (items : List T) → written items items ≡ items
+written-same items = take-append_seam items (drop (length items) items)
+
+-- a list with two writes, written over the list that it was
+pub written-two : {T : Type 0} (items : List T) (one other : ℕ) (x y : T)
+    → written items (slice_set (slice_set items one x) other y) ≡ slice_set (slice_set items one x) other y
+written-two items one other x y =
+    let last = slice_set (slice_set items one x) other y in
+    let counted : length last ≡ length items = length-set (slice_set items one x) other y ∙ length-set items one x in
+    ap (λ n. take n (last ++ drop (length last) items)) (sym counted) ∙ take-append_seam last (drop (length last) items)
+
+-- where a list is cut between them
 
 module _ {T : Type 0} (items front back : List T) (whole : items ≡ front ++ back) where
   -- a write to each part is two writes to the list

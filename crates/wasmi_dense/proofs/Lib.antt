@@ -1,3 +1,4 @@
 pub mod ArenaLoans
 pub mod ArenaPairs
+pub mod PairLoans
 mod Components

@@ -5,3 +5,4 @@ pub mod ArenaGrowth
 pub mod Components
 pub mod ComponentsLend
 pub mod ComponentLaws
+pub mod ArenaPair

@@ -1,6 +1,8 @@
 //! Two items of an arena in one vector at once.
-ghost use Rattle.std.specs.Prelude.{◌≡◌, ◌<◌, ◌≤◌, ◌↔◌, ◌⊎◌, [], ◌∷◌, length, IfOk, IfErr, IsErrOf, slice_get, slice_set, Some};
+ghost use Rattle.std.specs.Prelude.{◌≡◌, ◌≢◌, ◌<◌, ◌≤◌, ◌↔◌, ◌⊎◌, [], ◌∷◌, length, IfOk, IfErr, IsErrOf, slice_get, slice_set, Some};
 ghost use Rattle.std.specs.Borrow.{sem, LendsBoth, Array};
+ghost use Rattle.wasmi_dense.specs.ArenaLend.{lends_all};
+ghost use Rattle.wasmi_dense.specs.ArenaPair.{LendsBothIfOk, lends_both};
 
 use super::Arena;
 use std::alloc::Allocator;
@@ -19,44 +21,74 @@ fn in_order<T>(items: &mut [T], low: usize, high: usize) -> (&mut T, &mut T)
     (&mut front[low], &mut back[0])
 }
 
+// Two items of a slice.
+fn two_of<T>(items: &mut [T], one: usize, other: usize) -> (&mut T, &mut T)
+    requires one { one < length items.old }
+    requires other { other < length items.old }
+    requires apart { one ≢ other }
+    ensures* writes_back { sem 𝓛 (LendsBoth (Array T.row 0) T.row T.row items.entry result
+        (λ x y. slice_set (slice_set items.old one x) other y)) }
+    ensures first { slice_get items.old one ≡ Some result.0.now }
+    ensures second { slice_get items.old other ≡ Some result.1.now }
+{
+    if one < other {
+        in_order(items, one, other)
+    } else {
+        let (low, high) = in_order(items, other, one);
+        (high, low)
+    }
+}
+
+// Two items of a slice, or why it has no two such items.
+fn two_or<T>(items: &mut [T], one: usize, other: usize) -> Result<(&mut T, &mut T), ArenaError>
+    ensures* writes_back { sem 𝓛 (LendsBothIfOk (Array T.row 0) T.row T.row items.entry result
+        (λ x y. slice_set (slice_set items.old one x) other y) items.old) }
+    ensures items { IfOk result (λ pair. (slice_get items.old one ≡ Some pair.0.now)
+        × (slice_get items.old other ≡ Some pair.1.now)) }
+    ensures out_of_bounds { IsErrOf result ArenaError.KeyOutOfBounds
+        ↔ ((length items.old ≤ one) ⊎ (length items.old ≤ other)) }
+    ensures aliasing { IsErrOf result ArenaError.AliasingPairAccess
+        ↔ ((one < length items.old) × (one ≡ other)) }
+    ensures errors { IfErr result (λ error. (error ≡ ArenaError.KeyOutOfBounds)
+        ⊎ (error ≡ ArenaError.AliasingPairAccess)) }
+{
+    let len = items.len();
+    if one >= len {
+        return Err(ArenaError::KeyOutOfBounds);
+    }
+    if other >= len {
+        return Err(ArenaError::KeyOutOfBounds);
+    }
+    if one == other {
+        return Err(ArenaError::AliasingPairAccess);
+    }
+    Ok(two_of(items, one, other))
+}
+
+// The numbers of two keys.
+fn numbers<Key: ArenaKey>(keys: [Key; 2]) -> (usize, usize)
+    ensures { (first second : Key) → keys ≡ first ∷ second ∷ []
+        → (result.0 ≡ Key.keys.number first) × (result.1 ≡ Key.keys.number second) }
+{
+    let [first, second] = keys;
+    (first.into_usize(), second.into_usize())
+}
+
 impl<Key: ArenaKey, T, A: Allocator> Arena<Key, T, A> {
-    // The items under two keys.
-    fn pair_mut(&mut self, first: Key, second: Key) -> Result<(&mut T, &mut T), ArenaError>
-        ensures items { IfOk result (λ pair.
-            (slice_get self.old.items (Key.keys.number first) ≡ Some pair.0.now)
-            × (slice_get self.old.items (Key.keys.number second) ≡ Some pair.1.now)) }
-        ensures out_of_bounds { IsErrOf result ArenaError.KeyOutOfBounds
-            ↔ ((length self.old.items ≤ Key.keys.number first)
-            ⊎ (length self.old.items ≤ Key.keys.number second)) }
-        ensures aliasing { IsErrOf result ArenaError.AliasingPairAccess
-            ↔ ((Key.keys.number first < length self.old.items)
-            × (Key.keys.number first ≡ Key.keys.number second)) }
-        ensures errors { IfErr result (λ error. (error ≡ ArenaError.KeyOutOfBounds)
-            ⊎ (error ≡ ArenaError.AliasingPairAccess)) }
+    // All items.
+    fn items_mut(&mut self) -> &mut [T]
+        ensures* writes_back { sem 𝓛 (lends_all Key.row T.row A.row Key.ArenaKey A.Allocator self.entry result.ghost_name) }
+        ensures items { result.now ≡ self.old.items }
     {
-        let one = first.into_usize();
-        let other = second.into_usize();
-        let len = self.items.len();
-        if one >= len || other >= len {
-            return Err(ArenaError::KeyOutOfBounds);
-        }
-        if one == other {
-            return Err(ArenaError::AliasingPairAccess);
-        }
-        let items = self.items.as_mut_slice();
-        if one < other {
-            Ok(in_order(items, one, other))
-        } else {
-            let (low, high) = in_order(items, other, one);
-            Ok((high, low))
-        }
+        self.items.as_mut_slice()
     }
 
     /// The items under two keys to write to.
     ///
     /// Fails with `KeyOutOfBounds` if there is no item under one, and then with `AliasingPairAccess` if
-    /// the keys are equal. Constant time.
+    /// the keys are equal. After an error the arena is as before. Constant time.
     pub fn get_disjoint_mut(&mut self, keys: [Key; 2]) -> Result<(&mut T, &mut T), ArenaError>
+        ensures* writes_back { sem 𝓛 (lends_both Key.row T.row A.row Key.ArenaKey A.Allocator self.entry keys result) }
         ensures items { (first second : Key) → keys ≡ first ∷ second ∷ [] → IfOk result (λ pair.
             (slice_get self.old.items (Key.keys.number first) ≡ Some pair.0.now)
             × (slice_get self.old.items (Key.keys.number second) ≡ Some pair.1.now)) }
@@ -71,7 +103,7 @@ impl<Key: ArenaKey, T, A: Allocator> Arena<Key, T, A> {
         ensures errors { IfErr result (λ error. (error ≡ ArenaError.KeyOutOfBounds)
             ⊎ (error ≡ ArenaError.AliasingPairAccess)) }
     {
-        let [first, second] = keys;
-        self.pair_mut(first, second)
+        let (one, other) = numbers(keys);
+        two_or(self.items_mut(), one, other)
     }
 }

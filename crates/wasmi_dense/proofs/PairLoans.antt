@@ -1,0 +1,202 @@
+-- Two items that are lent together, or an error in their place. Assumes `Logic`.
+--     follows_through      what follows a part follows the two that the part is cut into, where it is cut
+--     ok_made, err_made      a `Result` is made of what it holds
+--     error_made      an error is made of nothing, where its variant has no field
+--     good      what is owned of the result is a machine value of its type
+--     Told      what the result says of the list and of two positions.        told_outside, told_alike, told_lent      of each result
+--     ToldKeys, told_keys      the same of two keys.        ends_both      the two writes under them
+use mathlib.Core.Path.{◌≡◌, refl, sym, ap, subst}
+use mathlib.Core.List.{List, [], ◌∷◌}
+use mathlib.Core.Option as maybe
+use mathlib.Core.Logic.{◌↔◌, ◌⊎◌, inl, inr}
+use seplogic.Ra.Ura.{Ura}
+use base.Fml.{GName, Lft, fres, fsep}
+use lib.Dec.{T}
+use mir.Syntax.{named}
+use base.Logic.{ent, sep, emp, wand}
+use mir.Val.{Val, of_list, has_ty, WT}
+use types.Follow.{followed₂}
+use types.Kit.{‵, ◌$◌, ◌∵◌, !, qed, done, by, move, use2, each, assume, fjoin, feq_i, fpack}
+use types.Logic.{Logic, sem}
+use types.Match.{live}
+use denote.Enum.Declared.{shape}
+use denote.Enum.Enum.{form_of, in_a_row, Enum-Lawful}
+use denote.Enum.Row.{tagged_with}
+use denote.Follow.{follows, followed, both_by, follows_both, both_if_by, follows_both_if}
+use denote.Memory.{mem}
+use denote.RattleType.{RattleType, Valss, owns}
+use denote.Laws.{Is, Lawful}
+use denote.Param.{layout}
+use denote.Ref.{MutBor, MutRef, mut_Lawful}
+use denote.Struct.Declared as Declared
+use denote.Struct.Struct.{Struct-Lawful}
+use denote.Struct.Tuple.{Tuple, tuple_type}
+use denote.Steps.{nothing}
+use Prim.Native.Nat.{ℕ}
+use Rattle.std.proofs.Common.{suc, ◌<◌, lit<, arith, slice_set}
+use Rattle.std.specs.Prelude.{◌≢◌, ◌≤◌, length, Result, Ok, Err, Some, IfOk, IfErr, IsErrOf, slice_get}
+use Rattle.std.specs.contracts.result.Result as Res
+use Rattle.wasmi_arena.specs.contracts.error.ArenaError as Error
+use Rattle.wasmi_arena.specs.declared.error.ArenaError.{ArenaError}
+use Rattle.wasmi_arena.specs.Arena.{ArenaState}
+use Rattle.wasmi_arena.specs.Keys.{Keys}
+use Rattle.wasmi_dense.specs.ArenaPair.{with_both}
+
+module _ {M : Type 1} {𝓤 : Ura M} (𝓛 : Logic 𝓤) (R S T U : RattleType) (F : S.Denot → R.Denot) (G : T.Denot → U.Denot → S.Denot) (γ γ' : GName) where
+  open 𝓛 use {A}
+
+  follows_both_through : (γ₁ γ₂ : GName) → ent 𝓤 (sep 𝓤 (sem 𝓛 (follows R S γ γ' F)) (sem 𝓛 (follows_both S T U γ' γ₁ γ₂ G))) (sem 𝓛 (follows_both R T U γ γ₁ γ₂ (λ x y. F (G x y))))
+  unfolding both_by
+  follows_both_through γ₁ γ₂ =
+      qed 𝓛 (‵ (follows R S γ γ' F) ∷ ‵ (follows_both S T U γ' γ₁ γ₂ G) ∷ []) ∵
+      each ! (λ (w : T.Denot × U.Denot). wand 𝓤 (sep 𝓤 (A.res γ₁ (T.coded.code w.0)) (A.res γ₂ (U.coded.code w.1))) (A.res γ (R.coded.code (F (G w.0 w.1))))) (λ w.
+      assume ! (‵ (fsep (fres γ₁ (T.coded.code w.0)) (fres γ₂ (U.coded.code w.1)))) $ move ! (0 ∷ 2 ∷ []) $
+      use2 𝓛 (‵ (fres γ' (S.coded.code (G w.0 w.1)))) (followed₂ 𝓛 (mem S) (mem T) (mem U) G γ' γ₁ γ₂ w.0 w.1) $ move ! (1 ∷ 0 ∷ []) $ by ! (followed 𝓛 R S F γ γ' (G w.0 w.1)))
+
+  pub follows_through : (m : maybe.Option (GName × GName)) (v : S.Denot)
+      → ent 𝓤 (sep 𝓤 (sem 𝓛 (follows R S γ γ' F)) (sem 𝓛 (follows_both_if S T U γ' m G v))) (sem 𝓛 (follows_both_if R T U γ m (λ x y. F (G x y)) (F v)))
+  unfolding both_if_by
+  follows_through maybe.none v = followed 𝓛 R S F γ γ' v
+  follows_through (maybe.some γs) v = follows_both_through γs.0 γs.1
+
+module _ {M : Type 1} {𝓤 : Ura M} (𝓛 : Logic 𝓤) (X Y : RattleType) where
+  abbrev Answer : RattleType
+  Answer = Res.the_row X Y
+
+  pub ok_made : (x : X.Denot) (v : Val) → ent 𝓤 (sem 𝓛 (X.own_val x (v ∷ []))) (sem 𝓛 (Answer.own_val (Ok x) (live 0 (of_list (v ∷ [])) ∷ [])))
+  ok_made x v =
+      let form = form_of (shape (Res.the_type X Y)) in
+      qed 𝓛 (‵ (X.own_val x (v ∷ [])) ∷ []) ∵ nothing ! $ move ! (1 ∷ 0 ∷ []) $ fjoin ! $ feq_i ! (List Val) (v ∷ []) (v ∷ []) refl $ fjoin ! $
+      fpack ! (Valss (X ∷ [])) (in_a_row (X ∷ []) (owns (X ∷ []) (x, tt)) (v ∷ [])) (v ∷ [], tt) $
+      feq_i ! (List Val) (live 0 (of_list (v ∷ [])) ∷ []) (live 0 (of_list (v ∷ [])) ∷ []) refl $ fjoin ! $
+      fpack ! (List Val) (tagged_with form form.payload ((Res.the_type X Y).to (Ok x)) (live 0 (of_list (v ∷ [])) ∷ [])) (v ∷ []) $ done !
+
+  pub err_made : (e : Y.Denot) (v : Val) → ent 𝓤 (sem 𝓛 (Y.own_val e (v ∷ []))) (sem 𝓛 (Answer.own_val (Err e) (live 1 (of_list (v ∷ [])) ∷ [])))
+  err_made e v =
+      let form = form_of (shape (Res.the_type X Y)) in
+      qed 𝓛 (‵ (Y.own_val e (v ∷ [])) ∷ []) ∵ nothing ! $ move ! (1 ∷ 0 ∷ []) $ fjoin ! $ feq_i ! (List Val) (v ∷ []) (v ∷ []) refl $ fjoin ! $
+      fpack ! (Valss (Y ∷ [])) (in_a_row (Y ∷ []) (owns (Y ∷ []) (e, tt)) (v ∷ [])) (v ∷ [], tt) $
+      feq_i ! (List Val) (live 1 (of_list (v ∷ [])) ∷ []) (live 1 (of_list (v ∷ [])) ∷ []) refl $ fjoin ! $
+      fpack ! (List Val) (tagged_with form form.payload ((Res.the_type X Y).to (Err e)) (live 1 (of_list (v ∷ [])) ∷ [])) (v ∷ []) $ done !
+
+-- the variant's place among the errors
+abbrev pub place_of : ArenaError → ℕ
+place_of ArenaError.OutOfSystemMemory = 0
+place_of ArenaError.KeyOutOfBounds = 1
+place_of ArenaError.NotEnoughKeys = 2
+place_of ArenaError.AliasingPairAccess = 3
+
+module _ {M : Type 1} {𝓤 : Ura M} (𝓛 : Logic 𝓤) where
+  pub error_made : (e : ArenaError) → ent 𝓤 (emp 𝓤) (sem 𝓛 (Error.the_row.own_val e (live (place_of e) (of_list []) ∷ [])))
+  error_made ArenaError.OutOfSystemMemory =
+      qed 𝓛 [] ∵ nothing ! $ feq_i ! (List Val) [] [] refl $ fjoin ! $ fpack ! (Valss []) (in_a_row [] (owns [] tt) []) tt $ feq_i ! (List Val) (live 0 (of_list []) ∷ []) (live 0 (of_list []) ∷ []) refl $ fjoin ! $
+      fpack ! (List Val) (tagged_with (form_of (shape Error.the_type)) (form_of (shape Error.the_type)).payload ((Error.the_type).to ArenaError.OutOfSystemMemory) (live 0 (of_list []) ∷ [])) [] $ done !
+  error_made ArenaError.KeyOutOfBounds =
+      qed 𝓛 [] ∵ nothing ! $ feq_i ! (List Val) [] [] refl $ fjoin ! $ fpack ! (Valss []) (in_a_row [] (owns [] tt) []) tt $ feq_i ! (List Val) (live 1 (of_list []) ∷ []) (live 1 (of_list []) ∷ []) refl $ fjoin ! $
+      fpack ! (List Val) (tagged_with (form_of (shape Error.the_type)) (form_of (shape Error.the_type)).payload ((Error.the_type).to ArenaError.KeyOutOfBounds) (live 1 (of_list []) ∷ [])) [] $ done !
+  error_made ArenaError.NotEnoughKeys =
+      qed 𝓛 [] ∵ nothing ! $ feq_i ! (List Val) [] [] refl $ fjoin ! $ fpack ! (Valss []) (in_a_row [] (owns [] tt) []) tt $ feq_i ! (List Val) (live 2 (of_list []) ∷ []) (live 2 (of_list []) ∷ []) refl $ fjoin ! $
+      fpack ! (List Val) (tagged_with (form_of (shape Error.the_type)) (form_of (shape Error.the_type)).payload ((Error.the_type).to ArenaError.NotEnoughKeys) (live 2 (of_list []) ∷ [])) [] $ done !
+  error_made ArenaError.AliasingPairAccess =
+      qed 𝓛 [] ∵ nothing ! $ feq_i ! (List Val) [] [] refl $ fjoin ! $ fpack ! (Valss []) (in_a_row [] (owns [] tt) []) tt $ feq_i ! (List Val) (live 3 (of_list []) ∷ []) (live 3 (of_list []) ∷ []) refl $ fjoin ! $
+      fpack ! (List Val) (tagged_with (form_of (shape Error.the_type)) (form_of (shape Error.the_type)).payload ((Error.the_type).to ArenaError.AliasingPairAccess) (live 3 (of_list []) ∷ [])) [] $ done !
+
+module _ {M : Type 1} {𝓤 : Ura M} (𝓛 : Logic 𝓤) (κ : Lft) (Z : RattleType) where
+  abbrev pub Pair : RattleType
+  Pair = Tuple (MutRef (named 0) κ Z ∷ MutRef (named 0) κ Z ∷ [])
+
+  pair_lawful : Lawful 𝓛 Pair
+  pair_lawful = record { typed = λ pair vs p. (Struct-Lawful 𝓛 (Declared.shape (tuple_type (MutRef (named 0) κ Z ∷ MutRef (named 0) κ Z ∷ []))) (mut_Lawful 𝓛 (named 0) κ Z, (mut_Lawful 𝓛 (named 0) κ Z, tt))).typed (pair.0, (pair.1, tt)) vs p }
+
+  error_lawful : Lawful 𝓛 Error.the_row
+  error_lawful = record { typed = λ e vs p. (Enum-Lawful 𝓛 (shape Error.the_type) tt (tt, (tt, (tt, (tt, tt))))).typed ((Error.the_type).to e) vs p }
+
+  pub good : (r : (Res.the_row Pair Error.the_row).Denot) (v : Val) → Is (Res.the_row Pair Error.the_row) r (v ∷ []) → T (has_ty (layout (Res.the_row Pair Error.the_row)) v) × WT v
+  good r v is = ((Enum-Lawful 𝓛 (shape (Res.the_type Pair Error.the_row)) tt ((pair_lawful, tt), ((error_lawful, tt), tt))).typed ((Res.the_type Pair Error.the_row).to r) (v ∷ []) is).0
+
+one_is_three : (n m : ℕ) → n ≡ 1 → m ≡ 3 → n ≡ m → ⊥
+one_is_three n m one three e = omega (arith, one, three, e)
+
+zero_is_more : (n m : ℕ) → n ≡ 0 → 0 < m → n ≡ m → ⊥
+zero_is_more n m none some e = omega (arith, none, some, e)
+
+is_not_outside : (n one other : ℕ) → one < n → other < n → (n ≤ one) ⊎ (n ≤ other) → ⊥
+is_not_outside n one other one_in other_in (inl far) = omega (arith, one_in, far)
+is_not_outside n one other one_in other_in (inr far) = omega (arith, other_in, far)
+
+is_not_alike : (n one other : ℕ) → (n ≤ one) ⊎ (n ≤ other) → (one < n) × (one ≡ other) → ⊥
+is_not_alike n one other (inl far) both = omega (arith, both.0, far)
+is_not_alike n one other (inr far) both = omega (arith, both.0, both.1, far)
+
+module _ {Y : Type 0} (items : List Y) (one other : ℕ) where
+  abbrev pub Reads : Result (MutBor Y × MutBor Y) ArenaError → Type 0
+  Reads r = IfOk r (λ pair. (slice_get items one ≡ Some pair.0.now) × (slice_get items other ≡ Some pair.1.now))
+
+  abbrev pub Outside : Result (MutBor Y × MutBor Y) ArenaError → Type 0
+  Outside r = IsErrOf r ArenaError.KeyOutOfBounds ↔ ((length items ≤ one) ⊎ (length items ≤ other))
+
+  abbrev pub Alike : Result (MutBor Y × MutBor Y) ArenaError → Type 0
+  Alike r = IsErrOf r ArenaError.AliasingPairAccess ↔ ((one < length items) × (one ≡ other))
+
+  abbrev pub Errors : Result (MutBor Y × MutBor Y) ArenaError → Type 0
+  Errors r = IfErr r (λ error. (error ≡ ArenaError.KeyOutOfBounds) ⊎ (error ≡ ArenaError.AliasingPairAccess))
+
+  abbrev pub Told : Result (MutBor Y × MutBor Y) ArenaError → Type 0
+  Told r = Reads r × Outside r × Alike r × Errors r
+
+  -- each error is another
+  abbrev numbered : Result (MutBor Y × MutBor Y) ArenaError → ℕ
+  numbered (Ok pair) = 0
+  numbered (Err e) = place_of e
+
+  pub told_outside : (length items ≤ one) ⊎ (length items ≤ other) → Told (Err ArenaError.KeyOutOfBounds)
+  told_outside far = (tt, ((λ _. far), λ _. refl), ((λ same. absurd (one_is_three _ _ refl refl (ap numbered same))), λ both. absurd (is_not_alike (length items) one other far both)), inl refl)
+
+  pub told_alike : one < length items → other < length items → one ≡ other → Told (Err ArenaError.AliasingPairAccess)
+  told_alike one_in other_in same =
+      (tt, ((λ e. absurd (one_is_three _ _ refl refl (sym (ap numbered e)))), λ far. absurd (is_not_outside (length items) one other one_in other_in far)), ((λ _. (one_in, same)), λ _. refl), inr refl)
+
+  pub told_lent : one < length items → other < length items → one ≢ other → (pair : MutBor Y × MutBor Y) → slice_get items one ≡ Some pair.0.now → slice_get items other ≡ Some pair.1.now → Told (Ok pair)
+  told_lent one_in other_in apart pair first second =
+      ((first, second), ((λ e. absurd (zero_is_more _ _ refl (lit< tt) (ap numbered e))), λ far. absurd (is_not_outside (length items) one other one_in other_in far)), ((λ e. absurd (zero_is_more _ _ refl (lit< tt) (ap numbered e))), λ both. absurd (apart both.1)), tt)
+
+none_is_two : (n : ℕ) → n ≡ 0 → n ≡ 2 → ⊥
+none_is_two n e two = omega (arith, e, two)
+
+one_is_two : (n : ℕ) → n ≡ 1 → n ≡ 2 → ⊥
+one_is_two n e two = omega (arith, e, two)
+
+more_is_two : (n : ℕ) → suc (suc (suc n)) ≡ 2 → ⊥
+more_is_two n two = omega (arith, two)
+
+-- the keys of two numbers
+abbrev pub AreKeys : {K : Type 0} → Keys K → List K → ℕ × ℕ → Type 0
+AreKeys {K} keys both n = (one other : K) → both ≡ one ∷ other ∷ [] → (n.0 ≡ keys.number one) × (n.1 ≡ keys.number other)
+
+pub ends_both : {K Y : Type 0} (keys : Keys K) (arena : ArenaState Y) (both : List K) (n : ℕ × ℕ) → AreKeys keys both n → length both ≡ 2 → (x y : Y)
+    → record arena { items = slice_set (slice_set arena.items n.0 x) n.1 y } ≡ with_both keys arena both x y
+ends_both keys arena [] n are two x y = absurd (none_is_two _ refl two)
+ends_both keys arena (one ∷ []) n are two x y = absurd (one_is_two _ refl two)
+ends_both keys arena (one ∷ other ∷ []) n are two x y = let e = are one other refl in λ i. record arena { items = slice_set (slice_set arena.items (e.0 i) x) (e.1 i) y }
+ends_both keys arena (one ∷ other ∷ more ∷ rest) n are two x y = absurd (more_is_two (length rest) two)
+
+module _ {K Y : Type 0} (keys : Keys K) (items : List Y) (both : List K) where
+  abbrev pub ReadsKeys : Result (MutBor Y × MutBor Y) ArenaError → Type 0
+  ReadsKeys r = (one other : K) → both ≡ one ∷ other ∷ [] → Reads items (keys.number one) (keys.number other) r
+
+  abbrev pub OutsideKeys : Result (MutBor Y × MutBor Y) ArenaError → Type 0
+  OutsideKeys r = (one other : K) → both ≡ one ∷ other ∷ [] → Outside items (keys.number one) (keys.number other) r
+
+  abbrev pub AlikeKeys : Result (MutBor Y × MutBor Y) ArenaError → Type 0
+  AlikeKeys r = (one other : K) → both ≡ one ∷ other ∷ [] → Alike items (keys.number one) (keys.number other) r
+
+  abbrev pub ToldKeys : Result (MutBor Y × MutBor Y) ArenaError → Type 0
+  ToldKeys r = ReadsKeys r × OutsideKeys r × AlikeKeys r
+
+  pub told_keys : (n : ℕ × ℕ) → AreKeys keys both n → (r : Result (MutBor Y × MutBor Y) ArenaError) → Told items n.0 n.1 r → ToldKeys r
+  told_keys n are r told =
+      let at : (one other : K) → both ≡ one ∷ other ∷ [] → n ≡ (keys.number one, keys.number other) = λ one other e. let m = are one other e in λ i. (m.0 i, m.1 i) in (
+        λ one other e. subst (λ (m : ℕ × ℕ). Reads items m.0 m.1 r) (at one other e) told.0,
+        λ one other e. subst (λ (m : ℕ × ℕ). Outside items m.0 m.1 r) (at one other e) told.1,
+        λ one other e. subst (λ (m : ℕ × ℕ). Alike items m.0 m.1 r) (at one other e) told.2,
+      )
