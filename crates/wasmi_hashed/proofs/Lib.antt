@@ -1,1 +1,5 @@
 mod Same
+mod Places
+mod Gone
+mod Occupied
+mod Vacant

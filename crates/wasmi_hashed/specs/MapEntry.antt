@@ -1,15 +1,71 @@
 -- What the place of a key in a hashed map is: that of the standard library's map.
 use Rattle.std.specs.declared.collections.hash_map.Entry.TheVariants as table
 use Rattle.std.specs.declared.collections.hash_map.Entry.{Entry as Place}
+use Rattle.std.specs.declared.alloc.Allocator as alloc
+use Rattle.std.specs.declared.alloc.AllocFailed.{AllocFailed}
 use Rattle.std.specs.declared.cmp.PartialEq as eq
 use Rattle.std.specs.declared.hash.Hash as hash
 use Rattle.std.specs.declared.hash.Hasher as hasher
 use Rattle.std.specs.declared.hash.BuildHasher as builder
+use Rattle.std.specs.contracts.collections.HashMap.{the_row as TableRow}
+use Rattle.std.specs.Borrow.{Fml, RattleType, MutBor, Lends, RestsIfErr, follows_so, name_if_ok}
+use Rattle.std.specs.HashMap.{HashMap, hasher_of}
+use Rattle.std.specs.HashMap.Entry.{entry_key, entry_map_ref, entry_value, map_with_value, map_without_entry}
+use Rattle.std.specs.HashMap.Lent.{HashMembers}
+use Rattle.std.specs.List.Sorted.{IsPermutation}
+use Rattle.std.specs.Map.{remove_entry, set_value}
+use Rattle.std.specs.Prelude.{◌≡◌, Bool, true, ◌∷◌, Result, Ok, Err, OnErr, None, MatchOption}
+use Rattle.wasmi_finite.specs.Maps.{value_at}
+use Rattle.wasmi_hashed.specs.Entries.{Entries}
+use Rattle.wasmi_hashed.specs.contracts.map.Map.{the_row as MapRow}
+use Rattle.wasmi_arena.specs.declared.error.ArenaError.{ArenaError}
+use Rattle.wasmi_arena.specs.declared.error.ArenaError.TheVariants.{OutOfSystemMemory}
 use Rattle.wasmi_hashed.specs.declared.map.entry.Entry.{Entry}
 use Rattle.wasmi_hashed.specs.declared.map.entry.Entry.TheVariants.{Occupied, Vacant}
+
+-- what a map is that has this table
+abbrev pub map_of : {K V S : Type 0} → HashMap K V S → Entries K V S
+map_of table = record { entries = table.entries; hasher = hasher_of table }
 
 module _ {K V S A H : Type 0} {g : eq.Ghosts K} {h : hash.Ghosts K} {b : builder.Ghosts S H} {w : hasher.Ghosts H} where
   -- the place in the table
   abbrev pub place : Entry K V S A H g h b w → Place K V S A H g h b w
-  place (Occupied occupied) = table.Occupied occupied
+  place (Occupied occupied) = table.Occupied occupied.entry
   place (Vacant vacant) = table.Vacant vacant.entry
+
+  -- the place of a key in this map: its key and value, the map as it is, and what that becomes with a
+  -- value written under the key and with the key taken out
+  abbrev pub IsPlaceOf : (K → K → Bool) → Entries K V S → K → Place K V S A H g h b w → Type 0
+  IsPlaceOf same map key there = (entry_value there ≡ None → entry_key there ≡ key) × (same key (entry_key there) ≡ true)
+      × (entry_value there ≡ value_at same map.entries key) × ((entry_map_ref there).now.entries ≡ map.entries)
+      × ((last : V) → MatchOption (value_at same map.entries key)
+      (IsPermutation ((key, last) ∷ map.entries) (map_with_value there last).entries)
+      (λ _. (map_with_value there last).entries ≡ set_value (same key) map.entries last))
+      × ((last : V) → hasher_of (map_with_value there last) ≡ map.hasher)
+      × IsPermutation (remove_entry (same key) map.entries) (map_without_entry there).entries
+
+  -- what is made of the table's answer
+  abbrev pub IsOfTable : Result (Place K V S A H g h b w) (AllocFailed K) → Result (Entry K V S A H g h b w) ArenaError → Type 0
+  IsOfTable (Ok there) (Ok entry) = place entry ≡ there
+  IsOfTable (Err failed) (Err error) = error ≡ OutOfSystemMemory
+  IsOfTable (Ok there) (Err error) = ⊥
+  IsOfTable (Err failed) (Ok entry) = ⊥
+
+module _ (K V S A H : RattleType) {g : eq.Ghosts K.Denot} {h : hash.Ghosts K.Denot} {b : builder.Ghosts S.Denot H.Denot} {w : hasher.Ghosts H.Denot} (heap : alloc.Ghosts A.Denot) where
+  -- where the call failed, the table has its entries
+  abbrev pub table_rests : {E : Type 0} → MutBor (HashMap K.Denot V.Denot S.Denot) → Result (Place K.Denot V.Denot S.Denot A.Denot H.Denot g h b w) E → Fml
+  table_rests m r = RestsIfErr (TableRow K V S A H g h b w heap) m (λ e. (entry_map_ref e).ghost_name) r (λ now. now.entries ≡ m.now.entries)
+
+module _ (K V S A H : RattleType) (m : HashMembers K.Denot) (b : builder.Ghosts S.Denot H.Denot) (w : hasher.Ghosts H.Denot) (heap : alloc.Ghosts A.Denot) where
+  -- the map has the entries that the table has in the end
+  abbrev pub lends_table : MutBor (Entries K.Denot V.Denot S.Denot) → MutBor (HashMap K.Denot V.Denot S.Denot) → Fml
+  lends_table map table = Lends (MapRow K V S A H (record { eq = m.eq }) (record { hash_input = m.hash_input }) b w heap)
+      (TableRow K V S A H (record { eq = m.eq }) (record { hash_input = m.hash_input }) b w heap) map table map_of
+
+  -- the map is what the place's table is in the end, and where there is no place it has the entries that it had
+  abbrev pub lends_place : {E : Type 0} → MutBor (Entries K.Denot V.Denot S.Denot)
+      → Result (Entry K.Denot V.Denot S.Denot A.Denot H.Denot (record { eq = m.eq }) (record { hash_input = m.hash_input }) b w) E → Fml
+  lends_place map r = follows_so (MapRow K V S A H (record { eq = m.eq }) (record { hash_input = m.hash_input }) b w heap)
+      (TableRow K V S A H (record { eq = m.eq }) (record { hash_input = m.hash_input }) b w heap)
+      map.ghost_name (name_if_ok (λ e. (entry_map_ref (place e)).ghost_name) r) (λ last new. new ≡ map_of last)
+      (λ new. OnErr r (new.entries ≡ map.now.entries))

@@ -56,6 +56,7 @@ impl<K: Eq + Hash, V, A: Allocator> Map<K, V, FixedState, A> {
 
 impl<K: Eq + Hash, V, S: BuildHasher, A: Allocator> Map<K, V, S, A> {
     ghost use Rattle.std.specs.Borrow.{sem};
+    ghost use Rattle.wasmi_hashed.specs.MapEntry.{map_of, lends_table};
     ghost use Rattle.wasmi_hashed.specs.MapLend.{lends_get};
 
     /// The same, whose keys are hashed by `state`.
@@ -142,6 +143,13 @@ impl<K: Eq + Hash, V, S: BuildHasher, A: Allocator> Map<K, V, S, A> {
         ensures value { option_copied_mut result ≡ value_at K.eq self.old.entries key.now }
     {
         self.table.get_mut(key)
+    }
+
+    fn table_mut(&mut self) -> &mut HashMap<K, V, S, A>
+        ensures* lends { sem 𝓛 (lends_table K.row V.row S.row A.row S.Hasher.row K.Hash S.BuildHasher S.Hasher.Hasher A.Allocator self.entry result) }
+        ensures now { map_of result.now ≡ self.old }
+    {
+        &mut self.table
     }
 
     /// Puts a value under a key, and returns the one that was there. A key that is there is kept.

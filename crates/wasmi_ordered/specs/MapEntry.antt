@@ -1,14 +1,65 @@
 -- What the place of a key in an ordered map is: that of the standard library's map.
 use Rattle.std.specs.declared.collections.btree_map.Entry.TheVariants as tree
 use Rattle.std.specs.declared.collections.btree_map.Entry.{Entry as Place}
+use Rattle.std.specs.declared.alloc.Allocator as alloc
+use Rattle.std.specs.declared.alloc.AllocFailed.{AllocFailed}
 use Rattle.std.specs.declared.cmp.Ord as ord
 use Rattle.std.specs.declared.cmp.PartialEq as eq
 use Rattle.std.specs.declared.cmp.PartialOrd as partial
+use Rattle.std.specs.declared.hash.Hash as hash
+use Rattle.std.specs.declared.cmp.Ordering.{Ordering}
+use Rattle.std.specs.declared.cmp.Ordering.TheVariants.{Equal}
+use Rattle.std.specs.BTreeMap.{BTreeMap, insert_entry}
+use Rattle.std.specs.BTreeMap.Entry.{entry_map_ref, entry_key, entry_value, map_with_value, map_without_entry, MatchEntry}
+use Rattle.std.specs.Map.{remove_entry}
+use Rattle.std.specs.Ordering.{eq_by_cmp}
+use Rattle.wasmi_finite.specs.Maps.{value_at}
+use Rattle.std.specs.BTreeMap.Lent.{OrdMembers}
+use Rattle.std.specs.Prelude.{◌≡◌, List, Result, Ok, Err, None, IsSome}
+use Rattle.std.specs.Borrow.{Fml, RattleType, MutBor, RestsIfErr, Lends, follows_if, name_if_ok}
+use Rattle.std.specs.contracts.collections.BTreeMap.{the_row as TreeRow}
+use Rattle.wasmi_ordered.specs.contracts.map.Map.{the_row as MapRow}
+use Rattle.wasmi_arena.specs.declared.error.ArenaError.{ArenaError}
+use Rattle.wasmi_arena.specs.declared.error.ArenaError.TheVariants.{OutOfSystemMemory}
 use Rattle.wasmi_ordered.specs.declared.map.entry.Entry.{Entry}
 use Rattle.wasmi_ordered.specs.declared.map.entry.Entry.TheVariants.{Occupied, Vacant}
 
 module _ {Key Value Heap : Type 0} {equal : eq.Ghosts Key} {total : ord.Ghosts Key} {order : partial.Ghosts Key} where
   -- the place in the tree
   abbrev pub place : Entry Key Value Heap equal total order → Place Key Value Heap total equal order
-  place (Occupied occupied) = tree.Occupied occupied
+  place (Occupied occupied) = tree.Occupied occupied.entry
   place (Vacant vacant) = tree.Vacant vacant.entry
+
+  -- the place of a key in a map of these entries: its key and value, the entries as they are, and what
+  -- they become with a value written under the key and with the key taken out
+  abbrev pub IsPlaceOf : (Key → Key → Ordering) → List (Key × Value) → Key → Place Key Value Heap total equal order → Type 0
+  IsPlaceOf cmp entries key there = (entry_value there ≡ None → entry_key there ≡ key) × (cmp key (entry_key there) ≡ Equal)
+      × (entry_value there ≡ value_at (eq_by_cmp cmp) entries key)
+      × MatchEntry there (IsSome (value_at (eq_by_cmp cmp) entries key)) (value_at (eq_by_cmp cmp) entries key ≡ None)
+      × ((entry_map_ref there).now.entries ≡ entries)
+      × ((last : Value) → (map_with_value there last).entries ≡ insert_entry cmp entries key last)
+      × ((map_without_entry there).entries ≡ remove_entry (eq_by_cmp cmp key) entries)
+
+  -- what is made of the tree's answer
+  abbrev pub IsOfTree : Result (Place Key Value Heap total equal order) (AllocFailed Key) → Result (Entry Key Value Heap equal total order) ArenaError → Type 0
+  IsOfTree (Ok there) (Ok entry) = place entry ≡ there
+  IsOfTree (Err failed) (Err error) = error ≡ OutOfSystemMemory
+  IsOfTree (Ok there) (Err error) = ⊥
+  IsOfTree (Err failed) (Ok entry) = ⊥
+
+module _ (K V A : RattleType) {g : ord.Ghosts K.Denot} {g' : eq.Ghosts K.Denot} {g'' : partial.Ghosts K.Denot} (heap : alloc.Ghosts A.Denot) where
+  -- where the call failed, the tree has its entries
+  abbrev pub tree_rests : {E : Type 0} → MutBor (BTreeMap K.Denot V.Denot) → Result (Place K.Denot V.Denot A.Denot g g' g'') E → Fml
+  tree_rests m r = RestsIfErr (TreeRow K V A g g' g'' heap) m (λ e. (entry_map_ref e).ghost_name) r (λ now. now.entries ≡ m.now.entries)
+
+module _ (K V A : RattleType) (h : hash.Ghosts K.Denot) (g : OrdMembers K.Denot) (heap : alloc.Ghosts A.Denot) where
+  -- the map has the entries that the tree has in the end
+  abbrev pub lends_tree : MutBor (List (K.Denot × V.Denot)) → MutBor (BTreeMap K.Denot V.Denot) → Fml
+  lends_tree map tree = Lends (MapRow K V A h (record { eq = g.eq }) (record { cmp = g.cmp }) (record { partial_cmp = g.partial_cmp }) heap)
+      (TreeRow K V A (record { cmp = g.cmp }) (record { eq = g.eq }) (record { partial_cmp = g.partial_cmp }) heap) map tree (λ last. last.entries)
+
+  -- the map has the entries that the place's tree has in the end, and where there is no place it is as before
+  abbrev pub lends_place : {E : Type 0} → MutBor (List (K.Denot × V.Denot)) → Result (Entry K.Denot V.Denot A.Denot (record { eq = g.eq }) (record { cmp = g.cmp }) (record { partial_cmp = g.partial_cmp })) E → Fml
+  lends_place map r = follows_if (MapRow K V A h (record { eq = g.eq }) (record { cmp = g.cmp }) (record { partial_cmp = g.partial_cmp }) heap)
+      (TreeRow K V A (record { cmp = g.cmp }) (record { eq = g.eq }) (record { partial_cmp = g.partial_cmp }) heap)
+      map.ghost_name (name_if_ok (λ e. (entry_map_ref (place e)).ghost_name) r) (λ last. last.entries) map.now

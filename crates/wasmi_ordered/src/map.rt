@@ -44,6 +44,7 @@ impl<K: Hash + Ord, V, A: Allocator> Model for Map<K, V, A> {
 
 impl<K: Hash + Ord, V, A: Allocator> Map<K, V, A> {
     ghost use Rattle.std.specs.Borrow.{sem};
+    ghost use Rattle.wasmi_ordered.specs.MapEntry.{lends_tree};
     ghost use Rattle.wasmi_ordered.specs.MapLend.{lends_get};
 
     /// An empty map, which asks `alloc` for memory when an entry comes.
@@ -196,6 +197,13 @@ impl<K: Hash + Ord, V, A: Allocator> Map<K, V, A> {
         ensures value { option_copied_mut result ≡ value_at (eq_by_cmp K.cmp) self.old key.now }
     {
         self.tree.get_mut(key)
+    }
+
+    fn tree_mut(&mut self) -> &mut BTreeMap<K, V, A>
+        ensures* lends { sem 𝓛 (lends_tree K.row V.row A.row (record { hash_input = K.hash_input }) K.Ord A.Allocator self.entry result) }
+        ensures entries { result.now.entries ≡ self.old }
+    {
+        &mut self.tree
     }
 
     /// Puts a value under a key, and returns the one that was there. A key that is there is kept.

@@ -1,21 +1,23 @@
 //! The place of a key in a map, found by one search.
-ghost use Rattle.std.specs.Prelude.{◌≡◌, IfOk, IsOk, IsOkUnless, OnErr, IsTrue, MatchOption, ◌∷◌, Some, None, unwrap_or};
-ghost use Rattle.std.specs.Borrow.{Bor, MutBor};
-ghost use Rattle.std.specs.HashMap.Entry.{entry_key, entry_value, entry_map_ref, map_with_value, map_without_entry};
+ghost use Rattle.std.specs.Prelude.{◌≡◌, ◌∷◌, IfOk, IsOk, IsOkUnless, IsTrue, MatchOption, OnErr, Some, None, unwrap_or};
+ghost use Rattle.std.specs.Borrow.{Bor, MutBor, sem};
 ghost use Rattle.std.specs.Fn.{FnOnceReturnsAt};
+ghost use Rattle.std.specs.HashMap.{hasher_of};
+ghost use Rattle.std.specs.HashMap.Entry.{entry_follows_ok, entry_key, entry_map_ref, entry_value, map_with_value, map_without_entry};
 ghost use Rattle.std.specs.List.Sorted.{IsPermutation};
 ghost use Rattle.std.specs.Map.{remove_entry, set_value};
 ghost use Rattle.std.specs.Map.Calls.{ModifiesValue};
 ghost use Rattle.std.specs.Option.{UnwrapsOrElse};
 ghost use Rattle.wasmi_finite.specs.Maps.{value_at};
-ghost use Rattle.wasmi_hashed.specs.MapEntry.{place};
-ghost use Rattle.wasmi_hashed.specs.declared.map.entry.Entry.TheVariants.{Vacant};
+ghost use Rattle.wasmi_hashed.specs.MapEntry.{place, map_of, IsPlaceOf, IsOfTable, lends_place, table_rests};
+
+mod occupied;
+mod vacant;
 
 use super::Map;
 use crate::hash::FixedState;
-use std::alloc::{Allocator, Global};
-use std::collections::hash_map;
-pub use std::collections::hash_map::OccupiedEntry;
+use std::alloc::{AllocFailed, Allocator, Global};
+use std::collections::{HashMap, hash_map};
 use std::default::MadeWith;
 use std::hash::{BuildHasher, Hash};
 use wasmi_arena::ArenaError;
@@ -27,6 +29,12 @@ pub enum Entry<'a, K: Eq + Hash, V, S: BuildHasher = FixedState, A: Allocator = 
     Occupied(OccupiedEntry<'a, K, V, S, A>),
     /// The key isn't there.
     Vacant(VacantEntry<'a, K, V, S, A>),
+}
+
+/// The place of a key that is there, with its value.
+#[derive(Drop)]
+pub struct OccupiedEntry<'a, K: Eq + Hash, V, S: BuildHasher = FixedState, A: Allocator = Global> {
+    entry: hash_map::OccupiedEntry<'a, K, V, S, A>,
 }
 
 /// The place of a key that isn't there, with room for it.
@@ -46,6 +54,7 @@ impl<K: Eq + Hash, V, S: BuildHasher, A: Allocator> Map<K, V, S, A> {
     where
         K: Drop,
         A: Clone,
+        ensures* lends { sem 𝓛 (lends_place K.row V.row S.row A.row S.Hasher.row K.Hash S.BuildHasher S.Hasher.Hasher A.Allocator self.entry result) }
         ensures key { IfOk result (λ entry. entry_value (place entry) ≡ None → entry_key (place entry) ≡ key) }
         ensures same_key { IfOk result (λ entry. IsTrue (K.eq key (entry_key (place entry)))) }
         ensures value { IfOk result (λ entry. entry_value (place entry)
@@ -54,14 +63,39 @@ impl<K: Eq + Hash, V, S: BuildHasher, A: Allocator> Map<K, V, S, A> {
         ensures written { IfOk result (λ entry. (last : V) → MatchOption (value_at K.eq self.old.entries key)
             (IsPermutation ((key, last) ∷ self.old.entries) (map_with_value (place entry) last).entries)
             (λ _. (map_with_value (place entry) last).entries ≡ set_value (K.eq key) self.old.entries last)) }
+        ensures hasher { IfOk result (λ entry. (last : V)
+            → hasher_of (map_with_value (place entry) last) ≡ self.old.hasher) }
         ensures removed { IfOk result (λ entry. IsPermutation (remove_entry (K.eq key) self.old.entries)
             (map_without_entry (place entry)).entries) }
         ensures absent { OnErr result (value_at K.eq self.old.entries key ≡ None) }
         ensures errors { IsOkUnless result ArenaError.OutOfSystemMemory }
     {
-        let entry = self.table.entry(key)?;
-        Ok(Entry::of(entry))
+        of_table(place_in(self.table_mut(), key))
     }
+}
+
+/// The place of a key in a table.
+#[inline]
+fn place_in<'a, K: Eq + Hash + Drop, V, S: BuildHasher, A: Allocator + Clone>(
+    table: &'a mut HashMap<K, V, S, A>,
+    key: K,
+) -> Result<hash_map::Entry<'a, K, V, S, A>, AllocFailed<K>>
+    ensures* rests { sem 𝓛 (table_rests K.row V.row S.row A.row S.Hasher.row A.Allocator table.entry result) }
+    ensures same_map { IfOk result (λ there. (entry_map_ref there).ghost_name ≡ table.entry.ghost_name) }
+    ensures place { IfOk result (IsPlaceOf K.eq (map_of table.old) key) }
+    ensures absent { OnErr result (value_at K.eq table.old.entries key ≡ None) }
+{
+    table.entry(key)
+}
+
+/// What a map answers where its table answers this.
+#[inline]
+fn of_table<'a, K: Eq + Hash + Drop, V, S: BuildHasher, A: Allocator>(
+    there: Result<hash_map::Entry<'a, K, V, S, A>, AllocFailed<K>>,
+) -> Result<Entry<'a, K, V, S, A>, ArenaError>
+    ensures { IsOfTable there.entry result }
+{
+    Ok(Entry::of(there?))
 }
 
 impl<'a, K: Eq + Hash, V, S: BuildHasher, A: Allocator> Entry<'a, K, V, S, A> {
@@ -69,7 +103,7 @@ impl<'a, K: Eq + Hash, V, S: BuildHasher, A: Allocator> Entry<'a, K, V, S, A> {
         ensures { place result ≡ entry.entry }
     {
         match entry {
-            hash_map::Entry::Occupied(entry) => Entry::Occupied(entry),
+            hash_map::Entry::Occupied(entry) => Entry::Occupied(OccupiedEntry { entry }),
             hash_map::Entry::Vacant(entry) => Entry::Vacant(VacantEntry { entry }),
         }
     }
@@ -78,7 +112,7 @@ impl<'a, K: Eq + Hash, V, S: BuildHasher, A: Allocator> Entry<'a, K, V, S, A> {
         ensures { result ≡ place self.entry }
     {
         match self {
-            Entry::Occupied(occupied) => hash_map::Entry::Occupied(occupied),
+            Entry::Occupied(occupied) => hash_map::Entry::Occupied(occupied.entry),
             Entry::Vacant(vacant) => hash_map::Entry::Vacant(vacant.entry),
         }
     }
@@ -98,6 +132,7 @@ impl<'a, K: Eq + Hash, V, S: BuildHasher, A: Allocator> Entry<'a, K, V, S, A> {
     pub fn or_insert(self, default: V) -> Result<&'a mut V, ArenaError>
     where
         V: Drop,
+        ensures* writes_back { sem 𝓛 (entry_follows_ok K.row V.row S.row A.row S.Hasher.row A.Allocator (place self.entry) result) }
         ensures value { IfOk result (λ value. value.now ≡ unwrap_or (entry_value (place self.entry)) default) }
         ensures ok { IsOk result }
     {
@@ -109,6 +144,7 @@ impl<'a, K: Eq + Hash, V, S: BuildHasher, A: Allocator> Entry<'a, K, V, S, A> {
     #[inline]
     pub fn or_insert_with<F: FnOnce() -> V>(self, default: F) -> Result<&'a mut V, ArenaError>
         requires { entry_value (place self) ≡ None → F.pre default }
+        ensures* writes_back { sem 𝓛 (entry_follows_ok K.row V.row S.row A.row S.Hasher.row A.Allocator (place self.entry) result) }
         ensures value { IfOk result (λ value. UnwrapsOrElse (entry_value (place self.entry)) (F.post default) value.now) }
         ensures ok { IsOk result }
     {
@@ -119,6 +155,7 @@ impl<'a, K: Eq + Hash, V, S: BuildHasher, A: Allocator> Entry<'a, K, V, S, A> {
     #[inline]
     pub fn or_insert_with_key<F: FnOnce(&K) -> V>(self, default: F) -> Result<&'a mut V, ArenaError>
         requires { entry_value (place self) ≡ None → (p : Bor K) → p.now ≡ entry_key (place self) → F.pre default p }
+        ensures* writes_back { sem 𝓛 (entry_follows_ok K.row V.row S.row A.row S.Hasher.row A.Allocator (place self.entry) result) }
         ensures value { IfOk result (λ value. UnwrapsOrElse (entry_value (place self.entry))
             (FnOnceReturnsAt F.FnOnce default (entry_key (place self.entry))) value.now) }
         ensures ok { IsOk result }
@@ -131,6 +168,7 @@ impl<'a, K: Eq + Hash, V, S: BuildHasher, A: Allocator> Entry<'a, K, V, S, A> {
     pub fn or_default(self) -> Result<&'a mut V, ArenaError>
     where
         V: MadeWith<A>,
+        ensures* writes_back { sem 𝓛 (entry_follows_ok K.row V.row S.row A.row S.Hasher.row A.Allocator (place self.entry) result) }
         ensures value { IfOk result (λ value. UnwrapsOrElse (entry_value (place self.entry)) V.is_made_with value.now) }
         ensures ok { IsOk result }
     {
@@ -141,27 +179,11 @@ impl<'a, K: Eq + Hash, V, S: BuildHasher, A: Allocator> Entry<'a, K, V, S, A> {
     #[inline]
     pub fn and_modify<F: FnOnce(&mut V)>(self, modify: F) -> Self
         requires { (p : MutBor V) → entry_value (place self) ≡ Some p.now → F.pre modify p }
+        ensures same_map { (entry_map_ref (place result)).ghost_name ≡ (entry_map_ref (place self.entry)).ghost_name }
         ensures key { entry_key (place result) ≡ entry_key (place self.entry) }
         ensures value { ModifiesValue F.FnOnce modify (entry_value (place self.entry)) (entry_value (place result)) }
         ensures written { (last : V) → map_with_value (place result) last ≡ map_with_value (place self.entry) last }
     {
         Entry::of(self.into_table().and_modify(modify))
-    }
-}
-
-impl<'a, K: Eq + Hash, V, S: BuildHasher, A: Allocator> VacantEntry<'a, K, V, S, A> {
-    /// The key that was asked for.
-    pub fn key(&self) -> &K
-        ensures { result.now ≡ entry_key (place (Vacant self.now)) }
-    {
-        self.entry.key()
-    }
-
-    /// Puts a value under the key. Doesn't fail, since the place has room.
-    pub fn insert(self, value: V) -> Result<&'a mut V, ArenaError>
-        ensures value { IfOk result (λ there. there.now ≡ value) }
-        ensures ok { IsOk result }
-    {
-        Ok(self.entry.insert(value))
     }
 }

@@ -1,8 +1,8 @@
 //! The place of a key in a map, found by one search.
 ghost use Rattle.std.specs.Prelude.{◌≡◌, IfOk, IsOk, IsOkUnless, IsSome, OnErr, Some, None, unwrap_or};
-ghost use Rattle.std.specs.Borrow.{Bor, MutBor};
 ghost use Rattle.std.specs.BTreeMap.{insert_entry};
-ghost use Rattle.std.specs.BTreeMap.Entry.{entry_key, entry_value, entry_map_ref, map_with_value, map_without_entry, MatchEntry};
+ghost use Rattle.std.specs.BTreeMap.Entry.{entry_follows_ok, entry_key, entry_map_ref, entry_value, map_with_value, map_without_entry, MatchEntry};
+ghost use Rattle.std.specs.Borrow.{Bor, MutBor, sem};
 ghost use Rattle.std.specs.Fn.{FnOnceReturnsAt};
 ghost use Rattle.std.specs.Map.{remove_entry};
 ghost use Rattle.std.specs.Map.Calls.{ModifiesValue};
@@ -10,13 +10,14 @@ ghost use Rattle.std.specs.Option.{UnwrapsOrElse};
 ghost use Rattle.std.specs.Ordering.{eq_by_cmp};
 ghost use Rattle.std.specs.declared.cmp.Ordering.TheVariants.{Equal};
 ghost use Rattle.wasmi_finite.specs.Maps.{value_at};
-ghost use Rattle.wasmi_ordered.specs.MapEntry.{place};
-ghost use Rattle.wasmi_ordered.specs.declared.map.entry.Entry.TheVariants.{Vacant};
+ghost use Rattle.wasmi_ordered.specs.MapEntry.{place, IsPlaceOf, IsOfTree, lends_place, tree_rests};
+
+mod occupied;
+mod vacant;
 
 use super::Map;
-use std::alloc::{Allocator, Global};
-use std::collections::btree_map;
-pub use std::collections::btree_map::OccupiedEntry;
+use std::alloc::{AllocFailed, Allocator, Global};
+use std::collections::{BTreeMap, btree_map};
 use std::default::MadeWith;
 use std::hash::Hash;
 use wasmi_arena::ArenaError;
@@ -28,6 +29,12 @@ pub enum Entry<'a, K: Hash + Ord, V, A: Allocator = Global> {
     Occupied(OccupiedEntry<'a, K, V, A>),
     /// The key isn't there.
     Vacant(VacantEntry<'a, K, V, A>),
+}
+
+/// The place of a key that is there, with its value.
+#[derive(Drop)]
+pub struct OccupiedEntry<'a, K: Hash + Ord, V, A: Allocator = Global> {
+    entry: btree_map::OccupiedEntry<'a, K, V, A>,
 }
 
 /// The place of a key that isn't there, with room for it.
@@ -47,6 +54,7 @@ impl<K: Hash + Ord, V, A: Allocator> Map<K, V, A> {
     where
         K: Drop,
         A: Clone,
+        ensures* lends { sem 𝓛 (lends_place K.row V.row A.row (record { hash_input = K.hash_input }) K.Ord A.Allocator self.entry result) }
         ensures key { IfOk result (λ entry. entry_value (place entry) ≡ None → entry_key (place entry) ≡ key) }
         ensures same_key { IfOk result (λ entry. K.cmp key (entry_key (place entry)) ≡ Equal) }
         ensures value { IfOk result (λ entry. entry_value (place entry)
@@ -61,9 +69,32 @@ impl<K: Hash + Ord, V, A: Allocator> Map<K, V, A> {
         ensures absent { OnErr result (value_at (eq_by_cmp K.cmp) self.old key ≡ None) }
         ensures errors { IsOkUnless result ArenaError.OutOfSystemMemory }
     {
-        let entry = self.tree.entry(key)?;
-        Ok(Entry::of(entry))
+        of_tree(place_in(self.tree_mut(), key))
     }
+}
+
+/// The place of a key in a tree.
+#[inline]
+fn place_in<'a, K: Hash + Ord + Drop, V, A: Allocator + Clone>(
+    tree: &'a mut BTreeMap<K, V, A>,
+    key: K,
+) -> Result<btree_map::Entry<'a, K, V, A>, AllocFailed<K>>
+    ensures* rests { sem 𝓛 (tree_rests K.row V.row A.row A.Allocator tree.entry result) }
+    ensures same_map { IfOk result (λ there. (entry_map_ref there).ghost_name ≡ tree.entry.ghost_name) }
+    ensures place { IfOk result (IsPlaceOf K.cmp tree.old.entries key) }
+    ensures absent { OnErr result (value_at (eq_by_cmp K.cmp) tree.old.entries key ≡ None) }
+{
+    tree.entry(key)
+}
+
+/// What a map answers where its tree answers this.
+#[inline]
+fn of_tree<'a, K: Hash + Ord + Drop, V, A: Allocator>(
+    there: Result<btree_map::Entry<'a, K, V, A>, AllocFailed<K>>,
+) -> Result<Entry<'a, K, V, A>, ArenaError>
+    ensures { IsOfTree there.entry result }
+{
+    Ok(Entry::of(there?))
 }
 
 impl<'a, K: Hash + Ord, V, A: Allocator> Entry<'a, K, V, A> {
@@ -71,7 +102,7 @@ impl<'a, K: Hash + Ord, V, A: Allocator> Entry<'a, K, V, A> {
         ensures { place result ≡ entry.entry }
     {
         match entry {
-            btree_map::Entry::Occupied(entry) => Entry::Occupied(entry),
+            btree_map::Entry::Occupied(entry) => Entry::Occupied(OccupiedEntry { entry }),
             btree_map::Entry::Vacant(entry) => Entry::Vacant(VacantEntry { entry }),
         }
     }
@@ -80,7 +111,7 @@ impl<'a, K: Hash + Ord, V, A: Allocator> Entry<'a, K, V, A> {
         ensures { result ≡ place self.entry }
     {
         match self {
-            Entry::Occupied(occupied) => btree_map::Entry::Occupied(occupied),
+            Entry::Occupied(occupied) => btree_map::Entry::Occupied(occupied.entry),
             Entry::Vacant(vacant) => btree_map::Entry::Vacant(vacant.entry),
         }
     }
@@ -100,6 +131,7 @@ impl<'a, K: Hash + Ord, V, A: Allocator> Entry<'a, K, V, A> {
     pub fn or_insert(self, default: V) -> Result<&'a mut V, ArenaError>
     where
         V: Drop,
+        ensures* writes_back { sem 𝓛 (entry_follows_ok K.row V.row A.row A.Allocator (place self.entry) result) }
         ensures value { IfOk result (λ value. value.now ≡ unwrap_or (entry_value (place self.entry)) default) }
         ensures ok { IsOk result }
     {
@@ -111,6 +143,7 @@ impl<'a, K: Hash + Ord, V, A: Allocator> Entry<'a, K, V, A> {
     #[inline]
     pub fn or_insert_with<F: FnOnce() -> V>(self, default: F) -> Result<&'a mut V, ArenaError>
         requires { entry_value (place self) ≡ None → F.pre default }
+        ensures* writes_back { sem 𝓛 (entry_follows_ok K.row V.row A.row A.Allocator (place self.entry) result) }
         ensures value { IfOk result (λ value. UnwrapsOrElse (entry_value (place self.entry)) (F.post default) value.now) }
         ensures ok { IsOk result }
     {
@@ -121,6 +154,7 @@ impl<'a, K: Hash + Ord, V, A: Allocator> Entry<'a, K, V, A> {
     #[inline]
     pub fn or_insert_with_key<F: FnOnce(&K) -> V>(self, default: F) -> Result<&'a mut V, ArenaError>
         requires { entry_value (place self) ≡ None → (p : Bor K) → p.now ≡ entry_key (place self) → F.pre default p }
+        ensures* writes_back { sem 𝓛 (entry_follows_ok K.row V.row A.row A.Allocator (place self.entry) result) }
         ensures value { IfOk result (λ value. UnwrapsOrElse (entry_value (place self.entry))
             (FnOnceReturnsAt F.FnOnce default (entry_key (place self.entry))) value.now) }
         ensures ok { IsOk result }
@@ -133,6 +167,7 @@ impl<'a, K: Hash + Ord, V, A: Allocator> Entry<'a, K, V, A> {
     pub fn or_default(self) -> Result<&'a mut V, ArenaError>
     where
         V: MadeWith<A>,
+        ensures* writes_back { sem 𝓛 (entry_follows_ok K.row V.row A.row A.Allocator (place self.entry) result) }
         ensures value { IfOk result (λ value. UnwrapsOrElse (entry_value (place self.entry)) V.is_made_with value.now) }
         ensures ok { IsOk result }
     {
@@ -143,34 +178,11 @@ impl<'a, K: Hash + Ord, V, A: Allocator> Entry<'a, K, V, A> {
     #[inline]
     pub fn and_modify<F: FnOnce(&mut V)>(self, modify: F) -> Self
         requires { (p : MutBor V) → entry_value (place self) ≡ Some p.now → F.pre modify p }
+        ensures same_map { (entry_map_ref (place result)).ghost_name ≡ (entry_map_ref (place self.entry)).ghost_name }
         ensures key { entry_key (place result) ≡ entry_key (place self.entry) }
         ensures value { ModifiesValue F.FnOnce modify (entry_value (place self.entry)) (entry_value (place result)) }
         ensures written { (last : V) → map_with_value (place result) last ≡ map_with_value (place self.entry) last }
     {
         Entry::of(self.into_tree().and_modify(modify))
-    }
-}
-
-impl<'a, K: Hash + Ord, V, A: Allocator> VacantEntry<'a, K, V, A> {
-    /// The key that was asked for.
-    pub fn key(&self) -> &K
-        ensures { result.now ≡ entry_key (place (Vacant self.now)) }
-    {
-        self.entry.key()
-    }
-
-    /// The key that was asked for. The map is as before.
-    pub fn into_key(self) -> K
-        ensures { result ≡ entry_key (place (Vacant self.entry)) }
-    {
-        self.entry.into_key()
-    }
-
-    /// Puts a value under the key. Doesn't fail, since the place has room.
-    pub fn insert(self, value: V) -> Result<&'a mut V, ArenaError>
-        ensures value { IfOk result (λ there. there.now ≡ value) }
-        ensures ok { IsOk result }
-    {
-        Ok(self.entry.insert(value))
     }
 }

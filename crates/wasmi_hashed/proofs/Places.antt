@@ -1,0 +1,81 @@
+-- What is known of a table's answer is known of the map's, which is made of it. Assumes `Logic`.
+use Rattle.std.proofs.Common.{◌≡◌, Bool, true, refl, sym, subst, MutBor}
+use base.Fml.{GName, Fml, fres}
+use base.Logic.{ent, sep}
+use mathlib.Core.List.{[], ◌∷◌}
+use mathlib.Core.Option.{none, some}
+use seplogic.Ra.Ura.{Ura}
+use types.Logic.{Logic, sem}
+use types.Kit.{‵, ◌$◌, ◌∵◌, !, qed, done, keep, move, fpick, fpack, use2, rewrite}
+use denote.RattleType.{RattleType}
+use denote.Follow.{follows, follows_so, follows_by, such_by, followed}
+use Rattle.std.specs.Borrow.{name_if_ok, RestsIfErr}
+use Rattle.std.specs.HashMap.{HashMap}
+use Rattle.std.specs.HashMap.Entry.{entry_key, entry_map_ref, entry_value, IsEntryFor, IsRemovalFor}
+use Rattle.std.specs.Prelude.{None, Result, Ok, Err, IfOk, OnOk, OnErr, IsOkUnless}
+use Rattle.std.specs.declared.alloc.AllocFailed.{AllocFailed}
+use Rattle.std.specs.declared.collections.hash_map.Entry.{Entry as Place}
+use Rattle.std.specs.declared.cmp.PartialEq as eq
+use Rattle.std.specs.declared.hash.Hash as hash
+use Rattle.std.specs.declared.hash.Hasher as hasher
+use Rattle.std.specs.declared.hash.BuildHasher as builder
+use Rattle.wasmi_finite.specs.Maps.{value_at}
+use Rattle.wasmi_hashed.specs.MapEntry.{map_of, place, IsPlaceOf, IsOfTable}
+use Rattle.wasmi_arena.specs.declared.error.ArenaError.{ArenaError}
+use Rattle.wasmi_arena.specs.declared.error.ArenaError.TheVariants.{OutOfSystemMemory}
+use Rattle.wasmi_hashed.specs.declared.map.entry.Entry.{Entry}
+
+module _ {K V S A H : Type 0} {g : eq.Ghosts K} {h : hash.Ghosts K} {b : builder.Ghosts S H} {w : hasher.Ghosts H} where
+  -- of the standard library's clauses
+  pub is_place : {E : Type 0} (same : K → K → Bool) (table : HashMap K V S) (key : K) (r : Result (Place K V S A H g h b w) E)
+      → IfOk r (λ e. entry_value e ≡ None → entry_key e ≡ key) → IfOk r (λ e. same key (entry_key e) ≡ true) → IfOk r (λ e. entry_value e ≡ value_at same table.entries key)
+      → IfOk r (λ e. (entry_map_ref e).now.entries ≡ table.entries) → IfOk r (IsEntryFor same table key) → IfOk r (IsRemovalFor same table key)
+      → IfOk r (IsPlaceOf same (map_of table) key)
+  is_place same table key (Ok e) is_key is_same is_value entries written removed = (is_key, is_same, is_value, entries, written.1, written.3, removed.1)
+  is_place same table key (Err failed) is_key is_same is_value entries written removed = tt
+
+  pub of_place : (P : Place K V S A H g h b w → Type 0) (there : Result (Place K V S A H g h b w) (AllocFailed K)) (here : Result (Entry K V S A H g h b w) ArenaError) → IsOfTable there here → IfOk there P → IfOk here (λ entry. P (place entry))
+  of_place P (Ok p) (Ok entry) same known = subst P (sym same) known
+  of_place P (Ok p) (Err e) same known = absurd same
+  of_place P (Err failed) (Ok entry) same known = absurd same
+  of_place P (Err failed) (Err e) same known = tt
+
+  pub of_absence : (P : Type 0) (there : Result (Place K V S A H g h b w) (AllocFailed K)) (here : Result (Entry K V S A H g h b w) ArenaError) → IsOfTable there here → OnErr there P → OnErr here P
+  of_absence P (Ok p) (Ok entry) same known = tt
+  of_absence P (Ok p) (Err e) same known = absurd same
+  of_absence P (Err failed) (Ok entry) same known = absurd same
+  of_absence P (Err failed) (Err e) same known = known
+
+  pub of_failure : (there : Result (Place K V S A H g h b w) (AllocFailed K)) (here : Result (Entry K V S A H g h b w) ArenaError) → IsOfTable there here → IsOkUnless here OutOfSystemMemory
+  of_failure (Ok p) (Ok entry) same = tt
+  of_failure (Ok p) (Err e) same = absurd same
+  of_failure (Err failed) (Ok entry) same = absurd same
+  of_failure (Err failed) (Err e) same = same
+
+  -- what the map is once the table, lent on to a place, has come back
+  module _ {M : Type 1} {𝓤 : Ura M} (𝓛 : Logic 𝓤) (R T : RattleType) (F : T.Denot → R.Denot) (γ : GName) (part : MutBor T.Denot) (last : R.Denot)
+      (P : T.Denot → Type 0) (Q : R.Denot → Type 0) (as_before : (now : T.Denot) → P now → Q (F now)) where
+    abbrev Held : Result (Place K V S A H g h b w) (AllocFailed K) → Type 0
+    Held r = (s : (T.Denot → T.Denot) × T.Denot) × ((x : T.Denot) → OnOk r (s.0 x ≡ x)) × OnErr r (P s.1)
+
+    abbrev Kept : Result (Entry K V S A H g h b w) ArenaError → Type 0
+    Kept r = (s : (T.Denot → R.Denot) × R.Denot) × ((x : T.Denot) → s.0 x ≡ F x) × OnErr r (Q s.1)
+
+    abbrev Rests : Result (Place K V S A H g h b w) (AllocFailed K) → Fml
+    Rests there = RestsIfErr T part (λ (p : Place K V S A H g h b w). (entry_map_ref p).ghost_name) there P
+
+    pub lent_on : (there : Result (Place K V S A H g h b w) (AllocFailed K)) (here : Result (Entry K V S A H g h b w) ArenaError) → IsOfTable there here
+        → IfOk there (λ p. (entry_map_ref p).ghost_name ≡ part.ghost_name)
+        → ent 𝓤 (sep 𝓤 (sem 𝓛 (follows R T γ part.ghost_name F)) (sem 𝓛 (Rests there)))
+        (sem 𝓛 (follows_so R T γ (name_if_ok (λ entry. (entry_map_ref (place entry)).ghost_name) here) (λ x new. new ≡ F x) (λ new. OnErr here (Q new))))
+    unfolding such_by follows_by
+    lent_on (Ok p) (Ok entry) same named =
+        qed 𝓛 (‵ (follows R T γ part.ghost_name F) ∷ ‵ (Rests (Ok p)) ∷ []) ∵ keep ! (0 ∷ []) $
+        rewrite ! 0 (λ (γ' : GName). ‵ (follows R T γ γ' F)) (sym (subst (λ q. (entry_map_ref q).ghost_name ≡ part.ghost_name) (sym same) named)) refl $
+        fpack ! (Kept (Ok entry)) (λ s. follows_by R.Denot T.Denot R.coded.code T.coded.code γ (some (entry_map_ref (place entry)).ghost_name) s.0.0 s.0.1) ((F, last), (λ x. refl), tt) $ done !
+    lent_on (Ok p) (Err e) same named = absurd same
+    lent_on (Err failed) (Ok entry) same named = absurd same
+    lent_on (Err failed) (Err e) same named =
+        qed 𝓛 (‵ (follows R T γ part.ghost_name F) ∷ ‵ (Rests (Err failed)) ∷ []) ∵ move ! (1 ∷ []) $
+        fpick ! (λ (s : Held (Err failed)). move ! (1 ∷ 0 ∷ []) $ use2 𝓛 (‵ (fres γ (R.coded.code (F s.0.1)))) (followed 𝓛 R T F γ part.ghost_name s.0.1) $
+        fpack ! (Kept (Err e)) (λ t. follows_by R.Denot T.Denot R.coded.code T.coded.code γ none t.0.0 t.0.1) ((F, F s.0.1), (λ x. refl), as_before s.0.1 s.2) $ done !)

@@ -1,0 +1,75 @@
+//! A place with its value.
+ghost use Rattle.std.specs.Prelude.{◌≡◌, Some};
+ghost use Rattle.std.specs.HashMap.{IsUnchanged};
+ghost use Rattle.std.specs.HashMap.Entry.{entry_follows, entry_key, entry_value, map_without_entry, IsWritten};
+ghost use Rattle.std.specs.Borrow.{sem};
+ghost use Rattle.wasmi_hashed.specs.MapEntry.{place};
+ghost use Rattle.wasmi_hashed.specs.declared.map.entry.Entry.TheVariants.{Occupied};
+
+use super::OccupiedEntry;
+use std::alloc::Allocator;
+use std::hash::{BuildHasher, Hash};
+
+impl<'a, K: Eq + Hash, V, S: BuildHasher, A: Allocator> OccupiedEntry<'a, K, V, S, A> {
+    /// The key that is kept.
+    pub fn key(&self) -> &K
+        ensures { entry_key (place (Occupied self.now)) ≡ result.now }
+    {
+        self.entry.key()
+    }
+
+    /// The value.
+    pub fn get(&self) -> &V
+        ensures { Some result.now ≡ entry_value (place (Occupied self.now)) }
+    {
+        self.entry.get()
+    }
+
+    /// The value to write to, while the place is kept.
+    pub fn get_mut(&mut self) -> &mut V
+        ensures { entry_value (place (Occupied self.old)) ≡ Some result.now }
+    {
+        self.entry.get_mut()
+    }
+
+    /// The value to write to, for as long as the map is borrowed.
+    #[inline]
+    pub fn into_mut(self) -> &'a mut V
+        ensures* writes_back { sem 𝓛 (entry_follows K.row V.row S.row A.row S.Hasher.row A.Allocator (place (Occupied self.entry)) result) }
+        ensures value { entry_value (place (Occupied self.entry)) ≡ Some result.now }
+    {
+        self.entry.into_mut()
+    }
+
+    /// Puts another value under the key, which stays, and returns the one that was there.
+    #[inline]
+    pub fn insert(&mut self, value: V) -> V
+        ensures was { entry_value (place (Occupied self.old)) ≡ Some result }
+        ensures written { IsWritten (place (Occupied self.old)) value (place (Occupied self.new)) }
+    {
+        self.entry.insert(value)
+    }
+
+    /// Takes the key out of the map, and returns its value. Never fails.
+    #[inline]
+    pub fn remove(self) -> V
+    where
+        K: Drop,
+        ensures was { entry_value (place (Occupied self.entry)) ≡ Some result }
+        ensures removed { IsUnchanged (map_without_entry (place (Occupied self.entry))) self.exit.0.0.now }
+    {
+        self.remove_entry().1
+    }
+
+    /// Takes the key and its value out of the map. Never fails.
+    ///
+    /// `self.exit.0.0` is the reference to the table.
+    #[inline]
+    pub fn remove_entry(self) -> (K, V)
+        ensures key { result.0 ≡ entry_key (place (Occupied self.entry)) }
+        ensures was { entry_value (place (Occupied self.entry)) ≡ Some result.1 }
+        ensures removed { IsUnchanged (map_without_entry (place (Occupied self.entry))) self.exit.0.0.now }
+    {
+        self.entry.remove_entry()
+    }
+}

@@ -1,0 +1,44 @@
+//! A place without a value.
+ghost use Rattle.std.specs.Prelude.{◌≡◌, IfOk, IsOk};
+ghost use Rattle.std.specs.BTreeMap.Entry.{entry_follows_ok, entry_key};
+ghost use Rattle.std.specs.Borrow.{sem};
+ghost use Rattle.wasmi_ordered.specs.MapEntry.{place};
+ghost use Rattle.wasmi_ordered.specs.declared.map.entry.Entry.TheVariants.{Vacant};
+
+use super::VacantEntry;
+use std::alloc::Allocator;
+use std::collections::btree_map;
+use std::hash::Hash;
+use wasmi_arena::ArenaError;
+
+impl<'a, K: Hash + Ord, V, A: Allocator> VacantEntry<'a, K, V, A> {
+    /// The key that was asked for.
+    pub fn key(&self) -> &K
+        ensures { result.now ≡ entry_key (place (Vacant self.now)) }
+    {
+        self.entry.key()
+    }
+
+    /// The key that was asked for. The map is as before.
+    pub fn into_key(self) -> K
+        ensures { result ≡ entry_key (place (Vacant self.entry)) }
+    {
+        self.entry.into_key()
+    }
+
+    /// Puts a value under the key. Doesn't fail, since the place has room.
+    #[inline]
+    pub fn insert(self, value: V) -> Result<&'a mut V, ArenaError>
+        ensures* writes_back { sem 𝓛 (entry_follows_ok K.row V.row A.row A.Allocator (place (Vacant self.entry)) result) }
+        ensures value { IfOk result (λ there. there.now ≡ value) }
+        ensures ok { IsOk result }
+    {
+        Ok(self.into_tree().insert(value))
+    }
+
+    fn into_tree(self) -> btree_map::VacantEntry<'a, K, V, A>
+        ensures { result ≡ self.entry.entry }
+    {
+        self.entry
+    }
+}
