@@ -21,7 +21,8 @@ impl<'a, K: Eq + Hash, V, S: BuildHasher, A: Allocator> VacantEntry<'a, K, V, S,
 
     /// The key that was asked for. The map is as before.
     ///
-    /// `self.exit.0.0` is the reference to the table.
+    /// No generated proof covers a caller; one by hand can call it. `self.exit.0.0` is the reference to the
+    /// table.
     pub fn into_key(self) -> K
         ensures key { result ≡ entry_key (place (Vacant self.entry)) }
         ensures unchanged { self.exit.0.0.now ≡ (entry_map_ref (place (Vacant self.entry))).now }
