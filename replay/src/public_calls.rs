@@ -40,10 +40,6 @@ const OTHER_TABLE_TEXT: &str =
 const BORROWED: &str =
     "the port takes a `&K` or a `&T` (docs/DIFFERENCES.md, 'look-ups of `Map` and `Set`')";
 
-const NO_INTO_KEY: &str =
-    "the port's program, whose proofs are generated, can't call it (docs/DIFFERENCES.md, \
-    '`VacantEntry::into_key` of a hashed map')";
-
 const NO_ENTRY_TEXT: &str = "the port has none (docs/DIFFERENCES.md, 'What was cut')";
 
 const OTHER_TEXTS: &str = "the port takes a `&str` (docs/DIFFERENCES.md, '`StringInterner::get`, \
@@ -63,12 +59,12 @@ pub const TYPES: [(&str, &str, &[Calls]); 11] = [
     ("arena", "`Arena`", &[ARENA]),
     ("component_vec", "`ComponentVec`", &[COMPONENT_VEC]),
     ("head_vec", "`HeadVec`", &[HEAD_VEC]),
-    ("ordered_map", "ordered `Map`", &[MAP, ORDERED_MAP]),
+    ("ordered_map", "ordered `Map`", &[MAP]),
     ("ordered_set", "ordered `Set`", &[SET]),
     (
         "hashed_map",
         "hashed `Map`, for which Rust's `HashMap` stands",
-        &[MAP, HASHED_MAP],
+        &[MAP],
     ),
     (
         "hashed_set",
@@ -290,6 +286,7 @@ const MAP: Calls = &[
         By(&["occupied_remove_entry"]),
     ),
     ("`VacantEntry::insert`", By(&["vacant_insert"])),
+    ("`VacantEntry::into_key`", By(&["vacant_into_key"])),
     ("`default`", Never(CUT)),
     ("look-ups by a `&Q`", Never(BORROWED)),
     ("`Debug`", Never(OTHER_TABLE_TEXT)),
@@ -300,10 +297,6 @@ const MAP: Calls = &[
     ),
     ("`Send`, `Sync`", Never(CUT)),
 ];
-
-const ORDERED_MAP: Calls = &[("`VacantEntry::into_key`", By(&["vacant_into_key"]))];
-
-const HASHED_MAP: Calls = &[("`VacantEntry::into_key`", Never(NO_INTO_KEY))];
 
 const SET: Calls = &[
     ("`default`, as the port's `new`", By(&["on"])),

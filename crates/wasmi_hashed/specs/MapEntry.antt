@@ -8,13 +8,14 @@ use Rattle.std.specs.declared.hash.Hash as hash
 use Rattle.std.specs.declared.hash.Hasher as hasher
 use Rattle.std.specs.declared.hash.BuildHasher as builder
 use Rattle.std.specs.contracts.collections.HashMap.{the_row as TableRow}
-use Rattle.std.specs.Borrow.{Fml, RattleType, MutBor, Lends, RestsIfErr, follows_so, name_if_ok}
+use Rattle.std.specs.Borrow.{Fml, RattleType, MutBor, Lends, RestsIfErr, follows_if, follows_so, name_if_ok}
+use mathlib.Core.Option.{none}
 use Rattle.std.specs.HashMap.{HashMap, hasher_of}
-use Rattle.std.specs.HashMap.Entry.{entry_key, entry_map_ref, entry_value, map_with_value, map_without_entry}
+use Rattle.std.specs.HashMap.Entry.{entry_key, entry_map_ref, entry_value, map_with_value, map_without_entry, MatchEntry}
 use Rattle.std.specs.HashMap.Lent.{HashMembers}
 use Rattle.std.specs.List.Sorted.{IsPermutation}
 use Rattle.std.specs.Map.{remove_entry, set_value}
-use Rattle.std.specs.Prelude.{◌≡◌, Bool, true, ◌∷◌, Result, Ok, Err, OnErr, None, MatchOption}
+use Rattle.std.specs.Prelude.{◌≡◌, Bool, true, ◌∷◌, Result, Ok, Err, OnErr, None, IsSome, MatchOption}
 use Rattle.wasmi_finite.specs.Maps.{value_at}
 use Rattle.wasmi_hashed.specs.Entries.{Entries}
 use Rattle.wasmi_hashed.specs.contracts.map.Map.{the_row as MapRow}
@@ -37,7 +38,9 @@ module _ {K V S A H : Type 0} {g : eq.Ghosts K} {h : hash.Ghosts K} {b : builder
   -- value written under the key and with the key taken out
   abbrev pub IsPlaceOf : (K → K → Bool) → Entries K V S → K → Place K V S A H g h b w → Type 0
   IsPlaceOf same map key there = (entry_value there ≡ None → entry_key there ≡ key) × (same key (entry_key there) ≡ true)
-      × (entry_value there ≡ value_at same map.entries key) × ((entry_map_ref there).now.entries ≡ map.entries)
+      × (entry_value there ≡ value_at same map.entries key)
+      × MatchEntry there (IsSome (value_at same map.entries key)) (value_at same map.entries key ≡ None)
+      × ((entry_map_ref there).now.entries ≡ map.entries)
       × ((last : V) → MatchOption (value_at same map.entries key)
       (IsPermutation ((key, last) ∷ map.entries) (map_with_value there last).entries)
       (λ _. (map_with_value there last).entries ≡ set_value (same key) map.entries last))
@@ -55,6 +58,10 @@ module _ (K V S A H : RattleType) {g : eq.Ghosts K.Denot} {h : hash.Ghosts K.Den
   -- where the call failed, the table has its entries
   abbrev pub table_rests : {E : Type 0} → MutBor (HashMap K.Denot V.Denot S.Denot) → Result (Place K.Denot V.Denot S.Denot A.Denot H.Denot g h b w) E → Fml
   table_rests m r = RestsIfErr (TableRow K V S A H g h b w heap) m (λ e. (entry_map_ref e).ghost_name) r (λ now. now.entries ≡ m.now.entries)
+
+  -- the table is in the end as the place has it
+  abbrev pub table_stays : Place K.Denot V.Denot S.Denot A.Denot H.Denot g h b w → Fml
+  table_stays there = follows_if (TableRow K V S A H g h b w heap) V (entry_map_ref there).ghost_name none (map_with_value there) (entry_map_ref there).now
 
 module _ (K V S A H : RattleType) (m : HashMembers K.Denot) (b : builder.Ghosts S.Denot H.Denot) (w : hasher.Ghosts H.Denot) (heap : alloc.Ghosts A.Denot) where
   -- the map has the entries that the table has in the end

@@ -145,6 +145,7 @@ impl<K: Eq + Hash, V, S: BuildHasher, A: Allocator> Map<K, V, S, A> {
         self.table.get_mut(key)
     }
 
+    #[inline]
     fn table_mut(&mut self) -> &mut HashMap<K, V, S, A>
         ensures* lends { sem 𝓛 (lends_table K.row V.row S.row A.row S.Hasher.row K.Hash S.BuildHasher S.Hasher.Hasher A.Allocator self.entry result) }
         ensures now { map_of result.now ≡ self.old }

@@ -199,6 +199,7 @@ impl<K: Hash + Ord, V, A: Allocator> Map<K, V, A> {
         self.tree.get_mut(key)
     }
 
+    #[inline]
     fn tree_mut(&mut self) -> &mut BTreeMap<K, V, A>
         ensures* lends { sem 𝓛 (lends_tree K.row V.row A.row (record { hash_input = K.hash_input }) K.Ord A.Allocator self.entry result) }
         ensures entries { result.now.entries ≡ self.old }

@@ -173,8 +173,7 @@ fn answer_entry<W: Write>(
             found(out, vacant_insert(map, key, item, new), "occupied")
         }
         // There is no call that gives the key back.
-        EntryCall::IntoKey if map.contains_key(&key) => value(out, "occupied"),
-        EntryCall::IntoKey => value(out, "vacant"),
+        EntryCall::IntoKey => found(out, into_key(map, key), "occupied"),
         EntryCall::GetMut(_)
         | EntryCall::Insert(_)
         | EntryCall::IntoMut(_)
@@ -268,6 +267,13 @@ fn vacant_insert(
     match map.entry(key)? {
         Entry::Occupied(_) => Ok(None),
         Entry::Vacant(entry) => Ok(Some(mem::replace(entry.insert(item)?, new))),
+    }
+}
+
+fn into_key(map: &mut Map<i64, i64>, key: i64) -> Result<Option<i64>, ArenaError> {
+    match map.entry(key)? {
+        Entry::Occupied(_) => Ok(None),
+        Entry::Vacant(entry) => Ok(Some(entry.into_key())),
     }
 }
 

@@ -1,9 +1,9 @@
 //! The place of a key in a map, found by one search.
-ghost use Rattle.std.specs.Prelude.{◌≡◌, ◌∷◌, IfOk, IsOk, IsOkUnless, IsTrue, MatchOption, OnErr, Some, None, unwrap_or};
+ghost use Rattle.std.specs.Prelude.{◌≡◌, ◌∷◌, IfOk, IsOk, IsOkUnless, IsSome, IsTrue, MatchOption, OnErr, Some, None, unwrap_or};
 ghost use Rattle.std.specs.Borrow.{Bor, MutBor, sem};
 ghost use Rattle.std.specs.Fn.{FnOnceReturnsAt};
-ghost use Rattle.std.specs.HashMap.{hasher_of};
-ghost use Rattle.std.specs.HashMap.Entry.{entry_follows_ok, entry_key, entry_map_ref, entry_value, map_with_value, map_without_entry};
+ghost use Rattle.std.specs.HashMap.{hasher_of, IsUnchanged};
+ghost use Rattle.std.specs.HashMap.Entry.{entry_follows_ok, entry_key, entry_map_ref, entry_value, map_with_value, map_without_entry, MatchEntry};
 ghost use Rattle.std.specs.List.Sorted.{IsPermutation};
 ghost use Rattle.std.specs.Map.{remove_entry, set_value};
 ghost use Rattle.std.specs.Map.Calls.{ModifiesValue};
@@ -20,6 +20,7 @@ use std::alloc::{AllocFailed, Allocator, Global};
 use std::collections::{HashMap, hash_map};
 use std::default::MadeWith;
 use std::hash::{BuildHasher, Hash};
+use std::marker::PhantomData;
 use wasmi_arena::ArenaError;
 
 /// The place of a key in a map: with its value, or free.
@@ -41,6 +42,8 @@ pub struct OccupiedEntry<'a, K: Eq + Hash, V, S: BuildHasher = FixedState, A: Al
 #[derive(Drop)]
 pub struct VacantEntry<'a, K: Eq + Hash, V, S: BuildHasher = FixedState, A: Allocator = Global> {
     entry: hash_map::VacantEntry<'a, K, V, S, A>,
+    // Without bytes. It lets proofs of callers use the place up (docs/DECISIONS.md).
+    lent: PhantomData<&'a ()>,
 }
 
 impl<K: Eq + Hash, V, S: BuildHasher, A: Allocator> Map<K, V, S, A> {
@@ -59,6 +62,8 @@ impl<K: Eq + Hash, V, S: BuildHasher, A: Allocator> Map<K, V, S, A> {
         ensures same_key { IfOk result (λ entry. IsTrue (K.eq key (entry_key (place entry)))) }
         ensures value { IfOk result (λ entry. entry_value (place entry)
             ≡ value_at K.eq self.old.entries key) }
+        ensures found { IfOk result (λ entry. MatchEntry (place entry)
+            (IsSome (value_at K.eq self.old.entries key)) (value_at K.eq self.old.entries key ≡ None)) }
         ensures entries { IfOk result (λ entry. (entry_map_ref (place entry)).now.entries ≡ self.old.entries) }
         ensures written { IfOk result (λ entry. (last : V) → MatchOption (value_at K.eq self.old.entries key)
             (IsPermutation ((key, last) ∷ self.old.entries) (map_with_value (place entry) last).entries)
@@ -99,15 +104,20 @@ fn of_table<'a, K: Eq + Hash + Drop, V, S: BuildHasher, A: Allocator>(
 }
 
 impl<'a, K: Eq + Hash, V, S: BuildHasher, A: Allocator> Entry<'a, K, V, S, A> {
+    #[inline]
     fn of(entry: hash_map::Entry<'a, K, V, S, A>) -> Self
         ensures { place result ≡ entry.entry }
     {
         match entry {
             hash_map::Entry::Occupied(entry) => Entry::Occupied(OccupiedEntry { entry }),
-            hash_map::Entry::Vacant(entry) => Entry::Vacant(VacantEntry { entry }),
+            hash_map::Entry::Vacant(entry) => Entry::Vacant(VacantEntry {
+                entry,
+                lent: PhantomData,
+            }),
         }
     }
 
+    #[inline]
     fn into_table(self) -> hash_map::Entry<'a, K, V, S, A>
         ensures { result ≡ place self.entry }
     {
@@ -183,6 +193,7 @@ impl<'a, K: Eq + Hash, V, S: BuildHasher, A: Allocator> Entry<'a, K, V, S, A> {
         ensures key { entry_key (place result) ≡ entry_key (place self.entry) }
         ensures value { ModifiesValue F.FnOnce modify (entry_value (place self.entry)) (entry_value (place result)) }
         ensures written { (last : V) → map_with_value (place result) last ≡ map_with_value (place self.entry) last }
+        ensures removed { IsUnchanged (map_without_entry (place self.entry)) (map_without_entry (place result)) }
     {
         Entry::of(self.into_table().and_modify(modify))
     }

@@ -1,6 +1,6 @@
 //! The place of a key in a map, found by one search.
 ghost use Rattle.std.specs.Prelude.{◌≡◌, IfOk, IsOk, IsOkUnless, IsSome, OnErr, Some, None, unwrap_or};
-ghost use Rattle.std.specs.BTreeMap.{insert_entry};
+ghost use Rattle.std.specs.BTreeMap.{insert_entry, IsUnchanged};
 ghost use Rattle.std.specs.BTreeMap.Entry.{entry_follows_ok, entry_key, entry_map_ref, entry_value, map_with_value, map_without_entry, MatchEntry};
 ghost use Rattle.std.specs.Borrow.{Bor, MutBor, sem};
 ghost use Rattle.std.specs.Fn.{FnOnceReturnsAt};
@@ -98,6 +98,7 @@ fn of_tree<'a, K: Hash + Ord + Drop, V, A: Allocator>(
 }
 
 impl<'a, K: Hash + Ord, V, A: Allocator> Entry<'a, K, V, A> {
+    #[inline]
     fn of(entry: btree_map::Entry<'a, K, V, A>) -> Self
         ensures { place result ≡ entry.entry }
     {
@@ -107,6 +108,7 @@ impl<'a, K: Hash + Ord, V, A: Allocator> Entry<'a, K, V, A> {
         }
     }
 
+    #[inline]
     fn into_tree(self) -> btree_map::Entry<'a, K, V, A>
         ensures { result ≡ place self.entry }
     {
@@ -182,6 +184,7 @@ impl<'a, K: Hash + Ord, V, A: Allocator> Entry<'a, K, V, A> {
         ensures key { entry_key (place result) ≡ entry_key (place self.entry) }
         ensures value { ModifiesValue F.FnOnce modify (entry_value (place self.entry)) (entry_value (place result)) }
         ensures written { (last : V) → map_with_value (place result) last ≡ map_with_value (place self.entry) last }
+        ensures removed { IsUnchanged (map_without_entry (place self.entry)) (map_without_entry (place result)) }
     {
         Entry::of(self.into_tree().and_modify(modify))
     }

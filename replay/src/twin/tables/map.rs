@@ -9,9 +9,9 @@ use std::io::{self, Write};
 use std::mem;
 use wasmi_collections::{map, Map};
 
-/// A twin on a type of maps, with its module of entries. `$into_key` is whether the port's program calls `VacantEntry::into_key`.
+/// A twin on a type of maps, with its module of entries.
 macro_rules! map_twin {
-    ($Twin:ident, $Map:ident, $entries:ident, $into_key:literal) => {
+    ($Twin:ident, $Map:ident, $entries:ident) => {
         #[derive(Default)]
         pub struct $Twin {
             map: $Map<i64, i64>,
@@ -112,8 +112,7 @@ macro_rules! map_twin {
                     EntryCall::VacantInsert(item, new) => {
                         writeln!(out, "{}", mem::replace(entry.insert(item), new))
                     }
-                    // By docs/DIFFERENCES.md, '`VacantEntry::into_key` of a hashed map'.
-                    EntryCall::IntoKey if $into_key => writeln!(out, "{}", entry.into_key()),
+                    EntryCall::IntoKey => writeln!(out, "{}", entry.into_key()),
                     _ => writeln!(out, "vacant"),
                 }
             }
@@ -218,8 +217,8 @@ macro_rules! map_twin {
     };
 }
 
-map_twin!(OrderedMapTwin, Map, map, true);
-map_twin!(HashedMapTwin, HashMap, hash_map, false);
+map_twin!(OrderedMapTwin, Map, map);
+map_twin!(HashedMapTwin, HashMap, hash_map);
 
 fn text((key, item): (&i64, &i64)) -> String {
     format!("{key}={item}")

@@ -1,8 +1,8 @@
 //! A place without a value.
 ghost use Rattle.std.specs.Prelude.{◌≡◌, IfOk, IsOk};
-ghost use Rattle.std.specs.HashMap.Entry.{entry_follows_ok, entry_key, entry_map_ref};
+ghost use Rattle.std.specs.HashMap.Entry.{entry_follows_ok, entry_key};
 ghost use Rattle.std.specs.Borrow.{sem};
-ghost use Rattle.wasmi_hashed.specs.MapEntry.{place};
+ghost use Rattle.wasmi_hashed.specs.MapEntry.{place, table_stays};
 ghost use Rattle.wasmi_hashed.specs.declared.map.entry.Entry.TheVariants.{Vacant};
 
 use super::VacantEntry;
@@ -20,14 +20,11 @@ impl<'a, K: Eq + Hash, V, S: BuildHasher, A: Allocator> VacantEntry<'a, K, V, S,
     }
 
     /// The key that was asked for. The map is as before.
-    ///
-    /// No generated proof covers a caller; one by hand can call it. `self.exit.0.0` is the reference to the
-    /// table.
     pub fn into_key(self) -> K
+        ensures* unchanged { sem 𝓛 (table_stays K.row V.row S.row A.row S.Hasher.row A.Allocator (place (Vacant self.entry))) }
         ensures key { result ≡ entry_key (place (Vacant self.entry)) }
-        ensures unchanged { self.exit.0.0.now ≡ (entry_map_ref (place (Vacant self.entry))).now }
     {
-        self.entry.into_key()
+        self.into_table().into_key()
     }
 
     /// Puts a value under the key. Doesn't fail, since the place has room.
@@ -40,6 +37,7 @@ impl<'a, K: Eq + Hash, V, S: BuildHasher, A: Allocator> VacantEntry<'a, K, V, S,
         Ok(self.into_table().insert(value))
     }
 
+    #[inline]
     fn into_table(self) -> hash_map::VacantEntry<'a, K, V, S, A>
         ensures { result ≡ self.entry.entry }
     {

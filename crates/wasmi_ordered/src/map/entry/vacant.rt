@@ -36,6 +36,7 @@ impl<'a, K: Hash + Ord, V, A: Allocator> VacantEntry<'a, K, V, A> {
         Ok(self.into_tree().insert(value))
     }
 
+    #[inline]
     fn into_tree(self) -> btree_map::VacantEntry<'a, K, V, A>
         ensures { result ≡ self.entry.entry }
     {

@@ -1,9 +1,9 @@
 -- `entry` lends the table, and hands on what the table lends. Assumes `Logic`.
 use Rattle.std.proofs.Common.{◌≡◌, List, [], ◌∷◌, refl, sym, ap, ◌∙◌, subst, MutBor, None}
 use Rattle.std.proofs.raw_atomic.Walks.{proved_at}
-use Rattle.std.specs.Prelude.{IfOk, MatchOption, OnErr, IsOkUnless, true}
+use Rattle.std.specs.Prelude.{IfOk, IsSome, MatchOption, OnErr, IsOkUnless, true}
 use Rattle.std.specs.HashMap.{hasher_of}
-use Rattle.std.specs.HashMap.Entry.{entry_key, entry_map_ref, entry_value, map_with_value, map_without_entry}
+use Rattle.std.specs.HashMap.Entry.{entry_key, entry_map_ref, entry_value, map_with_value, map_without_entry, MatchEntry}
 use Rattle.std.specs.List.Sorted.{IsPermutation}
 use Rattle.std.specs.Map.{remove_entry, set_value}
 use Rattle.std.specs.contracts.collections.HashMap.{the_row as TableRow}
@@ -151,11 +151,12 @@ entry_spec 𝓤 𝓛 𝓜 𝓡 wired X Y S Z N LX LY LS LZ LN e de p dp h dh s d
     use0 𝓛 (raw (fact 𝓤 (IsOkUnless res OutOfSystemMemory))) (fact_i 𝓤 _ (emp 𝓤) (of_failure r res made)) $
     use0 𝓛 (raw (fact 𝓤 (OnErr res (value_at p.eq map.now.entries key ≡ None)))) (fact_i 𝓤 _ (emp 𝓤)
     (subst (λ (m : Entries X.Denot Y.Denot S.Denot). OnErr res (value_at p.eq m.entries key ≡ None)) as_map (of_absence _ r res made is_absent))) $
-    use0 𝓛 (raw (fact 𝓤 (IfOk res (λ entry. IsPermutation (remove_entry (p.eq key) map.now.entries) (map_without_entry (place entry)).entries)))) (fact_i 𝓤 _ (emp 𝓤) (each_ok res is (λ entry told. told.6))) $
-    use0 𝓛 (raw (fact 𝓤 (IfOk res (λ entry. (last : Y.Denot) → hasher_of (map_with_value (place entry) last) ≡ map.now.hasher)))) (fact_i 𝓤 _ (emp 𝓤) (each_ok res is (λ entry told. told.5))) $
-    use0 𝓛 (raw (fact 𝓤 (IfOk res (λ entry. (last : Y.Denot) → MatchOption (value_at p.eq map.now.entries key) (IsPermutation ((key, last) ∷ map.now.entries) (map_with_value (place entry) last).entries) (λ _. (map_with_value (place entry) last).entries ≡ set_value (p.eq key) map.now.entries last))))) (fact_i 𝓤 _ (emp 𝓤) (each_ok res is (λ entry told. told.4))) $
-    use0 𝓛 (raw (fact 𝓤 (IfOk res (λ entry. (entry_map_ref (place entry)).now.entries ≡ map.now.entries)))) (fact_i 𝓤 _ (emp 𝓤) (each_ok res is (λ entry told. told.3))) $
+    use0 𝓛 (raw (fact 𝓤 (IfOk res (λ entry. IsPermutation (remove_entry (p.eq key) map.now.entries) (map_without_entry (place entry)).entries)))) (fact_i 𝓤 _ (emp 𝓤) (each_ok res is (λ entry told. told.7))) $
+    use0 𝓛 (raw (fact 𝓤 (IfOk res (λ entry. (last : Y.Denot) → hasher_of (map_with_value (place entry) last) ≡ map.now.hasher)))) (fact_i 𝓤 _ (emp 𝓤) (each_ok res is (λ entry told. told.6))) $
+    use0 𝓛 (raw (fact 𝓤 (IfOk res (λ entry. (last : Y.Denot) → MatchOption (value_at p.eq map.now.entries key) (IsPermutation ((key, last) ∷ map.now.entries) (map_with_value (place entry) last).entries) (λ _. (map_with_value (place entry) last).entries ≡ set_value (p.eq key) map.now.entries last))))) (fact_i 𝓤 _ (emp 𝓤) (each_ok res is (λ entry told. told.5))) $
+    use0 𝓛 (raw (fact 𝓤 (IfOk res (λ entry. (entry_map_ref (place entry)).now.entries ≡ map.now.entries)))) (fact_i 𝓤 _ (emp 𝓤) (each_ok res is (λ entry told. told.4))) $
+    use0 𝓛 (raw (fact 𝓤 (IfOk res (λ entry. MatchEntry (place entry) (IsSome (value_at p.eq map.now.entries key)) (value_at p.eq map.now.entries key ≡ None))))) (fact_i 𝓤 _ (emp 𝓤) (each_ok res is (λ entry told. told.3))) $
     use0 𝓛 (raw (fact 𝓤 (IfOk res (λ entry. entry_value (place entry) ≡ value_at p.eq map.now.entries key)))) (fact_i 𝓤 _ (emp 𝓤) (each_ok res is (λ entry told. told.2))) $
     use0 𝓛 (raw (fact 𝓤 (IfOk res (λ entry. p.eq key (entry_key (place entry)) ≡ true)))) (fact_i 𝓤 _ (emp 𝓤) (each_ok res is (λ entry told. told.1))) $
     use0 𝓛 (raw (fact 𝓤 (IfOk res (λ entry. entry_value (place entry) ≡ None → entry_key (place entry) ≡ key)))) (fact_i 𝓤 _ (emp 𝓤) (each_ok res is (λ entry told. told.0))) $
-    use0 𝓛 (‵ (let_go 2)) (gone 𝓛 2) $ move ! (12 ∷ 0 ∷ 10 ∷ []) $ group ! 3 $ move ! (0 ∷ 10 ∷ []) $ done !)))))))))))))))))))))))))
+    use0 𝓛 (‵ (let_go 2)) (gone 𝓛 2) $ move ! (13 ∷ 0 ∷ 11 ∷ []) $ group ! 3 $ move ! (0 ∷ 11 ∷ []) $ done !)))))))))))))))))))))))))
