@@ -12,8 +12,6 @@ pub mod laws;
 mod run;
 mod stable_arena;
 mod stable_vec;
-#[cfg(test)]
-mod tests;
 
 pub use any_arena::AnyArena;
 pub use bucket::Bucket;

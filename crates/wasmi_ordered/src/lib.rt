@@ -6,6 +6,3 @@ pub mod set;
 
 pub use map::Map;
 pub use set::Set;
-
-#[cfg(test)]
-mod tests;

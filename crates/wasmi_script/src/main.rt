@@ -1,6 +1,9 @@
 //! Answers the script on standard input on standard output.
 #![tactic(auto)]
 
+#[cfg(test)]
+mod tests;
+
 use std::process::ExitCode;
 use wasmi_script_lib::run;
 

@@ -23,6 +23,3 @@ mod session;
 pub use error::ScriptError;
 pub use program::run;
 pub use session::answer;
-
-#[cfg(test)]
-mod tests;

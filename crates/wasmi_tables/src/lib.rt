@@ -4,6 +4,8 @@
 #[cfg(test)]
 mod dedup;
 #[cfg(test)]
+mod entries;
+#[cfg(test)]
 mod hashed_memory;
 #[cfg(test)]
 mod interner;

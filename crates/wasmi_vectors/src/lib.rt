@@ -5,8 +5,7 @@
 mod clones;
 #[cfg(test)]
 mod components;
-#[cfg(test)]
-mod counted;
+pub mod counted;
 #[cfg(test)]
 mod dense;
 #[cfg(test)]

@@ -1,0 +1,476 @@
+//! What no clause says: the worked places and lengths, texts, and that calls succeed.
+ghost use Rattle.std.specs.Prelude.{◌≡◌, ◌<◌, ⊤};
+ghost use Rattle.wasmi_arena.specs.Geometry.{max_len, IsPlace};
+
+mod callers;
+mod compared;
+mod iter_mut;
+mod pairs;
+mod slices;
+
+use std::alloc::{AllocError, Global};
+use std::cell::Cell;
+use std::num::NonZero;
+use std::test::Fail;
+use wasmi_arena::{
+    ArenaCommand, ArenaError, ArenaKey, ArenaReply, StableArena, StableVec, run_arena,
+};
+
+// A vector of 0, 1 and so on.
+fn counted(alloc: Global, len: u32) -> Result<StableVec<u32>, ArenaError> {
+    let mut vec = StableVec::new(alloc);
+    for i in 0..len {
+        vec.push(i)?;
+    }
+    Ok(vec)
+}
+
+// The place of an index, by a walk over the starts of the buckets.
+fn place_by_walk(index: usize) -> (usize, usize)
+    requires { index < max_len }
+    ensures { IsPlace index result.0 result.1 }
+{
+    let (mut bucket, mut start, mut size) = (0, 0, 32);
+    while start + size <= index {
+        start += size;
+        size *= 2;
+        bucket += 1;
+    }
+    (bucket, index - start)
+}
+
+#[test]
+fn places_are_those_of_the_table(rt: HostRuntime) {
+    for (index, place) in [
+        (0, (0, 0)),
+        (31, (0, 31)),
+        (32, (1, 0)),
+        (95, (1, 63)),
+        (96, (2, 0)),
+        (223, (2, 127)),
+        (2147483615, (25, 1073741823)),
+        (2147483616, (26, 0)),
+        (4294967263, (26, 2147483647)),
+    ] {
+        if index < 4294967264 {
+            assert_eq!(rt; StableVec::<u8>::place(index), place, "at {index}");
+            assert_eq!(rt; place_by_walk(index), place, "at {index}");
+        }
+    }
+    for (bucket, size) in [(0, 32), (1, 64), (2, 128), (26, 2147483648)] {
+        if bucket < 27 {
+            assert_eq!(rt;
+                StableVec::<u8>::size_of_bucket_at(bucket),
+                size,
+                "at {bucket}"
+            );
+        }
+    }
+}
+
+#[test]
+fn buckets_are_the_fewest(rt: HostRuntime) -> Result<(), Fail> {
+    for (len, open, slots) in [
+        (0, 0, 0),
+        (1, 1, 32),
+        (32, 1, 32),
+        (33, 2, 96),
+        (96, 2, 96),
+        (97, 3, 224),
+    ] {
+        let vec = counted(rt.alloc(), len)?;
+        assert_eq!(rt; vec.open_buckets(), open, "at {len}");
+        assert_eq!(rt; vec.slots(), slots, "at {len}");
+        assert_eq!(rt; vec.room() + vec.len(), slots, "at {len}");
+    }
+    Ok(())
+}
+
+#[test]
+fn two_hundred_pushes(rt: HostRuntime) -> Result<(), Fail> {
+    let mut vec = StableVec::new(rt.alloc());
+    assert!(rt; vec.is_empty());
+    for i in 0..200usize {
+        assert_eq!(rt; vec.push(i)?, i);
+    }
+    assert_eq!(rt; vec.len(), 200);
+    assert!(rt; !vec.is_empty());
+    for i in 0..200usize {
+        assert_eq!(rt; vec.get(i), Some(&i));
+    }
+    assert_eq!(rt; vec.get(200), None);
+    for (bucket, len, capacity) in [(0, 32, 32), (1, 64, 64), (2, 104, 128)] {
+        let open = vec.bucket(bucket).ok_or("not open")?;
+        assert_eq!(rt; open.slice().len(), len);
+        assert_eq!(rt; open.capacity(), capacity);
+    }
+    assert!(rt; vec.bucket(3).is_none());
+    assert!(rt; vec.bucket(27).is_none());
+    assert_eq!(rt; vec.room(), 24);
+    let mut items = vec.iter();
+    assert_eq!(rt; items.len(), 200);
+    assert_eq!(rt; items.next(), Some(&0));
+    assert_eq!(rt; items.len(), 199);
+    assert_eq!(rt; items.filter(|i| **i % 2 == 1).count(), 100);
+    Ok(())
+}
+
+#[test]
+fn writes_through_references(rt: HostRuntime) -> Result<(), Fail> {
+    let mut vec = counted(rt.alloc(), 200)?;
+    for i in 0..200 {
+        if let Some(item) = vec.get_mut(i) {
+            *item = item.wrapping_mul(2);
+        }
+    }
+    for i in 0..200u32 {
+        assert_eq!(rt; vec.get(i as usize), Some(&(2 * i)));
+    }
+    assert!(rt; vec.get_mut(200).is_none());
+    assert_eq!(rt; (vec.len(), vec.open_buckets(), vec.slots()), (200, 3, 224));
+    Ok(())
+}
+
+#[test]
+fn walks_from_both_ends(rt: HostRuntime) -> Result<(), Fail> {
+    let vec = counted(rt.alloc(), 200)?;
+    let mut items = vec.iter();
+    for (front, back) in [(0, 199), (1, 198)] {
+        assert_eq!(rt; items.next(), Some(&front));
+        assert_eq!(rt; items.next_back(), Some(&back));
+    }
+    assert_eq!(rt; items.len(), 196);
+    assert_eq!(rt; items.next_back(), Some(&197));
+    let mut backward = vec.iter().rev();
+    for wanted in 0..200u32 {
+        assert_eq!(rt; backward.next(), Some(&(199 - wanted)));
+    }
+    assert_eq!(rt; backward.next(), None);
+    // One end comes to the last item of the other's bucket.
+    let few = counted(rt.alloc(), 3)?;
+    let mut ends = few.iter();
+    assert_eq!(rt; (ends.next_back(), ends.next()), (Some(&2), Some(&0)));
+    assert_eq!(rt; (ends.next(), ends.next_back()), (Some(&1), None));
+    let mut arena: StableArena<u32, u8> = StableArena::new(rt.alloc());
+    for item in 0..100 {
+        arena.alloc(item)?;
+    }
+    let mut entries = arena.iter();
+    assert_eq!(rt; entries.next_back(), Some((99, &99)));
+    assert_eq!(rt; entries.next(), Some((0, &0)));
+    assert_eq!(rt; entries.next_back(), Some((98, &98)));
+    assert_eq!(rt; entries.len(), 97);
+    Ok(())
+}
+
+#[test]
+fn items_without_size(rt: HostRuntime) -> Result<(), Fail> {
+    let mut vec = StableVec::new(rt.alloc());
+    for _ in 0..40 {
+        vec.push(())?;
+    }
+    assert_eq!(rt; (vec.len(), vec.open_buckets(), vec.slots()), (40, 2, 96));
+    Ok(())
+}
+
+// Counts its drop: how many were dropped so far, and the sum of their numbers.
+struct DropCount<'a> {
+    drops: &'a Cell<(u32, u32)>,
+    number: u32,
+}
+
+impl Drop for DropCount<'_> {
+    fn drop(self) {
+        let DropCount { drops, number } = self;
+        let (count, sum) = drops.get();
+        drops.set((count.wrapping_add(1), sum.wrapping_add(number)));
+    }
+}
+
+#[test]
+fn each_item_is_dropped_once(rt: HostRuntime) -> Result<(), Fail> {
+    let drops = Cell::new((0, 0));
+    let mut vec = StableVec::new(rt.alloc());
+    for number in 0..100 {
+        vec.push(DropCount {
+            drops: &drops,
+            number,
+        })?;
+    }
+    assert_eq!(rt; vec.open_buckets(), 3);
+    assert_eq!(rt; drops.get(), (0, 0));
+    drop(vec);
+    assert_eq!(rt; drops.get(), (100, 4950));
+    Ok(())
+}
+
+// Counts its clones.
+#[derive(Drop)]
+struct CloneCount<'a> {
+    clones: &'a Cell<u32>,
+}
+
+impl Clone for CloneCount<'_> {
+    ghost is_clone = { λ item copy. copy ≡ item };
+
+    ghost is_infallible = { λ _. ⊤ };
+
+    fn clone(&self) -> Result<Self, AllocError> {
+        self.clones.set(self.clones.get().wrapping_add(1));
+        Ok(CloneCount {
+            clones: self.clones,
+        })
+    }
+}
+
+#[test]
+fn each_item_is_cloned_once(rt: HostRuntime) -> Result<(), Fail> {
+    let clones = Cell::new(0);
+    let mut vec = StableVec::new(rt.alloc());
+    for _ in 0..100 {
+        vec.push(CloneCount { clones: &clones })?;
+    }
+    assert_eq!(rt; clones.get(), 0);
+    let twin = vec.clone()?;
+    assert_eq!(rt; (twin.len(), clones.get()), (100, 100));
+    Ok(())
+}
+
+// A push may be refused for memory, once: then nothing has changed, and the next try goes on.
+#[test]
+fn refused_pushes_change_nothing(rt: HostRuntime) -> Result<(), Fail> {
+    let mut vec = StableVec::new(rt.alloc());
+    for i in 0..100usize {
+        let before = (vec.len(), vec.open_buckets(), vec.slots());
+        if let Err(error) = vec.push(i) {
+            assert_eq!(rt; error, ArenaError::OutOfSystemMemory);
+            assert_eq!(rt; vec.room(), 0);
+            assert_eq!(rt; (vec.len(), vec.open_buckets(), vec.slots()), before);
+            assert_eq!(rt; vec.push(i)?, before.0);
+        }
+        assert_eq!(rt; vec.get(i), Some(&i));
+    }
+    assert_eq!(rt; (vec.len(), vec.open_buckets(), vec.slots()), (100, 3, 224));
+    Ok(())
+}
+
+#[test]
+fn keys_have_their_numbers(rt: HostRuntime) -> Result<(), Fail> {
+    assert_eq!(rt; NonZero::<u32>::from_usize(4294967295), None);
+    assert_eq!(rt; u32::from_usize(4294967295), Some(4294967295));
+    assert_eq!(rt; u32::from_usize(4294967296), None);
+    assert_eq!(rt; usize::from_usize(usize::MAX), Some(usize::MAX));
+    assert_eq!(rt; NonZero::<usize>::from_usize(usize::MAX), None);
+    for n in [0, 1, 4294967294] {
+        assert_eq!(rt; n.into_usize(), n);
+        assert_eq!(rt; u32::from_usize(n).ok_or("u32")?.into_usize(), n);
+        assert_eq!(rt; NonZero::<u32>::from_usize(n).ok_or("u32")?.into_usize(), n);
+        assert_eq!(rt;
+            NonZero::<usize>::from_usize(n).ok_or("usize")?.into_usize(),
+            n
+        );
+    }
+    Ok(())
+}
+
+#[test]
+fn texts_of_the_refusals(rt: HostRuntime) -> Result<(), Fail> {
+    for (error, text, debug) in [
+        (
+            ArenaError::OutOfSystemMemory,
+            "ran out of system memory",
+            "OutOfSystemMemory",
+        ),
+        (
+            ArenaError::KeyOutOfBounds,
+            "encounteded out of bounds key",
+            "KeyOutOfBounds",
+        ),
+        (
+            ArenaError::NotEnoughKeys,
+            "ran out of valid keys",
+            "NotEnoughKeys",
+        ),
+        (
+            ArenaError::AliasingPairAccess,
+            "tried to access aliasing item pair",
+            "AliasingPairAccess",
+        ),
+    ] {
+        assert_eq!(rt; error.text(), text);
+        let shown = format!(in rt.alloc(); "{error}")?;
+        assert_eq!(rt; shown.as_str(), text);
+        let shown = format!(in rt.alloc(); "{error:?}")?;
+        assert_eq!(rt; shown.as_str(), debug);
+    }
+    assert_eq!(rt;
+        ArenaError::from(std::alloc::AllocError),
+        ArenaError::OutOfSystemMemory
+    );
+    Ok(())
+}
+
+#[test]
+fn debug_texts_of_commands_and_replies(rt: HostRuntime) -> Result<(), Fail> {
+    for (command, text) in [
+        (ArenaCommand::<u32, u8>::Alloc(7), "Alloc(7)"),
+        (ArenaCommand::Has(1), "Has(1)"),
+        (ArenaCommand::Put(1, 9), "Put(1, 9)"),
+        (ArenaCommand::Swap(0, 1), "Swap(0, 1)"),
+    ] {
+        let shown = format!(in rt.alloc(); "{command:?}")?;
+        assert_eq!(rt; shown.as_str(), text);
+    }
+    for (reply, text) in [
+        (ArenaReply::<u32, u8>::Key(0), "Key(0)"),
+        (ArenaReply::Has(true), "Has(true)"),
+        (ArenaReply::Old(7), "Old(7)"),
+        (ArenaReply::Done, "Done"),
+        (
+            ArenaReply::Refused(ArenaError::NotEnoughKeys),
+            "Refused(NotEnoughKeys)",
+        ),
+    ] {
+        let shown = format!(in rt.alloc(); "{reply:?}")?;
+        assert_eq!(rt; shown.as_str(), text);
+    }
+    Ok(())
+}
+
+// An arena under the keys of one type, from the first key on.
+fn fills<Key: ArenaKey + PartialEq>(
+    alloc: Global,
+    first: Key,
+    second: Key,
+) -> Result<bool, ArenaError> {
+    let mut arena: StableArena<Key, u8> = StableArena::new(alloc);
+    let starts = arena.is_empty() && arena.next_key()? == first && arena.room() == 0;
+    let keys = arena.alloc(7)? == first && arena.alloc(8)? == second;
+    let reads = *arena.get(first)? == 7 && *arena.get(second)? == 8;
+    let mut entries = arena.iter();
+    let walks = entries.len() == 2 && entries.next() == Some((first, &7)) && entries.len() == 1;
+    Ok(
+        starts
+            && keys
+            && reads
+            && walks
+            && arena.len() == 2
+            && arena.room() == 30
+            && arena.items().len() == 2,
+    )
+}
+
+#[test]
+fn arenas_under_two_keys(rt: HostRuntime) -> Result<(), Fail> {
+    assert!(rt; fills(rt.alloc(), 0usize, 1)?);
+    assert!(rt; fills(rt.alloc(), 0u32, 1)?);
+    let one = NonZero::<u32>::new(1).ok_or("one")?;
+    let two = NonZero::<u32>::new(2).ok_or("two")?;
+    assert!(rt; fills(rt.alloc(), one, two)?);
+    let arena: StableArena<usize, u8> = StableArena::new(rt.alloc());
+    assert_eq!(rt; arena.get(0), Err(ArenaError::KeyOutOfBounds));
+    Ok(())
+}
+
+#[test]
+fn items_are_exchanged(rt: HostRuntime) -> Result<(), Fail> {
+    let mut arena: StableArena<u32, u32> = StableArena::new(rt.alloc());
+    for i in 0..100 {
+        arena.alloc(i)?;
+    }
+    for key in 0..100 {
+        assert_eq!(rt; arena.put(key, 1000)?, key);
+        *arena.get_mut(key)? = 99 - key;
+    }
+    for key in 0..100 {
+        assert_eq!(rt; arena.get(key), Ok(&(99 - key)));
+    }
+    assert_eq!(rt; arena.put(100, 7), Err(ArenaError::KeyOutOfBounds));
+    assert!(rt; arena.get_mut(100).is_err());
+    assert!(rt; arena.has(99) && !arena.has(100));
+    assert_eq!(rt; (arena.len(), arena.items().open_buckets()), (100, 3));
+    for (key, item) in &arena {
+        assert_eq!(rt; key.wrapping_add(*item), 99);
+    }
+    for item in arena.items() {
+        assert!(rt; *item < 100);
+    }
+    Ok(())
+}
+
+#[test]
+fn items_by_index(rt: HostRuntime) -> Result<(), Fail> {
+    let mut arena: StableArena<u32, u8> = StableArena::new(rt.alloc());
+    let first = arena.alloc(7)?;
+    let second = arena.alloc(8)?;
+    assert_eq!(rt; (arena[first], arena[second]), (7, 8));
+    arena[second] = 9;
+    assert_eq!(rt; (arena[first], arena[second]), (7, 9));
+    Ok(())
+}
+
+#[test]
+fn a_run_of_commands(rt: HostRuntime) -> Result<(), Fail> {
+    let mut arena: StableArena<u32, u8> = StableArena::new(rt.alloc());
+    let commands = vec![in rt.alloc();
+        ArenaCommand::Alloc(7),
+        ArenaCommand::Alloc(8),
+        ArenaCommand::Swap(0, 1),
+        ArenaCommand::Put(0, 9),
+        ArenaCommand::Has(1),
+        ArenaCommand::Has(2),
+        ArenaCommand::Put(2, 5),
+        ArenaCommand::Swap(1, 1),
+        ArenaCommand::Swap(5, 5),
+        ArenaCommand::Swap(1, 2),
+    ]?;
+    let replies = run_arena(rt.alloc(), &mut arena, commands)?;
+    assert_eq!(rt;
+        replies.as_slice(),
+        [
+            ArenaReply::Key(0),
+            ArenaReply::Key(1),
+            ArenaReply::Done,
+            ArenaReply::Old(8),
+            ArenaReply::Has(true),
+            ArenaReply::Has(false),
+            ArenaReply::Refused(ArenaError::KeyOutOfBounds),
+            ArenaReply::Refused(ArenaError::AliasingPairAccess),
+            ArenaReply::Refused(ArenaError::AliasingPairAccess),
+            ArenaReply::Refused(ArenaError::KeyOutOfBounds)
+        ]
+        .as_slice()
+    );
+    assert_eq!(rt; (arena.len(), arena.get(0)?, arena.get(1)?), (2, &9, &7));
+    Ok(())
+}
+
+#[test]
+fn items_change_places(rt: HostRuntime) -> Result<(), Fail> {
+    let mut vec = StableVec::new(rt.alloc());
+    for item in 0..100 {
+        vec.push(item)?;
+    }
+    // In one bucket, in two, in either order.
+    for (first, second) in [(0, 31), (31, 32), (96, 5), (99, 98)] {
+        vec.swap(first, second)?;
+        assert_eq!(rt;
+            (vec.get(first), vec.get(second)),
+            (Some(&second), Some(&first))
+        );
+        vec.swap(second, first)?;
+        assert_eq!(rt;
+            (vec.get(first), vec.get(second)),
+            (Some(&first), Some(&second))
+        );
+    }
+    for index in [5, 100] {
+        assert_eq!(rt; vec.swap(index, index), Err(ArenaError::AliasingPairAccess));
+        assert_eq!(rt; vec.swap(index, 101), Err(ArenaError::KeyOutOfBounds));
+        assert_eq!(rt; vec.swap(101, index), Err(ArenaError::KeyOutOfBounds));
+    }
+    for (index, item) in (0..100).zip(vec.iter()) {
+        assert_eq!(rt; &index, item);
+    }
+    Ok(())
+}

@@ -1,0 +1,157 @@
+//! Equality, order, hash and text of vectors and arenas.
+use super::counted;
+use std::alloc::Global;
+use std::cmp::Ordering;
+use std::hash::{DefaultHasher, Hash, Hasher};
+use std::num::NonZero;
+use std::test::Fail;
+use wasmi_arena::{ArenaError, StableArena, StableVec};
+
+// A vector of these items.
+fn vec_of<T: Copy + Drop>(alloc: Global, items: &[T]) -> Result<StableVec<T>, ArenaError> {
+    let mut vec = StableVec::new(alloc);
+    for item in items {
+        vec.push(*item)?;
+    }
+    Ok(vec)
+}
+
+// A vector of 0, 1 and so on, with another item at one index.
+fn exchanged(alloc: Global, len: u32, index: u32, item: u32) -> Result<StableVec<u32>, ArenaError> {
+    let mut vec = StableVec::new(alloc);
+    for i in 0..len {
+        vec.push(if i == index { item } else { i })?;
+    }
+    Ok(vec)
+}
+
+fn hash_of<T: Hash>(value: &T) -> u64 {
+    let mut hasher = DefaultHasher::new();
+    value.hash(&mut hasher);
+    hasher.finish()
+}
+
+#[test]
+fn equal_lists_are_equal(rt: HostRuntime) -> Result<(), Fail> {
+    for len in [0, 1, 31, 32, 33, 95, 96, 97, 100, 300] {
+        let (vec, same) = (counted(rt.alloc(), len)?, counted(rt.alloc(), len)?);
+        assert_eq!(rt; vec, same);
+        assert_eq!(rt; vec.cmp(&same), Ordering::Equal);
+        assert_eq!(rt; vec.partial_cmp(&same), Some(Ordering::Equal));
+        assert_eq!(rt; hash_of(&vec), hash_of(&same), "at {len}");
+        // One item more.
+        let longer = counted(rt.alloc(), len + 1)?;
+        assert!(rt; vec != longer && longer != vec, "at {len}");
+        assert!(rt; vec < longer && longer > vec, "at {len}");
+        assert_eq!(rt; vec.cmp(&longer), Ordering::Less);
+        assert_eq!(rt; longer.cmp(&vec), Ordering::Greater);
+        assert!(rt; hash_of(&vec) != hash_of(&longer), "at {len}");
+    }
+    Ok(())
+}
+
+#[test]
+fn lists_that_differ_at_one_index(rt: HostRuntime) -> Result<(), Fail> {
+    let vec = counted(rt.alloc(), 300)?;
+    for index in [0, 31, 32, 95, 96, 223, 224, 299] {
+        let other = exchanged(rt.alloc(), 300, index, 1000)?;
+        assert!(rt; vec != other && other != vec, "at {index}");
+        assert_eq!(rt; vec.cmp(&other), Ordering::Less, "at {index}");
+        assert_eq!(rt; other.cmp(&vec), Ordering::Greater, "at {index}");
+        // The first index decides, whatever the lengths are.
+        let longer = counted(rt.alloc(), 500)?;
+        assert_eq!(rt; longer.cmp(&other), Ordering::Less, "at {index}");
+        assert_eq!(rt; other.partial_cmp(&longer), Some(Ordering::Greater));
+        assert!(rt; hash_of(&vec) != hash_of(&other), "at {index}");
+    }
+    Ok(())
+}
+
+#[test]
+fn ord_is_lexicographic(rt: HostRuntime) -> Result<(), Fail> {
+    let ascending = [
+        vec_of(rt.alloc(), &[])?,
+        vec_of(rt.alloc(), &[1])?,
+        vec_of(rt.alloc(), &[1, 2])?,
+        vec_of(rt.alloc(), &[1, 2, 3])?,
+        vec_of(rt.alloc(), &[1, 3])?,
+        vec_of(rt.alloc(), &[2u8])?,
+    ];
+    for (i, left) in ascending.iter().enumerate() {
+        for (k, right) in ascending.iter().enumerate() {
+            assert_eq!(rt; left.cmp(right), i.cmp(&k));
+            assert_eq!(rt; left.partial_cmp(right), Some(i.cmp(&k)));
+            assert_eq!(rt; left == right, i == k);
+        }
+    }
+    Ok(())
+}
+
+#[test]
+fn items_without_an_order(rt: HostRuntime) -> Result<(), Fail> {
+    let nan = vec_of(rt.alloc(), &[1.0, f64::NAN])?;
+    let other = vec_of(rt.alloc(), &[1.0, f64::NAN, 2.0])?;
+    assert!(rt; nan != nan);
+    assert_eq!(rt; nan.partial_cmp(&other), None);
+    let below = vec_of(rt.alloc(), &[0.5, f64::NAN])?;
+    assert_eq!(rt; below.partial_cmp(&nan), Some(Ordering::Less));
+    Ok(())
+}
+
+#[test]
+fn items_without_size_are_counted(rt: HostRuntime) -> Result<(), Fail> {
+    let three = vec_of(rt.alloc(), &[(), (), ()])?;
+    let same = vec_of(rt.alloc(), &[(), (), ()])?;
+    let two = vec_of(rt.alloc(), &[(), ()])?;
+    assert!(rt; three == same && three != two && three > two);
+    Ok(())
+}
+
+#[test]
+fn debug_texts_of_vectors_and_arenas(rt: HostRuntime) -> Result<(), Fail> {
+    let vec = vec_of(rt.alloc(), &[1, 2, 3])?;
+    assert_eq!(rt; format!(in rt.alloc(); "{vec:?}")?.as_str(), "[1, 2, 3]");
+    let none = vec_of::<u8>(rt.alloc(), &[])?;
+    assert_eq!(rt; format!(in rt.alloc(); "{none:?}")?.as_str(), "[]");
+    let mut arena: StableArena<u32, bool> = StableArena::new(rt.alloc());
+    assert_eq!(rt; format!(in rt.alloc(); "{arena:?}")?.as_str(), "{}");
+    arena.alloc(true)?;
+    arena.alloc(false)?;
+    assert_eq!(rt;
+        format!(in rt.alloc(); "{arena:?}")?.as_str(),
+        "{0: true, 1: false}"
+    );
+    // Its keys, and not its positions.
+    let keyed: StableArena<NonZero<u32>, u8> = StableArena::from_iter(rt.alloc(), 7..9)?;
+    assert_eq!(rt;
+        format!(in rt.alloc(); "{keyed:?}")?.as_str(),
+        "{1: 7, 2: 8}"
+    );
+    Ok(())
+}
+
+#[test]
+fn equal_arenas(rt: HostRuntime) -> Result<(), Fail> {
+    let mut left: StableArena<NonZero<u32>, u8> = StableArena::new(rt.alloc());
+    let mut right = StableArena::new(rt.alloc());
+    assert!(rt; left == right);
+    left.alloc(7)?;
+    assert!(rt; left != right);
+    let first = right.alloc(8)?;
+    assert!(rt; left != right);
+    right.put(first, 7)?;
+    assert!(rt; left == right);
+    Ok(())
+}
+
+#[test]
+fn debug_texts_of_several_buckets(rt: HostRuntime) -> Result<(), Fail> {
+    for len in [32u32, 33, 100] {
+        let vec = counted(rt.alloc(), len)?;
+        let items: Vec<u32> = (0..len).collect(rt.alloc())?;
+        let text = format!(in rt.alloc(); "{vec:?}")?;
+        let wanted = format!(in rt.alloc(); "{items:?}")?;
+        assert_eq!(rt; text.as_str(), wanted.as_str(), "at {len}");
+    }
+    Ok(())
+}
