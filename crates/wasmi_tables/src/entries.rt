@@ -1,6 +1,8 @@
-//! What entries of both backings drop, and when they ask for memory.
-use std::alloc::{AllocError, Global};
+//! What entries of both backings drop, how often they search, and when they ask for memory.
+use crate::noted::{Noted, Notes};
 use std::cell::Cell;
+use std::hash::{BuildHasher, Hasher};
+use std::rc::Rc;
 use std::test::Fail;
 use wasmi_hashed::hash::FixedState;
 use wasmi_hashed::map as hashed;
@@ -8,38 +10,27 @@ use wasmi_ordered::map as ordered;
 use wasmi_vectors::counted::Counted;
 use wasmi_vectors::observed::{Log, Observed};
 
-type Key<'a> = Vec<u32, Observed<'a>>;
+type Tree<'a> = ordered::Map<Noted<'a>, u32, Observed<'a>>;
 
-type Tree<'a> = ordered::Map<Key<'a>, Counted<'a>, Observed<'a>>;
-
-type Table<'a> = hashed::Map<Key<'a>, Counted<'a>, FixedState, Observed<'a>>;
-
-// A key with a block of its own.
-fn key<'a>(heap: Global, log: &'a Log, number: u32) -> Result<Key<'a>, AllocError> {
-    let mut key = Vec::new(Observed::new(heap, log));
-    key.push(number)?;
-    Ok(key)
-}
+type Table<'a> = hashed::Map<Noted<'a>, u32, FixedState, Observed<'a>>;
 
 #[test]
 fn an_ordered_entry_that_is_refused_drops_its_key(rt: HostRuntime) -> Result<(), Fail> {
-    let (heap, keys, blocks) = (rt.alloc(), Log::new(), Log::new());
+    let (notes, blocks) = (Notes::new(), Log::new());
     blocks.refuse_from(1);
-    let mut map: Tree<'_> = ordered::Map::new(Observed::new(heap, &blocks));
-    let first = key(heap, &keys, 1)?;
-    assert!(rt; map.entry(first).is_err());
-    assert_eq!(rt; (keys.given(), keys.returned()), (1, 1));
+    let mut map: Tree<'_> = ordered::Map::new(Observed::new(rt.alloc(), &blocks));
+    assert!(rt; map.entry(Noted::new(1, &notes)).is_err());
+    assert_eq!(rt; notes.dropped(), 1);
     Ok(())
 }
 
 #[test]
 fn a_hashed_entry_that_is_refused_drops_its_key(rt: HostRuntime) -> Result<(), Fail> {
-    let (heap, keys, blocks) = (rt.alloc(), Log::new(), Log::new());
+    let (notes, blocks) = (Notes::new(), Log::new());
     blocks.refuse_from(1);
-    let mut map: Table<'_> = hashed::Map::new(Observed::new(heap, &blocks));
-    let first = key(heap, &keys, 1)?;
-    assert!(rt; map.entry(first).is_err());
-    assert_eq!(rt; (keys.given(), keys.returned()), (1, 1));
+    let mut map: Table<'_> = hashed::Map::new(Observed::new(rt.alloc(), &blocks));
+    assert!(rt; map.entry(Noted::new(1, &notes)).is_err());
+    assert_eq!(rt; notes.dropped(), 1);
     Ok(())
 }
 
@@ -89,27 +80,27 @@ fn a_hashed_entry_drops_the_values_that_it_does_not_keep(rt: HostRuntime) -> Res
 
 #[test]
 fn an_ordered_entry_that_is_removed_drops_its_key(rt: HostRuntime) -> Result<(), Fail> {
-    let (heap, keys, blocks, drops) = (rt.alloc(), Log::new(), Log::new(), Cell::new(0));
-    let mut map: Tree<'_> = ordered::Map::new(Observed::new(heap, &blocks));
-    let (kept, asked) = (key(heap, &keys, 1)?, key(heap, &keys, 1)?);
-    map.entry(kept)?.or_insert(Counted::new(&drops))?;
-    if let ordered::Entry::Occupied(occupied) = map.entry(asked)? {
-        drop(occupied.remove());
+    let seven = Rc::new(rt.alloc(), 7u32)?;
+    let mut map = ordered::Map::new(rt.alloc());
+    map.entry(seven.clone()?)?.or_insert(10)?;
+    assert_eq!(rt; Rc::strong_count(&seven), 2);
+    if let ordered::Entry::Occupied(occupied) = map.entry(seven.clone()?)? {
+        assert_eq!(rt; occupied.remove(), 10);
     }
-    assert_eq!(rt; (drops.get(), keys.given(), keys.returned()), (1, 2, 2));
+    assert_eq!(rt; (map.len(), Rc::strong_count(&seven)), (0, 1));
     Ok(())
 }
 
 #[test]
 fn a_hashed_entry_that_is_removed_drops_its_key(rt: HostRuntime) -> Result<(), Fail> {
-    let (heap, keys, blocks, drops) = (rt.alloc(), Log::new(), Log::new(), Cell::new(0));
-    let mut map: Table<'_> = hashed::Map::new(Observed::new(heap, &blocks));
-    let (kept, asked) = (key(heap, &keys, 1)?, key(heap, &keys, 1)?);
-    map.entry(kept)?.or_insert(Counted::new(&drops))?;
-    if let hashed::Entry::Occupied(occupied) = map.entry(asked)? {
-        drop(occupied.remove());
+    let seven = Rc::new(rt.alloc(), 7u32)?;
+    let mut map = hashed::Map::new(rt.alloc());
+    map.entry(seven.clone()?)?.or_insert(10)?;
+    assert_eq!(rt; Rc::strong_count(&seven), 2);
+    if let hashed::Entry::Occupied(occupied) = map.entry(seven.clone()?)? {
+        assert_eq!(rt; occupied.remove(), 10);
     }
-    assert_eq!(rt; (drops.get(), keys.given(), keys.returned()), (1, 2, 2));
+    assert_eq!(rt; (map.len(), Rc::strong_count(&seven)), (0, 1));
     Ok(())
 }
 
@@ -142,6 +133,66 @@ fn an_entry_of_a_key_that_is_there_asks_for_nothing(rt: HostRuntime) -> Result<(
         tree.entry(key)?.or_insert(0)?;
         table.entry(key)?.or_insert(0)?;
         assert_eq!(rt; blocks.requests(), asked, "at {key}");
+    }
+    Ok(())
+}
+
+#[test]
+fn an_ordered_entry_compares_as_a_read_does(rt: HostRuntime) -> Result<(), Fail> {
+    let notes = Notes::new();
+    let mut map: ordered::Map<Noted<'_>, u32> = ordered::Map::new(rt.alloc());
+    for number in 0..100 {
+        for kept in [false, true] {
+            let key = Noted::new(number, &notes);
+            assert_eq!(rt; map.contains_key(&key), kept);
+            let read = notes.compared();
+            map.entry(key)?.or_insert(number)?;
+            assert_eq!(rt; notes.compared(), read, "at {number}");
+        }
+    }
+    Ok(())
+}
+
+// A state by which all keys have one hash, and which counts the hashes.
+#[derive(Clone, Copy)]
+struct Counts<'a> {
+    hashes: &'a Cell<u64>,
+}
+
+impl Hasher for Counts<'_> {
+    ghost write = { λ state _. state };
+
+    ghost finish = { λ _. 1 };
+
+    fn finish(&self) -> u64 {
+        1
+    }
+
+    fn write(&mut self, _bytes: &[u8]) {}
+}
+
+impl BuildHasher for Counts<'_> {
+    type Hasher = Self;
+
+    ghost build_hasher = { λ state. state };
+
+    fn build_hasher(&self) -> Self {
+        self.hashes.set(self.hashes.get().wrapping_add(1));
+        *self
+    }
+}
+
+#[test]
+fn a_hashed_entry_hashes_its_key_once(rt: HostRuntime) -> Result<(), Fail> {
+    let hashes = Cell::new(0);
+    let state = Counts { hashes: &hashes };
+    let mut map: hashed::Map<u32, u32, Counts<'_>> = hashed::Map::with_hasher(rt.alloc(), state);
+    for key in 0..50 {
+        for _kept in [false, true] {
+            hashes.set(0);
+            map.entry(key)?.or_insert(key)?;
+            assert_eq!(rt; hashes.get(), 1, "at {key}");
+        }
     }
     Ok(())
 }

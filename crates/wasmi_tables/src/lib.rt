@@ -10,6 +10,8 @@ mod hashed_memory;
 #[cfg(test)]
 mod interner;
 #[cfg(test)]
+mod noted;
+#[cfg(test)]
 mod ordered_memory;
 #[cfg(test)]
 mod runs;

@@ -1,4 +1,4 @@
-//! How often a search for an entry compares keys.
+//! A key that counts its comparisons and its drops.
 ghost use Rattle.std.specs.Prelude.{Some, refl};
 ghost use Rattle.std.specs.Cmp.{on_equiv, on_per, on_po, on_total, partial_equiv_from_equiv, partial_order_from_total};
 ghost use Rattle.std.specs.Cmp.Rules.{hashing};
@@ -10,17 +10,57 @@ ghost use Rattle.std.proofs.lemmas.Cmp.{eq_by_cmp_equiv, nat_cmp_total};
 use std::cell::Cell;
 use std::cmp::Ordering;
 use std::hash::{Hash, Hasher};
-use std::test::Fail;
-use wasmi_ordered::Map;
 
-// A number that counts how often it is compared with another.
+/// How often the keys that note it here were compared, and how many were dropped.
 #[derive(Drop)]
-struct Compared<'a> {
-    number: u32,
-    count: &'a Cell<u64>,
+pub struct Notes {
+    compared: Cell<u64>,
+    dropped: Cell<u64>,
 }
 
-impl PartialEq for Compared<'_> {
+impl Notes {
+    pub fn new() -> Notes {
+        Notes {
+            compared: Cell::new(0),
+            dropped: Cell::new(0),
+        }
+    }
+
+    /// The number of comparisons since it was asked for last.
+    pub fn compared(&self) -> u64 {
+        self.compared.replace(0)
+    }
+
+    /// The number of keys dropped since it was asked for last.
+    pub fn dropped(&self) -> u64 {
+        self.dropped.replace(0)
+    }
+}
+
+/// A number that notes its comparisons and its drop.
+pub struct Noted<'a> {
+    number: u32,
+    notes: &'a Notes,
+}
+
+impl<'a> Noted<'a> {
+    pub fn new(number: u32, notes: &'a Notes) -> Noted<'a> {
+        Noted { number, notes }
+    }
+}
+
+impl Drop for Noted<'_> {
+    fn drop(self) {
+        let dropped = self.notes.dropped.get();
+        self.notes.dropped.set(dropped.wrapping_add(1));
+        let Noted {
+            number: _,
+            notes: _,
+        } = self;
+    }
+}
+
+impl PartialEq for Noted<'_> {
     ghost eq = { λ a b. eq_by_cmp nat_cmp a.number b.number };
 
     ghost laws = { on_per (λ x. x.number) (partial_equiv_from_equiv (eq_by_cmp_equiv nat_cmp_total)) };
@@ -30,11 +70,11 @@ impl PartialEq for Compared<'_> {
     }
 }
 
-impl Eq for Compared<'_> {
+impl Eq for Noted<'_> {
     ghost laws = { on_equiv (λ x. x.number) (eq_by_cmp_equiv nat_cmp_total) };
 }
 
-impl PartialOrd for Compared<'_> {
+impl PartialOrd for Noted<'_> {
     ghost partial_cmp = { λ a b. Some (nat_cmp a.number b.number) };
 
     ghost laws = { on_po (λ x. x.number) (partial_order_from_total nat_cmp_total) };
@@ -44,7 +84,7 @@ impl PartialOrd for Compared<'_> {
     }
 }
 
-impl Ord for Compared<'_> {
+impl Ord for Noted<'_> {
     ghost cmp = { λ a b. nat_cmp a.number b.number };
 
     ghost total = { on_total (λ x. x.number) nat_cmp_total };
@@ -54,12 +94,13 @@ impl Ord for Compared<'_> {
     ghost matches_eq = { λ a b. refl };
 
     fn cmp(&self, other: &Self) -> Ordering {
-        self.count.set(self.count.get().wrapping_add(1));
+        let compared = self.notes.compared.get();
+        self.notes.compared.set(compared.wrapping_add(1));
         self.number.cmp(&other.number)
     }
 }
 
-impl Hash for Compared<'_> {
+impl Hash for Noted<'_> {
     ghost hash_input = { λ x. fed.u32 x.number };
 
     ghost respects_eq = { Prim.search (hashing, rules) };
@@ -67,24 +108,4 @@ impl Hash for Compared<'_> {
     fn hash<H: Hasher>(&self, state: &mut H) {
         self.number.hash(state);
     }
-}
-
-#[test]
-fn an_entry_compares_as_a_read_does(rt: HostRuntime) -> Result<(), Fail> {
-    let count = Cell::new(0);
-    let mut map: Map<Compared<'_>, u32> = Map::new(rt.alloc());
-    for number in 0..100 {
-        for kept in [false, true] {
-            let key = Compared {
-                number,
-                count: &count,
-            };
-            count.set(0);
-            assert_eq!(rt; map.contains_key(&key), kept);
-            let read = count.replace(0);
-            map.entry(key)?.or_insert(number)?;
-            assert_eq!(rt; count.get(), read, "at {number}");
-        }
-    }
-    Ok(())
 }
