@@ -3,20 +3,15 @@
 --     sole      what has one machine type is one machine value
 --     lent_there      a reference that is there.        lent_on      the same of a call that may have failed, and then left the part as it was
 --     each_ok      what is known of a value that is there
---     stay_left, Goes-left      of a parameter whose last value is said, what is had at the end is just that
 pub use Rattle.core.proofs.once.Made.{ok_of}
-use Prim.Native.Nat.{ℕ}
 use Rattle.std.proofs.Common.{◌≡◌, refl, subst, MutBor}
 use Rattle.std.specs.Prelude.{Result, Ok, Err, IfOk, OnOk, OnErr}
 use Rattle.std.specs.Borrow.{RestsIfErr, name_if_ok}
 use base.Logic.{ent, sep, id⊢}
 use base.Fml.{GName, fres}
-use denote.Exit.{Kept, left}
 use denote.Follow.{follows, follows_if, follows_by, such_by, followed}
 use denote.Laws.{Typed}
 use denote.RattleType.{RattleType}
-use denote.Signature.{Slot}
-use denote.Triple.Walked.{Goes, Stay}
 use lib.Dec.{T}
 use mathlib.Core.List.{List, [], ◌∷◌}
 use mathlib.Core.Option.{Option, some}
@@ -60,9 +55,3 @@ module _ {M : Type 1} {𝓤 : Ura M} (𝓛 : Logic 𝓤) (R T : RattleType) (F :
 pub each_ok : {X E : Type 0} {P Q : X → Type 0} (r : Result X E) → IfOk r P → ((x : X) → P x → Q x) → IfOk r Q
 each_ok (Ok x) known then = then x known
 each_ok (Err e) known then = tt
-
-abbrev pub stay_left : {n : ℕ} (s : Slot n) (k : Kept) → Stay s k
-stay_left s k = record { fit = λ κs x f. Unit {0}; has = λ κs x f vs. left ((s.row κs).exit k) x f }
-
-pub Goes-left : {M : Type 1} {𝓤 : Ura M} (𝓛 : Logic 𝓤) (n : ℕ) (s : Slot n) (k : Kept) → Goes 𝓛 n s k (stay_left s k)
-Goes-left 𝓛 n s k κs x f vs fit = 𝓛.laws.⇛_intro (sem 𝓛 (left ((s.row κs).exit k) x f))

@@ -1,5 +1,4 @@
 mod Same
 mod Places
 mod Gone
-mod Occupied
-mod Vacant
+mod Ended

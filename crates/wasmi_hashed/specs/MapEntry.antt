@@ -10,7 +10,7 @@ use Rattle.std.specs.declared.hash.BuildHasher as builder
 use Rattle.std.specs.contracts.collections.HashMap.{the_row as TableRow}
 use Rattle.std.specs.Borrow.{Fml, RattleType, MutBor, Lends, RestsIfErr, follows_if, follows_so, name_if_ok}
 use mathlib.Core.Option.{none}
-use Rattle.std.specs.HashMap.{HashMap, hasher_of}
+use Rattle.std.specs.HashMap.{HashMap, hasher_of, IsUnchanged}
 use Rattle.std.specs.HashMap.Entry.{entry_key, entry_map_ref, entry_value, map_with_value, map_without_entry, MatchEntry}
 use Rattle.std.specs.HashMap.Lent.{HashMembers}
 use Rattle.std.specs.List.Sorted.{IsPermutation}
@@ -58,6 +58,10 @@ module _ (K V S A H : RattleType) {g : eq.Ghosts K.Denot} {h : hash.Ghosts K.Den
   -- where the call failed, the table has its entries
   abbrev pub table_rests : {E : Type 0} → MutBor (HashMap K.Denot V.Denot S.Denot) → Result (Place K.Denot V.Denot S.Denot A.Denot H.Denot g h b w) E → Fml
   table_rests m r = RestsIfErr (TableRow K V S A H g h b w heap) m (λ e. (entry_map_ref e).ghost_name) r (λ now. now.entries ≡ m.now.entries)
+
+  -- the table is in the end the one without the place's key
+  abbrev pub table_without : Place K.Denot V.Denot S.Denot A.Denot H.Denot g h b w → Fml
+  table_without there = follows_so (TableRow K V S A H g h b w heap) V (entry_map_ref there).ghost_name none (λ _ _. Unit {0}) (IsUnchanged (map_without_entry there))
 
   -- the table is in the end as the place has it
   abbrev pub table_stays : Place K.Denot V.Denot S.Denot A.Denot H.Denot g h b w → Fml

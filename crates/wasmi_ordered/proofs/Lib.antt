@@ -1,3 +1,3 @@
 mod Places
 mod Gone
-mod Occupied
+mod Ended

@@ -9,14 +9,15 @@ use Rattle.std.specs.declared.cmp.PartialOrd as partial
 use Rattle.std.specs.declared.hash.Hash as hash
 use Rattle.std.specs.declared.cmp.Ordering.{Ordering}
 use Rattle.std.specs.declared.cmp.Ordering.TheVariants.{Equal}
-use Rattle.std.specs.BTreeMap.{BTreeMap, insert_entry}
+use Rattle.std.specs.BTreeMap.{BTreeMap, insert_entry, IsUnchanged}
 use Rattle.std.specs.BTreeMap.Entry.{entry_map_ref, entry_key, entry_value, map_with_value, map_without_entry, MatchEntry}
 use Rattle.std.specs.Map.{remove_entry}
 use Rattle.std.specs.Ordering.{eq_by_cmp}
 use Rattle.wasmi_finite.specs.Maps.{value_at}
 use Rattle.std.specs.BTreeMap.Lent.{OrdMembers}
 use Rattle.std.specs.Prelude.{◌≡◌, List, Result, Ok, Err, None, IsSome}
-use Rattle.std.specs.Borrow.{Fml, RattleType, MutBor, RestsIfErr, Lends, follows_if, name_if_ok}
+use Rattle.std.specs.Borrow.{Fml, RattleType, MutBor, RestsIfErr, Lends, follows_if, follows_so, name_if_ok}
+use mathlib.Core.Option.{none}
 use Rattle.std.specs.contracts.collections.BTreeMap.{the_row as TreeRow}
 use Rattle.wasmi_ordered.specs.contracts.map.Map.{the_row as MapRow}
 use Rattle.wasmi_arena.specs.declared.error.ArenaError.{ArenaError}
@@ -51,6 +52,10 @@ module _ (K V A : RattleType) {g : ord.Ghosts K.Denot} {g' : eq.Ghosts K.Denot} 
   -- where the call failed, the tree has its entries
   abbrev pub tree_rests : {E : Type 0} → MutBor (BTreeMap K.Denot V.Denot) → Result (Place K.Denot V.Denot A.Denot g g' g'') E → Fml
   tree_rests m r = RestsIfErr (TreeRow K V A g g' g'' heap) m (λ e. (entry_map_ref e).ghost_name) r (λ now. now.entries ≡ m.now.entries)
+
+  -- the tree is in the end the one without the place's key
+  abbrev pub tree_without : Place K.Denot V.Denot A.Denot g g' g'' → Fml
+  tree_without there = follows_so (TreeRow K V A g g' g'' heap) V (entry_map_ref there).ghost_name none (λ _ _. Unit {0}) (IsUnchanged (map_without_entry there))
 
 module _ (K V A : RattleType) (h : hash.Ghosts K.Denot) (g : OrdMembers K.Denot) (heap : alloc.Ghosts A.Denot) where
   -- the map has the entries that the tree has in the end

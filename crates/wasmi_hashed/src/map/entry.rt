@@ -36,6 +36,8 @@ pub enum Entry<'a, K: Eq + Hash, V, S: BuildHasher = FixedState, A: Allocator = 
 #[derive(Drop)]
 pub struct OccupiedEntry<'a, K: Eq + Hash, V, S: BuildHasher = FixedState, A: Allocator = Global> {
     entry: hash_map::OccupiedEntry<'a, K, V, S, A>,
+    // Without bytes. It lets proofs of callers use the place up (docs/DECISIONS.md).
+    lent: PhantomData<&'a ()>,
 }
 
 /// The place of a key that isn't there, with room for it.
@@ -109,7 +111,10 @@ impl<'a, K: Eq + Hash, V, S: BuildHasher, A: Allocator> Entry<'a, K, V, S, A> {
         ensures { place result ≡ entry.entry }
     {
         match entry {
-            hash_map::Entry::Occupied(entry) => Entry::Occupied(OccupiedEntry { entry }),
+            hash_map::Entry::Occupied(entry) => Entry::Occupied(OccupiedEntry {
+                entry,
+                lent: PhantomData,
+            }),
             hash_map::Entry::Vacant(entry) => Entry::Vacant(VacantEntry {
                 entry,
                 lent: PhantomData,

@@ -20,6 +20,7 @@ use std::alloc::{AllocFailed, Allocator, Global};
 use std::collections::{BTreeMap, btree_map};
 use std::default::MadeWith;
 use std::hash::Hash;
+use std::marker::PhantomData;
 use wasmi_arena::ArenaError;
 
 /// The place of a key in a map: with its value, or free.
@@ -35,6 +36,8 @@ pub enum Entry<'a, K: Hash + Ord, V, A: Allocator = Global> {
 #[derive(Drop)]
 pub struct OccupiedEntry<'a, K: Hash + Ord, V, A: Allocator = Global> {
     entry: btree_map::OccupiedEntry<'a, K, V, A>,
+    // Without bytes. It lets proofs of callers use the place up (docs/DECISIONS.md).
+    lent: PhantomData<&'a ()>,
 }
 
 /// The place of a key that isn't there, with room for it.
@@ -103,7 +106,10 @@ impl<'a, K: Hash + Ord, V, A: Allocator> Entry<'a, K, V, A> {
         ensures { place result ≡ entry.entry }
     {
         match entry {
-            btree_map::Entry::Occupied(entry) => Entry::Occupied(OccupiedEntry { entry }),
+            btree_map::Entry::Occupied(entry) => Entry::Occupied(OccupiedEntry {
+                entry,
+                lent: PhantomData,
+            }),
             btree_map::Entry::Vacant(entry) => Entry::Vacant(VacantEntry { entry }),
         }
     }

@@ -1,13 +1,13 @@
 //! A place with its value.
 ghost use Rattle.std.specs.Prelude.{◌≡◌, Some};
-ghost use Rattle.std.specs.HashMap.{IsUnchanged};
-ghost use Rattle.std.specs.HashMap.Entry.{entry_follows, entry_key, entry_value, map_without_entry, IsWritten};
+ghost use Rattle.std.specs.HashMap.Entry.{entry_follows, entry_key, entry_value, IsWritten};
 ghost use Rattle.std.specs.Borrow.{sem};
-ghost use Rattle.wasmi_hashed.specs.MapEntry.{place};
+ghost use Rattle.wasmi_hashed.specs.MapEntry.{place, table_without};
 ghost use Rattle.wasmi_hashed.specs.declared.map.entry.Entry.TheVariants.{Occupied};
 
 use super::OccupiedEntry;
 use std::alloc::Allocator;
+use std::collections::hash_map;
 use std::hash::{BuildHasher, Hash};
 
 impl<'a, K: Eq + Hash, V, S: BuildHasher, A: Allocator> OccupiedEntry<'a, K, V, S, A> {
@@ -38,7 +38,7 @@ impl<'a, K: Eq + Hash, V, S: BuildHasher, A: Allocator> OccupiedEntry<'a, K, V, 
         ensures* writes_back { sem 𝓛 (entry_follows K.row V.row S.row A.row S.Hasher.row A.Allocator (place (Occupied self.entry)) result) }
         ensures value { entry_value (place (Occupied self.entry)) ≡ Some result.now }
     {
-        self.entry.into_mut()
+        self.into_table().into_mut()
     }
 
     /// Puts another value under the key, which stays, and returns the one that was there.
@@ -55,21 +55,26 @@ impl<'a, K: Eq + Hash, V, S: BuildHasher, A: Allocator> OccupiedEntry<'a, K, V, 
     pub fn remove(self) -> V
     where
         K: Drop,
+        ensures* removed { sem 𝓛 (table_without K.row V.row S.row A.row S.Hasher.row A.Allocator (place (Occupied self.entry))) }
         ensures was { entry_value (place (Occupied self.entry)) ≡ Some result }
-        ensures removed { IsUnchanged (map_without_entry (place (Occupied self.entry))) self.exit.0.0.now }
     {
-        self.remove_entry().1
+        self.into_table().remove()
     }
 
     /// Takes the key and its value out of the map. Never fails.
-    ///
-    /// `self.exit.0.0` is the reference to the table.
     #[inline]
     pub fn remove_entry(self) -> (K, V)
+        ensures* removed { sem 𝓛 (table_without K.row V.row S.row A.row S.Hasher.row A.Allocator (place (Occupied self.entry))) }
         ensures key { result.0 ≡ entry_key (place (Occupied self.entry)) }
         ensures was { entry_value (place (Occupied self.entry)) ≡ Some result.1 }
-        ensures removed { IsUnchanged (map_without_entry (place (Occupied self.entry))) self.exit.0.0.now }
     {
-        self.entry.remove_entry()
+        self.into_table().remove_entry()
+    }
+
+    #[inline]
+    fn into_table(self) -> hash_map::OccupiedEntry<'a, K, V, S, A>
+        ensures { result ≡ self.entry.entry }
+    {
+        self.entry
     }
 }

@@ -1,13 +1,13 @@
 //! A place with its value.
 ghost use Rattle.std.specs.Prelude.{◌≡◌, Some};
-ghost use Rattle.std.specs.BTreeMap.{IsUnchanged};
-ghost use Rattle.std.specs.BTreeMap.Entry.{entry_follows, entry_key, entry_value, map_without_entry, IsWritten};
+ghost use Rattle.std.specs.BTreeMap.Entry.{entry_follows, entry_key, entry_value, IsWritten};
 ghost use Rattle.std.specs.Borrow.{sem};
-ghost use Rattle.wasmi_ordered.specs.MapEntry.{place};
+ghost use Rattle.wasmi_ordered.specs.MapEntry.{place, tree_without};
 ghost use Rattle.wasmi_ordered.specs.declared.map.entry.Entry.TheVariants.{Occupied};
 
 use super::OccupiedEntry;
 use std::alloc::Allocator;
+use std::collections::btree_map;
 use std::hash::Hash;
 
 impl<'a, K: Hash + Ord, V, A: Allocator> OccupiedEntry<'a, K, V, A> {
@@ -38,7 +38,7 @@ impl<'a, K: Hash + Ord, V, A: Allocator> OccupiedEntry<'a, K, V, A> {
         ensures* writes_back { sem 𝓛 (entry_follows K.row V.row A.row A.Allocator (place (Occupied self.entry)) result) }
         ensures value { entry_value (place (Occupied self.entry)) ≡ Some result.now }
     {
-        self.entry.into_mut()
+        self.into_tree().into_mut()
     }
 
     /// Puts another value under the key, which stays, and returns the one that was there.
@@ -55,21 +55,26 @@ impl<'a, K: Hash + Ord, V, A: Allocator> OccupiedEntry<'a, K, V, A> {
     pub fn remove(self) -> V
     where
         K: Drop,
+        ensures* removed { sem 𝓛 (tree_without K.row V.row A.row A.Allocator (place (Occupied self.entry))) }
         ensures was { entry_value (place (Occupied self.entry)) ≡ Some result }
-        ensures removed { IsUnchanged (map_without_entry (place (Occupied self.entry))) self.exit.0.0.now }
     {
-        self.remove_entry().1
+        self.into_tree().remove()
     }
 
     /// Takes the key and its value out of the map. Never fails.
-    ///
-    /// `self.exit.0.0` is the reference to the tree.
     #[inline]
     pub fn remove_entry(self) -> (K, V)
+        ensures* removed { sem 𝓛 (tree_without K.row V.row A.row A.Allocator (place (Occupied self.entry))) }
         ensures key { result.0 ≡ entry_key (place (Occupied self.entry)) }
         ensures was { entry_value (place (Occupied self.entry)) ≡ Some result.1 }
-        ensures removed { IsUnchanged (map_without_entry (place (Occupied self.entry))) self.exit.0.0.now }
     {
-        self.entry.remove_entry()
+        self.into_tree().remove_entry()
+    }
+
+    #[inline]
+    fn into_tree(self) -> btree_map::OccupiedEntry<'a, K, V, A>
+        ensures { result ≡ self.entry.entry }
+    {
+        self.entry
     }
 }

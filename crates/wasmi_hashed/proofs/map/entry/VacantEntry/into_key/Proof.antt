@@ -39,7 +39,7 @@ use Rattle.wasmi_hashed.specs.contracts.map.entry.VacantEntry.into_key as F
 use Rattle.wasmi_arena.proofs.Frame.{let_go, gone}
 use Rattle.wasmi_finite.proofs.Handed.{sole}
 use Rattle.wasmi_hashed.proofs.Gone.{vacant_goes}
-use Rattle.wasmi_hashed.proofs.Vacant.{comes_back}
+use Rattle.wasmi_hashed.proofs.Ended.{comes_back}
 use Rattle.wasmi_hashed.specs.MapEntry.{table_stays}
 use Rattle.wasmi_hashed.proofs.map.entry.VacantEntry.TheLaws as EntryLaws
 use Rattle.wasmi_hashed.proofs.map.entry.VacantEntry.into_table.Met as Opened
@@ -66,7 +66,7 @@ into_key_spec 𝓤 𝓛 𝓜 𝓡 wired X Y S Z N LX LY LS LZ LN e de p dp h dh 
     let vals : List Val × Unit {0} = (b ∷ [], tt) in let known : given.0.4 ≡ vals = λ j. (held.1 j, tt) in
     subst (λ (us : List Val × Unit {0}). ent 𝓤 (W.pre ((κs, qs, bounds, a, us), tt)) (WpFn 𝓤 𝓛.H 𝓣.C 𝓣.Λ function (W.args ((κs, qs, bounds, a, us), tt)) (W.post ((κs, qs, bounds, a, us), tt)))) (sym known) (
     let y : W.Ghost = ((κs, qs, bounds, a, vals), tt) in
-    let alive = ‵ (flft κ qs.0) ⊛ ‵ (flft κs.1.0 qs.1.0) ⊛ ‵ (flft κs.1.1.0 qs.1.1.0) ⊛ ‵ (flft κs.1.1.1.0 qs.1.1.1.0) ⊛ ‵ (flft κs.1.1.1.1.0 qs.1.1.1.1.0) ⊛ ‵ (flft κs.1.1.1.1.1.0 qs.1.1.1.1.1.0) ⊛ ‵ ftrue in let alive = alive in
+    let alive = ‵ (flft κ qs.0) ⊛ ‵ (flft κs.1.0 qs.1.0) ⊛ ‵ (flft κs.1.1.0 qs.1.1.0) ⊛ ‵ (flft κs.1.1.1.0 qs.1.1.1.0) ⊛ ‵ (flft κs.1.1.1.1.0 qs.1.1.1.1.0) ⊛ ‵ (flft κs.1.1.1.1.1.0 qs.1.1.1.1.1.0) ⊛ ‵ ftrue in
     let bound = raw (fact 𝓤 (κs.1.0 ⊑ X.lives)) ⊛ raw (fact 𝓤 (κs.1.1.0 ⊑ Y.lives)) ⊛ raw (fact 𝓤 (κs.1.1.1.0 ⊑ S.lives)) ⊛ raw (fact 𝓤 (κs.1.1.1.1.0 ⊑ Z.lives)) ⊛ raw (fact 𝓤 (κs.1.1.1.1.1.0 ⊑ N.lives)) ⊛ ‵ ftrue in
     qed 𝓛 ((alive ⊛ ‵ (Here.own_val entry (b ∷ [])) ⊛ ‵ ftrue) ∷ bound ∷ []) ∵
     move ! (1 ∷ []) $ split ! $ heard ! _ (λ in_K. split ! $ heard ! _ (λ in_V. split ! $ heard ! _ (λ in_S. split ! $ heard ! _ (λ in_A. split ! $ heard ! _ (λ in_H. drop ! $
