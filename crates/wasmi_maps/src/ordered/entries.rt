@@ -80,3 +80,23 @@ fn a_place_changes_its_value(rt: HostRuntime) -> Result<(), Fail> {
     assert!(rt; map == Map::from_iter(rt.alloc(), [(1, 11)])?);
     Ok(())
 }
+
+// Takes a key out by its entry. The keys are references.
+fn take<'a>(map: &mut Map<&'a str, u32>, key: &'a str) -> Result<Option<u32>, ArenaError> {
+    match map.entry(key)? {
+        Entry::Occupied(occupied) => Ok(Some(occupied.remove())),
+        Entry::Vacant(vacant) => {
+            drop(vacant);
+            Ok(None)
+        }
+    }
+}
+
+#[test]
+fn a_text_is_taken_out_by_its_entry(rt: HostRuntime) -> Result<(), Fail> {
+    let mut map = Map::from_iter(rt.alloc(), [("a", 1), ("b", 2)])?;
+    assert_eq!(rt; take(&mut map, "b"), Ok(Some(2)));
+    assert_eq!(rt; take(&mut map, "b"), Ok(None));
+    assert_eq!(rt; (map.len(), map.get(&"a")), (1, Some(&1)));
+    Ok(())
+}
