@@ -2,7 +2,6 @@
 use Rattle.std.proofs.Common.{◌≡◌, List, [], ◌∷◌, refl, sym, subst}
 use Rattle.std.proofs.raw_atomic.Walks.{proved_at}
 use Rattle.std.specs.HashMap.Entry.{entry_key, entry_map_ref}
-use Rattle.std.specs.contracts.collections.HashMap.{the_row as TableRow}
 use Rattle.std.specs.contracts.collections.hash_map.VacantEntry as PlaceType
 use Rattle.std.specs.contracts.collections.hash_map.VacantEntry.into_key as Takes
 use Rattle.std.proofs.collections.hash_map.VacantEntry.TheLaws as PlaceLaws
@@ -51,7 +50,7 @@ into_key_spec 𝓤 𝓛 𝓜 𝓡 wired X Y S Z N LX LY LS LZ LN e de p dp h dh 
     let K = param 0 X in let V = param 1 Y in let T = param 2 S in let A = param 3 Z in let H = param 4 N in
     let args : Args = bounded (a_type ∷ a_type ∷ a_type ∷ a_type ∷ a_type ∷ []) (X, (Y, (S, (Z, (N, tt))))) (dcons de (dcons dp (dcons dh (dcons ds (dcons dn (dcons dg (dcons dd (dcons dm dnil)))))))) in
     let call = F.ended X Y S Z N e de p dp h dh s ds n dn g dg dd dm in let c = F.clauses X Y S Z N e de p dp h dh s ds n dn g dg dd dm 𝓛 𝓜.mem 𝓡.returns in
-    let Table = TableRow K V T A H p h s n g in let function = inst_fn args code.function in
+    let function = inst_fn args code.function in
     let stayed : Stays call.signature.params call.kept = (stay_dropped _ no, tt) in
     let W = walk_of 𝓛 call stayed c in let 𝓣 = tables 𝓤 𝓛.H 𝓜 𝓡 𝓡.env in
     proved_at 𝓛 call stayed c 𝓜 𝓡 (vacant_goes 𝓛 X Y S Z N p h s n g 6 (named_lft 6 0 tt), tt)

@@ -4,7 +4,6 @@ use Rattle.std.proofs.raw_atomic.Walks.{proved_at}
 use Rattle.std.specs.BTreeMap.{IsUnchanged}
 use Rattle.std.specs.Prelude.{Some}
 use Rattle.std.specs.BTreeMap.Entry.{entry_value, map_without_entry}
-use Rattle.std.specs.contracts.collections.BTreeMap.{the_row as TreeRow}
 use Rattle.std.specs.contracts.collections.btree_map.OccupiedEntry as PlaceType
 use Rattle.std.specs.contracts.collections.btree_map.OccupiedEntry.remove as Takes
 use Rattle.std.proofs.collections.btree_map.OccupiedEntry.TheLaws as PlaceLaws
@@ -53,7 +52,7 @@ remove_spec 𝓤 𝓛 𝓜 𝓡 wired X Y Z LX LY LZ h dh e de p dp o dt q dq g 
     let K = param 0 X in let V = param 1 Y in let A = param 2 Z in
     let args : Args = bounded (a_type ∷ a_type ∷ a_type ∷ []) (X, (Y, (Z, tt))) (dcons dh (dcons de (dcons dp (dcons dt (dcons dq (dcons dg (dcons dd (dcons dk dnil)))))))) in
     let call = F.ended X Y Z h dh e de p dp o dt q dq g dg dd dk in let c = F.clauses X Y Z h dh e de p dp o dt q dq g dg dd dk 𝓛 𝓜.mem 𝓡.returns in
-    let Tree = TreeRow K V A o p q g in let function = inst_fn args code.function in
+    let function = inst_fn args code.function in
     let stayed : Stays call.signature.params call.kept = (stay_dropped _ no, tt) in
     let W = walk_of 𝓛 call stayed c in let 𝓣 = tables 𝓤 𝓛.H 𝓜 𝓡 𝓡.env in
     proved_at 𝓛 call stayed c 𝓜 𝓡 (occupied_goes 𝓛 X Y Z p o q g 4 (named_lft 4 0 tt), tt)
