@@ -1,6 +1,8 @@
 mod BinaryDigits
 mod Dedup
 mod DedupRuns
+mod IndexBlocks
+mod IndexRing
 mod InternerRuns
 mod LastItem
 mod MapRuns

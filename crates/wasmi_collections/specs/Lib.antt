@@ -5,6 +5,7 @@ pub mod DedupSteps
 pub mod HeadVec
 pub mod HeadVecLaws
 pub mod HeadVecLend
+pub mod IndexBlocks
 pub mod Interner
 pub mod InternerSteps
 pub mod LenOrder

@@ -191,6 +191,32 @@ fn a_run_replies_as_the_table_says(rt: HostRuntime) -> Result<(), Fail> {
     Ok(())
 }
 
+// A text of its own for each number below 3,001, in no order.
+fn scattered(alloc: Global, number: u32) -> Result<String, Fail> {
+    Ok(format!(in alloc; "{}", number.wrapping_mul(7919) % 3001)?)
+}
+
+// The index has three blocks then. The number 3,001 has twelve binary digits.
+#[test]
+fn three_thousand_texts_are_found(rt: HostRuntime) -> Result<(), Fail> {
+    let mut interner = StringInterner::new(rt.alloc());
+    for number in 0..3001 {
+        let text = scattered(rt.alloc(), number)?;
+        let symbol = interner.get_or_intern(text.as_str())?;
+        assert_eq!(rt; symbol.into_u32(), number);
+    }
+    for number in 0..3001 {
+        let text = scattered(rt.alloc(), number)?;
+        let mut steps = Steps::new();
+        let symbol = interner.get_counted(text.as_str(), &mut steps);
+        assert_eq!(rt; symbol, Some(Sym::from_u32(number)));
+        assert!(rt; steps.count() <= 12, "of {number}");
+    }
+    assert!(rt; interner.get("3001").is_none());
+    assert!(rt; interner.clone()? == interner);
+    Ok(())
+}
+
 const NAMES: [&str; 10] = [
     "memory", "table", "", "global", "func", "start", "elem", "a", "data", "é",
 ];
@@ -235,8 +261,50 @@ fn a_refused_text_changes_nothing(rt: HostRuntime) -> Result<(), Fail> {
         }
         assert_eq!(rt; (log.returned(), log.misplaced()), (log.given(), 0));
     }
-    // A block for each text that has a byte, and three for the growing index and for the growing texts.
-    assert_eq!(rt; refusals, 15);
+    // A block for each text that has a byte, three for the growing texts, three for the first block of the
+    // index as it grows, and one for the list of blocks.
+    assert_eq!(rt; refusals, 16);
+    Ok(())
+}
+
+// An interner whose index has one block, which is full.
+fn with_a_full_block<'a, 'l>(
+    handle: &'a Observed<'l>,
+    alloc: Global,
+) -> Result<StringInterner<&'a Observed<'l>>, Fail> {
+    let mut interner = StringInterner::new(handle);
+    for number in 0..1024 {
+        let text = scattered(alloc, number)?;
+        let _symbol = interner.get_or_intern(text.as_str())?;
+    }
+    Ok(interner)
+}
+
+// One text more asks for a larger list of texts, for a block of the index, and for its copy.
+#[test]
+fn a_refused_block_of_the_index_is_opened_later(rt: HostRuntime) -> Result<(), Fail> {
+    let mut refusals = 0u64;
+    for nth in 1..6 {
+        let log = Log::new();
+        {
+            let handle = Observed::new(rt.alloc(), &log);
+            let mut interner = with_a_full_block(&handle, rt.alloc())?;
+            log.refuse_once(nth);
+            if interner.get_or_intern("memory").is_err() {
+                assert_eq!(rt; (interner.get("memory"), interner.len()), (None, 1024));
+                refusals = refusals.wrapping_add(1);
+            }
+            let symbol = interner.get_or_intern("memory")?;
+            assert_eq!(rt; symbol.into_u32(), 1024);
+            for number in 0..1024 {
+                let text = scattered(rt.alloc(), number)?;
+                let found = interner.get(text.as_str());
+                assert_eq!(rt; found, Some(Sym::from_u32(number)), "at {nth}");
+            }
+        }
+        assert_eq!(rt; (log.returned(), log.misplaced()), (log.given(), 0));
+    }
+    assert_eq!(rt; refusals, 3);
     Ok(())
 }
 
@@ -294,15 +362,15 @@ fn a_third_text_is_refused(rt: HostRuntime) -> Result<(), Fail> {
     Ok(())
 }
 
-// A block for each text that has a byte, one for the index, and one for the texts.
+// A block for each text that has a byte, one for the texts, and two for the index.
 #[test]
-fn a_clone_asks_for_eleven_blocks(rt: HostRuntime) -> Result<(), Fail> {
+fn a_clone_asks_for_twelve_blocks(rt: HostRuntime) -> Result<(), Fail> {
     let log = Log::new();
     let handle = Observed::new(rt.alloc(), &log);
     let interner = with_names(&handle)?;
     let before = log.requests();
     let copy = interner.clone()?;
-    assert_eq!(rt; log.requests().wrapping_sub(before), 11);
+    assert_eq!(rt; log.requests().wrapping_sub(before), 12);
     assert!(rt; copy == interner);
     Ok(())
 }
@@ -324,7 +392,7 @@ fn a_refused_clone_leaves_its_source(rt: HostRuntime) -> Result<(), Fail> {
     {
         let handle = Observed::new(rt.alloc(), &log);
         let interner = with_names(&handle)?;
-        for nth in 1..12 {
+        for nth in 1..13 {
             log.refuse_once(nth);
             let refused = interner.clone().err();
             assert_eq!(rt; refused, Some(ArenaError::OutOfSystemMemory), "at {nth}");

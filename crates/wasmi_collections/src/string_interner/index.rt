@@ -2,26 +2,37 @@
 ghost use Rattle.std.specs.Prelude.{◌≡◌, ◌<◌, ◌≤◌, [], length, IfOk, OnOk, IsOkUnless, Some, slice_get};
 ghost use Rattle.std.specs.List.{insert};
 
+mod block;
+mod blocks;
+
 use super::Sym;
+use block::{Block, WIDTH};
 use std::alloc::Allocator;
 use std::marker::Model;
 use wasmi_arena::ArenaError;
 
 // Symbols by rank: a list into which a symbol can be put at any place.
 //
+// They lie in blocks, each a ring. All but the last are full, so a rank tells its block and its place
+// there. What a full block has too many goes on to the next, so a symbol that is put in moves some of one
+// block, and one symbol of each block behind it.
+//
 // No other code knows how it is kept.
 #[derive(Drop)]
 pub(super) struct Index<A: Allocator> {
-    symbols: Vec<Sym, A>,
+    blocks: Vec<Block<A>, A>,
 }
 
 impl<A: Allocator> Model for Index<A> {
-    ghost use Rattle.std.specs.Prelude.{◌-◌, vec_len, vec_capacity};
+    ghost use Rattle.std.specs.Prelude.{vec_items};
+    ghost use Rattle.wasmi_collections.specs.IndexBlocks.{IsBlocks, symbols_in, room_in};
     ghost use Rattle.wasmi_collections.specs.TextIndex.{Ranked};
 
     ghost Value = { Ranked };
 
-    ghost view = { λ index. record { symbols = index.symbols.items; room = vec_capacity index.symbols - vec_len index.symbols } };
+    ghost view = { λ index. record { symbols = symbols_in (vec_items index.blocks); room = room_in (vec_items index.blocks) } };
+
+    ghost invariant = { λ index. IsBlocks (vec_items index.blocks) };
 }
 
 impl<A: Allocator> Index<A> {
@@ -30,7 +41,7 @@ impl<A: Allocator> Index<A> {
         ensures { result.symbols ≡ [] }
     {
         Index {
-            symbols: Vec::new(alloc),
+            blocks: Vec::new(alloc),
         }
     }
 
@@ -39,16 +50,18 @@ impl<A: Allocator> Index<A> {
         requires { rank < length self.now.symbols }
         ensures { slice_get self.now.symbols rank ≡ Some result }
     {
-        self.symbols[rank]
+        self.blocks[rank / WIDTH].at(rank % WIDTH)
     }
 
     // Makes room for one more symbol.
     pub(super) fn reserve(&mut self) -> Result<(), ArenaError>
+    where
+        A: Clone,
         ensures symbols { self.new.symbols ≡ self.old.symbols }
         ensures ok { OnOk result (0 < self.new.room) }
         ensures errors { IsOkUnless result ArenaError.OutOfSystemMemory }
     {
-        self.symbols.reserve(1)?;
+        blocks::reserve(&mut self.blocks)?;
         Ok(())
     }
 
@@ -58,10 +71,10 @@ impl<A: Allocator> Index<A> {
         requires room { 0 < self.old.room }
         ensures { self.new.symbols ≡ insert self.old.symbols rank symbol }
     {
-        let _inserted = self.symbols.insert(rank, symbol);
+        blocks::insert(&mut self.blocks, rank, symbol);
     }
 
-    // The same symbols, over a clone of the allocator.
+    // The same symbols, over clones of the allocator.
     pub(super) fn clone(&self) -> Result<Self, ArenaError>
     where
         A: Clone,
@@ -69,7 +82,7 @@ impl<A: Allocator> Index<A> {
         ensures errors { IsOkUnless result ArenaError.OutOfSystemMemory }
     {
         Ok(Index {
-            symbols: self.symbols.clone()?,
+            blocks: self.blocks.clone()?,
         })
     }
 }
