@@ -7,20 +7,20 @@ use lib.Dec as dec
 use lib.Dec.{T_not, eqb, eqb_refl}
 use mathlib.Core.Bool.{not}
 use Rattle.std.specs.Borrow.{RestsIfErr}
-use base.Logic.{SProp, wand, ent, emp}
+use base.Logic.{wand, ent, emp}
 use mathlib.Core.Option.{none, some}
 use base.Fml.{Lft, Fml, GName, fex, feq, fsep, fres, fauth}
 use seplogic.Ra.Ura.{Ura}
-use mir.Syntax.{Lifetime, named}
+use mir.Syntax.{named}
 use mir.Val.{Val, of_list}
 use types.Logic.{Logic, sem}
-use types.Kit.{‵, raw, ◌$◌, ◌∵◌, !, qed, done, drop, each, assume, move, use0, use1, fjoin, fpack, feq_i}
+use types.Kit.{‵, ◌$◌, ◌∵◌, !, qed, done, each, assume, use0, use1, fjoin, fpack, feq_i}
 use types.Match.{live}
 use denote.RattleType.{RattleType, Valss, owns}
 use denote.Enum.Row.{tagged_with}
 use denote.Enum.Enum.{form_of, in_a_row}
 use denote.Enum.Declared.{shape}
-use denote.Follow.{follows, follows_so, follows_by, such_by}
+use denote.Follow.{follows, follows_by, such_by}
 use denote.Param.Laws.{Laws, of_field, is_one}
 use denote.Param.Shared.{Sharable, mut_ref_shared}
 use denote.Ref.{MutRef, NamedLft}

@@ -7,10 +7,25 @@ ghost use Rattle.wasmi_dense.specs.Arena.{state_of};
 ghost use Rattle.wasmi_dense.specs.ArenaGrowth.{TakesUntilRefused};
 
 use super::Arena;
+use core::mem;
 use std::alloc::{AllocError, Allocator};
 use std::marker::PhantomData;
 use std::ops::Range;
 use wasmi_arena::{ArenaError, ArenaKey};
+
+// A vector that has room for so many values of `T::default()`, with these at its end.
+//
+// It is taken by value, so that its length and its pointer stay in registers while it is filled.
+fn with_defaults<T: Default, A: Allocator>(mut items: Vec<T, A>, amount: usize) -> (Vec<T, A>, ())
+    requires { amount ≤ (state_of items).room }
+    ensures values { AppendsMany T.is_default amount (state_of items).items (state_of result.0).items }
+    ensures room { (state_of items).room ≡ (state_of result.0).room + amount }
+{
+    for _ in 0..amount {
+        items.push_reserved(T::default());
+    }
+    (items, ())
+}
 
 // Puts so many values of `T::default()` at the end of a vector, or leaves it as it is where it can't grow.
 fn push_defaults<T: Default, A: Allocator>(
@@ -24,9 +39,7 @@ fn push_defaults<T: Default, A: Allocator>(
     ensures err { OnErr result (state_of items.new ≡ state_of items.old) }
 {
     items.reserve(amount)?;
-    for _ in 0..amount {
-        items.push_reserved(T::default());
-    }
+    mem::replace_with(items, amount, with_defaults);
     Ok(())
 }
 

@@ -1,12 +1,8 @@
 -- `get_disjoint_mut` hands on what `two_mut` lends. Assumes `Logic`.
-use Rattle.std.proofs.Common.{◌≡◌, ◌≢◌, ℕ, ◌<◌, ◌≤◌, ◌^◌, List, [], ◌∷◌, length, Result, Ok, Err, Some, refl, sym, ap, ◌∙◌, subst, inl, inr, lit<, MutBor}
-use lib.Dec.{eqb→eq, leb→le, nleb→lt}
-use Rattle.std_alloc.proofs.VecSteps.Shapes.{after as rest_of}
+use Rattle.std.proofs.Common.{◌≡◌, ◌<◌, ◌^◌, List, [], ◌∷◌, length, Result, refl, sym, ap, ◌∙◌, subst, MutBor}
 use Rattle.std.proofs.raw_atomic.Walks.{proved}
-use Rattle.std.specs.Prelude.{IsOk, IfOk, slice_get}
-use base.Logic.{ent, id⊢, emp}
-use types.Logic.{Logic, sem}
-use base.Fml.{GName, ftrue, flft, fobs, fres, fbor}
+use base.Logic.{id⊢, emp}
+use base.Fml.{GName, ftrue, flft}
 use contract.BorrowLft.{◌⊑◌}
 use contract.Fact.{fact_i}
 use contract.Monad.{fact}
@@ -15,37 +11,34 @@ use mir.Syntax.{named, Args, a_type, dcons, dnil, w64}
 use mir.MapTy.{inst_fn}
 use mir.Val.{Val, vptr, vint, vstruct, vcons, vnil}
 use prog.Memory.{size}
-use types.ByLocal.{alloc_all, pass_all, free_all, look_at, get, get_in, through, sets, lands_as, env}
-use types.Kit.{‵, raw, ◌⊛◌, some, later, prop, at_ret, Sq, ◌$◌, ◌∵◌, !, qed, done, move, keep, drop, join, split, fsplit, fsplit3, fjoin, fjoin3, fpick, feq_i, use0, use1, use2, pick, rewrite, await, group, frame, suffices}
-use types.Match.{live}
+use types.ByLocal.{alloc_all, pass_all, free_all, look_at, get, get_in, through, sets, lands_as}
+use types.Kit.{‵, raw, ◌⊛◌, some, later, ◌$◌, ◌∵◌, !, qed, done, move, drop, join, split, fsplit, fsplit3, fjoin, fjoin3, fpick, feq_i, use0, use1, use2, pick, rewrite, await, group, suffices}
 use types.Part.{whole, sub}
-use types.Run.{enter, addr, stop, fld, of_opd, and_then, no_more, first, branches, skips, exec, returns, returns_within}
+use types.Run.{enter, addr, stop, fld, of_opd, and_then, no_more, returns}
 use denote.Builtin.{usize}
 use denote.Exit.{no}
 use denote.Param.{layout, param, copied, bounded}
 use denote.Plain.{uint_vals, uint_Tells, uint_Makes}
-use denote.RattleType.{RattleType, Valss, owns}
 use denote.Ref.{MutRef, mut_vals, mut_Tells}
 use denote.Signature.{plain}
 use denote.Laws.{shows}
-use denote.Steps.{nothing, heard, owned, peeks, facts, only}
+use denote.Steps.{nothing, heard, owned, peeks, only}
 use denote.Triple.Call.{calls_at}
 use denote.Triple.Clauses.{lasts}
 use denote.Triple.Spec.{triple_of}
 use denote.Triple.Table.{framed}
-use denote.Triple.Walked.{Stays, walk_of, says, stay_dropped, Goes-spent_ref, Goes-dropped, ends_at}
+use denote.Triple.Walked.{Stays, walk_of, stay_dropped, Goes-spent_ref, Goes-dropped, ends_at}
 use Rattle.core.proofs.alloc.Calls.{Al}
 use Rattle.core.proofs.mem.Param.{El}
 use Rattle.wasmi_arena.specs.Pairs.{PairAnswer, AreNumbers}
 use Rattle.wasmi_arena.specs.declared.error.ArenaError.{ArenaError}
-use Rattle.wasmi_arena.specs.declared.error.ArenaError.TheVariants.{KeyOutOfBounds, AliasingPairAccess}
 use Rattle.wasmi_arena.specs.contracts.stable_arena.StableArena.get_disjoint_mut as F
 use Rattle.wasmi_arena.specs.contracts.stable_arena.StableArena.two_mut as Call
 use Rattle.wasmi_arena.proofs.stable_arena.StableArena.two_mut.Met as Lends
 use Rattle.wasmi_arena.proofs.stable_arena.StableArena.get_disjoint_mut.Statement.{statement}
 use Rattle.wasmi_arena.proofs.stable_arena.StableArena.get_disjoint_mut.Code as code
 use Rattle.wasmi_arena.proofs.Frame.{let_go, gone}
-use Rattle.wasmi_arena.proofs.Refusals.{Pair, PairOr, pair_or_laws, error_val, aliasing, out_of_bounds, Rests, stays, ends, neqb→neq, ok_is}
+use Rattle.wasmi_arena.proofs.Refusals.{PairOr, pair_or_laws, Rests}
 use Rattle.wasmi_arena.proofs.ArenaMemory.{ArenaRow}
 use denote.Array.{Array}
 use denote.Param.Laws.{param_laws, Told, array_told, array_laws, copied_laws, copied_copy, copy_told}

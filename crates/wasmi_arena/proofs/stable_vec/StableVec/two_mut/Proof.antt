@@ -1,19 +1,19 @@
 -- `two_mut` lends two items, or leaves the vector as it is. Assumes `Logic`.
-use Rattle.std.proofs.Common.{◌≡◌, ◌≢◌, ℕ, ◌<◌, ◌≤◌, ◌^◌, List, [], ◌∷◌, length, Result, Ok, Err, Some, refl, sym, ap, ◌∙◌, subst, inl, inr, lit<, MutBor}
+use Rattle.std.proofs.Common.{◌≡◌, ◌≢◌, ℕ, ◌<◌, ◌≤◌, ◌^◌, List, [], ◌∷◌, length, Result, Ok, Err, Some, refl, subst, inl, inr, lit<, MutBor}
 use lib.Dec.{eqb→eq, leb→le, nleb→lt}
 use Rattle.std_alloc.proofs.VecSteps.Shapes.{after as rest_of}
 use Rattle.std.proofs.raw_atomic.Walks.{proved}
 use Rattle.std.specs.Prelude.{IsOk, IfOk, slice_get}
 use base.Logic.{ent, id⊢, emp}
-use types.Logic.{Logic, sem}
-use base.Fml.{ftrue, flft, fobs, fres, fbor}
+use types.Logic.{sem}
+use base.Fml.{ftrue, flft, fres}
 use contract.BorrowLft.{◌⊑◌}
 use contract.Fact.{fact_i}
 use contract.Monad.{fact}
 use contract.Running.{tables}
 use mir.Syntax.{named, Args, a_type, dcons, dnil, w64}
 use mir.MapTy.{inst_fn}
-use mir.Val.{Val, vptr, vint, of_list}
+use mir.Val.{Val, of_list}
 use prog.Memory.{size}
 use types.ByLocal.{alloc_all, pass_all, free_all, look_at, get, through, sets, lands_as, env}
 use types.Kit.{‵, raw, ◌⊛◌, some, later, prop, at_ret, Sq, ◌$◌, ◌∵◌, !, qed, done, move, keep, drop, join, split, fsplit, fsplit3, fjoin, use0, use1, use2, pick, rewrite, await, group, frame, suffices}
@@ -46,7 +46,7 @@ use Rattle.wasmi_arena.proofs.stable_vec.StableVec.two_of.Met as Lends
 use Rattle.wasmi_arena.proofs.stable_vec.StableVec.two_mut.Statement.{statement}
 use Rattle.wasmi_arena.proofs.stable_vec.StableVec.two_mut.Code as code
 use Rattle.wasmi_arena.proofs.Frame.{let_go, gone}
-use Rattle.wasmi_arena.proofs.Refusals.{Pair, PairOr, pair_or_laws, error_val, aliasing, out_of_bounds, Rests, stays, ends, neqb→neq, ok_is}
+use Rattle.wasmi_arena.proofs.Refusals.{PairOr, pair_or_laws, error_val, aliasing, out_of_bounds, Rests, stays, ends, neqb→neq, ok_is}
 use Rattle.wasmi_arena.proofs.VecMemory.{VecRow}
 
 pub two_mut_spec : {M : Type 1} → statement M

@@ -1,4 +1,3 @@
-use Rattle.std.proofs.Common.{◌<◌, length, sym, subst, ◌∙◌, ap, ℕ}
 use Rattle.wasmi_arena.proofs.FilledParts.{HasBuckets-items, HasBuckets-own}
 use Rattle.wasmi_arena.proofs.stable_vec.StableVec.two_of.Goals as goal
 
