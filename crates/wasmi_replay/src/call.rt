@@ -3,7 +3,7 @@
 use std::str::{FromStr, Split};
 
 /// A call on a container, named as the method is.
-#[derive(Clone, Copy, Debug, PartialEq, Eq)]
+#[derive(Clone, Copy)]
 pub enum Call<'a> {
     Len,
     IsEmpty,
@@ -64,7 +64,7 @@ pub enum Call<'a> {
 }
 
 /// A call on one item.
-#[derive(Clone, Copy, Debug, PartialEq, Eq)]
+#[derive(Clone, Copy)]
 pub enum ItemCall {
     Get,
     /// Write through `get_mut`.
@@ -98,28 +98,8 @@ impl<'a> Call<'a> {
             "is_empty" => Call::IsEmpty,
             "extent" => Call::Extent,
             "clear" => Call::Clear,
-            "reserve" => Call::Reserve(number(words)?),
-            "push" => Call::Push(number(words)?),
             "pop" => Call::Pop,
             "last" => Call::Last,
-            "last_mut" => Call::LastMut(number(words)?),
-            "alloc" => Call::Alloc(number(words)?),
-            "alloc_many" => Call::AllocMany(number(words)?),
-            "key_of" => Call::KeyOf(number(words)?),
-            "get" => Call::Item(number(words)?, ItemCall::Get),
-            "get_mut" => Call::Item(number(words)?, ItemCall::GetMut(number(words)?)),
-            "put" => Call::Item(number(words)?, ItemCall::Put(number(words)?)),
-            "has" => Call::Item(number(words)?, ItemCall::Has),
-            "set" => Call::Item(number(words)?, ItemCall::Set(number(words)?)),
-            "unset" => Call::Item(number(words)?, ItemCall::Unset),
-            "index" => Call::Item(number(words)?, ItemCall::Index),
-            "index_mut" => Call::Item(number(words)?, ItemCall::IndexMut(number(words)?)),
-            "swap" => Call::Swap(number(words)?, number(words)?),
-            "get_disjoint_mut" => {
-                Call::GetDisjointMut(number(words)?, number(words)?, number(words)?)
-            }
-            "extend" => Call::Extend(number(words)?, number(words)?),
-            "from_iter" => Call::FromIter(number(words)?, number(words)?),
             "clone" => Call::Clone,
             "clone_in" => Call::CloneIn,
             "exchange" => Call::Exchange,
@@ -128,20 +108,63 @@ impl<'a> Call<'a> {
             "cmp" => Call::Cmp,
             "hash" => Call::Hash,
             "debug" => Call::Debug,
-            "slices" => Call::Slices(steps(words)?),
-            "iter" => Call::Iter(steps(words)?),
             "for" => Call::For,
-            "iter_mut" => Call::IterMut(steps(words)?, number(words)?),
-            "slices_mut" => Call::SlicesMut(steps(words)?, number(words)?),
-            "for_mut" => Call::ForMut(number(words)?),
-            "rev_mut" => Call::RevMut(number(words)?),
             "next_key" => Call::NextKey,
             "room" => Call::Room,
             "open_buckets" => Call::OpenBuckets,
             "slots" => Call::Slots,
+            _ => return Call::of_number(name, words),
+        };
+        Some(call)
+    }
+
+    fn of_number(name: &str, words: &mut Split<'a, char>) -> Option<Call<'a>> {
+        let call = match name {
+            "reserve" => Call::Reserve(number(words)?),
+            "push" => Call::Push(number(words)?),
+            "last_mut" => Call::LastMut(number(words)?),
+            "alloc" => Call::Alloc(number(words)?),
+            "alloc_many" => Call::AllocMany(number(words)?),
+            "key_of" => Call::KeyOf(number(words)?),
+            "for_mut" => Call::ForMut(number(words)?),
+            "rev_mut" => Call::RevMut(number(words)?),
             "bucket" => Call::Bucket(number(words)?),
             "place" => Call::Place(number(words)?),
             "size_of_bucket_at" => Call::SizeOfBucketAt(number(words)?),
+            _ => return Call::of_numbers(name, words),
+        };
+        Some(call)
+    }
+
+    fn of_numbers(name: &str, words: &mut Split<'a, char>) -> Option<Call<'a>> {
+        let call = match name {
+            "swap" => Call::Swap(number(words)?, number(words)?),
+            "get_disjoint_mut" => {
+                Call::GetDisjointMut(number(words)?, number(words)?, number(words)?)
+            }
+            "extend" => Call::Extend(number(words)?, number(words)?),
+            "from_iter" => Call::FromIter(number(words)?, number(words)?),
+            "slices" => Call::Slices(steps(words)?),
+            "iter" => Call::Iter(steps(words)?),
+            "iter_mut" => Call::IterMut(steps(words)?, number(words)?),
+            "slices_mut" => Call::SlicesMut(steps(words)?, number(words)?),
+            _ => Call::Item(number(words)?, ItemCall::named(name, words)?),
+        };
+        Some(call)
+    }
+}
+
+impl ItemCall {
+    fn named(name: &str, words: &mut Split<'_, char>) -> Option<ItemCall> {
+        let call = match name {
+            "get" => ItemCall::Get,
+            "get_mut" => ItemCall::GetMut(number(words)?),
+            "put" => ItemCall::Put(number(words)?),
+            "has" => ItemCall::Has,
+            "set" => ItemCall::Set(number(words)?),
+            "unset" => ItemCall::Unset,
+            "index" => ItemCall::Index,
+            "index_mut" => ItemCall::IndexMut(number(words)?),
             _ => return None,
         };
         Some(call)

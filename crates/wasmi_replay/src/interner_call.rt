@@ -5,7 +5,7 @@ use std::str::Split;
 use wasmi_collections::string_interner::InternHint;
 
 /// A call on an interner, named as the method is.
-#[derive(Clone, Copy, Debug)]
+#[derive(Clone, Copy)]
 pub enum InternerCall<'a> {
     Len,
     IsEmpty,

@@ -1,7 +1,7 @@
 //! The container that a line names.
 
 /// What a line `on ..` names.
-#[derive(Clone, Copy, Debug)]
+#[derive(Clone, Copy)]
 pub enum Named {
     StableVec,
     HeadVec,
@@ -14,7 +14,7 @@ pub enum Named {
 }
 
 /// A container whose items have keys.
-#[derive(Clone, Copy, Debug)]
+#[derive(Clone, Copy)]
 pub enum Keyed {
     StableArena,
     Arena,
@@ -23,7 +23,7 @@ pub enum Keyed {
 }
 
 /// A type of keys.
-#[derive(Clone, Copy, Debug)]
+#[derive(Clone, Copy)]
 pub enum Keys {
     U32,
     Usize,

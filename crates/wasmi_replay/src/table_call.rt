@@ -4,7 +4,7 @@ use crate::call::number;
 use std::str::Split;
 
 /// A call on a map or a set, named as the method is. A set has elements for keys, and no items.
-#[derive(Clone, Copy, Debug, PartialEq, Eq)]
+#[derive(Clone, Copy)]
 pub enum TableCall {
     Len,
     IsEmpty,
@@ -37,7 +37,7 @@ pub enum TableCall {
 }
 
 /// A call on one key.
-#[derive(Clone, Copy, Debug, PartialEq, Eq)]
+#[derive(Clone, Copy)]
 pub enum KeyCall {
     Insert(i64),
     Get,
@@ -56,7 +56,7 @@ pub enum KeyCall {
 }
 
 /// A call on the entry of a key. What a reference comes back for is written, last.
-#[derive(Clone, Copy, Debug, PartialEq, Eq)]
+#[derive(Clone, Copy)]
 pub enum EntryCall {
     Look,
     Key,
@@ -76,7 +76,7 @@ pub enum EntryCall {
 }
 
 /// Where a walk goes.
-#[derive(Clone, Copy, Debug, PartialEq, Eq)]
+#[derive(Clone, Copy)]
 pub enum WalkCall {
     Iter,
     Keys,
@@ -90,7 +90,7 @@ pub enum WalkCall {
 }
 
 /// A call on two sets: this one and the other.
-#[derive(Clone, Copy, Debug, PartialEq, Eq)]
+#[derive(Clone, Copy)]
 pub enum BothCall {
     IsSubset,
     IsSuperset,
@@ -216,6 +216,14 @@ impl EntryCall {
             "or_insert_with_key" => EntryCall::OrInsertWithKey(number(words)?),
             "or_default" => EntryCall::OrDefault(number(words)?),
             "and_modify" => EntryCall::AndModify(number(words)?, number(words)?),
+            _ => return EntryCall::of_side(name, words),
+        };
+        Some(call)
+    }
+
+    // A call on an entry that is there, or on one that isn't.
+    fn of_side(name: &str, words: &mut Split<'_, char>) -> Option<EntryCall> {
+        let call = match name {
             "occupied_get_mut" => EntryCall::GetMut(number(words)?),
             "occupied_insert" => EntryCall::Insert(number(words)?),
             "occupied_into_mut" => EntryCall::IntoMut(number(words)?),

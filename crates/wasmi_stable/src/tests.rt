@@ -255,12 +255,17 @@ fn refused_pushes_change_nothing(rt: HostRuntime) -> Result<(), Fail> {
 }
 
 #[test]
-fn keys_have_their_numbers(rt: HostRuntime) -> Result<(), Fail> {
+fn keys_end_where_their_types_do(rt: HostRuntime) -> Result<(), Fail> {
     assert_eq!(rt; NonZero::<u32>::from_usize(4294967295), None);
     assert_eq!(rt; u32::from_usize(4294967295), Some(4294967295));
     assert_eq!(rt; u32::from_usize(4294967296), None);
     assert_eq!(rt; usize::from_usize(usize::MAX), Some(usize::MAX));
     assert_eq!(rt; NonZero::<usize>::from_usize(usize::MAX), None);
+    Ok(())
+}
+
+#[test]
+fn keys_have_their_numbers(rt: HostRuntime) -> Result<(), Fail> {
     for n in [0, 1, 4294967294] {
         assert_eq!(rt; n.into_usize(), n);
         assert_eq!(rt; u32::from_usize(n).ok_or("u32")?.into_usize(), n);
@@ -337,36 +342,30 @@ fn debug_texts_of_commands_and_replies(rt: HostRuntime) -> Result<(), Fail> {
     Ok(())
 }
 
-// An arena under the keys of one type, from the first key on.
-fn fills<Key: ArenaKey + PartialEq>(
-    alloc: Global,
-    first: Key,
-    second: Key,
-) -> Result<bool, ArenaError> {
+// Whether an arena gives the first keys of a type to its first items.
+fn fills<Key: ArenaKey + PartialEq>(alloc: Global, first: Key, second: Key) -> bool {
     let mut arena: StableArena<Key, u8> = StableArena::new(alloc);
-    let starts = arena.is_empty() && arena.next_key()? == first && arena.room() == 0;
-    let keys = arena.alloc(7)? == first && arena.alloc(8)? == second;
-    let reads = *arena.get(first)? == 7 && *arena.get(second)? == 8;
+    let starts = arena.is_empty() && arena.next_key() == Ok(first) && arena.room() == 0;
+    let keys = arena.alloc(7) == Ok(first) && arena.alloc(8) == Ok(second);
+    let reads = arena.get(first) == Ok(&7) && arena.get(second) == Ok(&8);
     let mut entries = arena.iter();
     let walks = entries.len() == 2 && entries.next() == Some((first, &7)) && entries.len() == 1;
-    Ok(
-        starts
-            && keys
-            && reads
-            && walks
-            && arena.len() == 2
-            && arena.room() == 30
-            && arena.items().len() == 2,
-    )
+    starts
+        && keys
+        && reads
+        && walks
+        && arena.len() == 2
+        && arena.room() == 30
+        && arena.items().len() == 2
 }
 
 #[test]
 fn arenas_under_two_keys(rt: HostRuntime) -> Result<(), Fail> {
-    assert!(rt; fills(rt.alloc(), 0usize, 1)?);
-    assert!(rt; fills(rt.alloc(), 0u32, 1)?);
+    assert!(rt; fills(rt.alloc(), 0usize, 1));
+    assert!(rt; fills(rt.alloc(), 0u32, 1));
     let one = NonZero::<u32>::new(1).ok_or("one")?;
     let two = NonZero::<u32>::new(2).ok_or("two")?;
-    assert!(rt; fills(rt.alloc(), one, two)?);
+    assert!(rt; fills(rt.alloc(), one, two));
     let arena: StableArena<usize, u8> = StableArena::new(rt.alloc());
     assert_eq!(rt; arena.get(0), Err(ArenaError::KeyOutOfBounds));
     Ok(())
@@ -374,10 +373,7 @@ fn arenas_under_two_keys(rt: HostRuntime) -> Result<(), Fail> {
 
 #[test]
 fn items_are_exchanged(rt: HostRuntime) -> Result<(), Fail> {
-    let mut arena: StableArena<u32, u32> = StableArena::new(rt.alloc());
-    for i in 0..100 {
-        arena.alloc(i)?;
-    }
+    let mut arena: StableArena<u32, u32> = StableArena::from_iter(rt.alloc(), 0..100)?;
     for key in 0..100 {
         assert_eq!(rt; arena.put(key, 1000)?, key);
         *arena.get_mut(key)? = 99 - key;
@@ -385,16 +381,31 @@ fn items_are_exchanged(rt: HostRuntime) -> Result<(), Fail> {
     for key in 0..100 {
         assert_eq!(rt; arena.get(key), Ok(&(99 - key)));
     }
-    assert_eq!(rt; arena.put(100, 7), Err(ArenaError::KeyOutOfBounds));
-    assert!(rt; arena.get_mut(100).is_err());
-    assert!(rt; arena.has(99) && !arena.has(100));
     assert_eq!(rt; (arena.len(), arena.items().open_buckets()), (100, 3));
+    Ok(())
+}
+
+#[test]
+fn walks_give_what_was_written(rt: HostRuntime) -> Result<(), Fail> {
+    let mut arena: StableArena<u32, u32> = StableArena::from_iter(rt.alloc(), 0..100)?;
+    for key in 0..100 {
+        *arena.get_mut(key)? = 99 - key;
+    }
     for (key, item) in &arena {
         assert_eq!(rt; key.wrapping_add(*item), 99);
     }
     for item in arena.items() {
         assert!(rt; *item < 100);
     }
+    Ok(())
+}
+
+#[test]
+fn no_item_at_the_next_key(rt: HostRuntime) -> Result<(), Fail> {
+    let mut arena: StableArena<u32, u32> = StableArena::from_iter(rt.alloc(), 0..100)?;
+    assert_eq!(rt; arena.put(100, 7), Err(ArenaError::KeyOutOfBounds));
+    assert!(rt; arena.get_mut(100).is_err());
+    assert!(rt; arena.has(99) && !arena.has(100));
     Ok(())
 }
 
@@ -447,10 +458,7 @@ fn a_run_of_commands(rt: HostRuntime) -> Result<(), Fail> {
 
 #[test]
 fn items_change_places(rt: HostRuntime) -> Result<(), Fail> {
-    let mut vec = StableVec::new(rt.alloc());
-    for item in 0..100 {
-        vec.push(item)?;
-    }
+    let mut vec: StableVec<usize> = StableVec::from_iter(rt.alloc(), 0..100)?;
     // In one bucket, in two, in either order.
     for (first, second) in [(0, 31), (31, 32), (96, 5), (99, 98)] {
         vec.swap(first, second)?;
@@ -464,6 +472,12 @@ fn items_change_places(rt: HostRuntime) -> Result<(), Fail> {
             (Some(&first), Some(&second))
         );
     }
+    Ok(())
+}
+
+#[test]
+fn a_refused_exchange_changes_nothing(rt: HostRuntime) -> Result<(), Fail> {
+    let mut vec: StableVec<usize> = StableVec::from_iter(rt.alloc(), 0..100)?;
     for index in [5, 100] {
         assert_eq!(rt; vec.swap(index, index), Err(ArenaError::AliasingPairAccess));
         assert_eq!(rt; vec.swap(index, 101), Err(ArenaError::KeyOutOfBounds));

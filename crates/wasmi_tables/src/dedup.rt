@@ -130,26 +130,33 @@ fn a_repeat_needs_no_key(rt: HostRuntime) -> Result<(), Fail> {
 #[test]
 fn commands_and_replies(rt: HostRuntime) -> Result<(), Fail> {
     let mut arena: DedupArena<usize, &str> = DedupArena::new(rt.alloc());
-    let mut commands = Vec::new(rt.alloc());
-    let mut wanted = Vec::new(rt.alloc());
-    for (command, reply) in [
-        (DedupCommand::Alloc("x"), DedupReply::Key(0)),
-        (DedupCommand::Alloc("y"), DedupReply::Key(1)),
-        (DedupCommand::Put(0, "y"), DedupReply::Old("x")),
-        (DedupCommand::Alloc("x"), DedupReply::Key(0)),
-        (DedupCommand::Alloc("y"), DedupReply::Key(1)),
-        (DedupCommand::Has(2), DedupReply::Has(false)),
-        (
-            DedupCommand::Put(2, "z"),
+    let commands = vec![in rt.alloc();
+        DedupCommand::Alloc("x"),
+        DedupCommand::Alloc("y"),
+        DedupCommand::Put(0, "y"),
+        DedupCommand::Alloc("x"),
+        DedupCommand::Alloc("y"),
+        DedupCommand::Has(2),
+        DedupCommand::Put(2, "z"),
+        DedupCommand::Clear,
+        DedupCommand::Alloc("y"),
+    ]?;
+    let replies = run_dedup(rt.alloc(), &mut arena, commands)?;
+    assert_eq!(rt;
+        replies.as_slice(),
+        [
+            DedupReply::Key(0),
+            DedupReply::Key(1),
+            DedupReply::Old("x"),
+            DedupReply::Key(0),
+            DedupReply::Key(1),
+            DedupReply::Has(false),
             DedupReply::Refused(ArenaError::KeyOutOfBounds),
-        ),
-        (DedupCommand::Clear, DedupReply::Done),
-        (DedupCommand::Alloc("y"), DedupReply::Key(0)),
-    ] {
-        commands.push(command)?;
-        wanted.push(reply)?;
-    }
-    assert!(rt; run_dedup(rt.alloc(), &mut arena, commands)? == wanted);
+            DedupReply::Done,
+            DedupReply::Key(0)
+        ]
+        .as_slice()
+    );
     Ok(())
 }
 
@@ -247,6 +254,23 @@ fn a_refused_clone_changes_nothing(rt: HostRuntime) -> Result<(), Fail> {
     Ok(())
 }
 
+// Whether the values from 0 on were replied to by the keys in turn, or else refused, and have these keys.
+fn are_in_turn(
+    arena: &DedupArena<usize, u32, &Observed<'_>>,
+    replies: Vec<DedupReply<usize, u32>, &Observed<'_>>,
+) -> bool {
+    let mut next = 0usize;
+    for (value, reply) in (0u32..).zip(replies) {
+        let key = arena.index().get(&value).copied();
+        if reply == DedupReply::Key(next) && key == Some(next) {
+            next = next.wrapping_add(1);
+        } else if reply != DedupReply::Refused(ArenaError::OutOfSystemMemory) || key.is_some() {
+            return false;
+        }
+    }
+    arena.len() == next
+}
+
 // Each request of a run refused in turn. The first is for the replies.
 #[test]
 fn a_run_goes_on_after_a_refusal(rt: HostRuntime) -> Result<(), Fail> {
@@ -255,35 +279,16 @@ fn a_run_goes_on_after_a_refusal(rt: HostRuntime) -> Result<(), Fail> {
         {
             let heap = Observed::new(rt.alloc(), &log);
             let mut arena: DedupArena<usize, u32, &Observed<'_>> = DedupArena::new(&heap);
-            let mut commands = Vec::new(&heap);
-            for value in 0..20u32 {
-                commands.push(DedupCommand::Alloc(value))?;
-            }
+            let commands = (0..20u32)
+                .map(|value| DedupCommand::Alloc(value))
+                .collect(&heap)?;
             log.refuse_once(nth);
             match run_dedup(&heap, &mut arena, commands) {
-                Err(error) => {
-                    assert_eq!(rt;
-                        (nth, error, arena.len()),
-                        (1, ArenaError::OutOfSystemMemory, 0)
-                    );
-                }
-                Ok(replies) => {
-                    let mut next = 0usize;
-                    for (value, reply) in (0u32..).zip(replies) {
-                        let key = arena.index().get(&value).copied();
-                        match reply {
-                            DedupReply::Key(given) => {
-                                assert_eq!(rt; (given, key), (next, Some(next)), "at {nth}");
-                                next = next.wrapping_add(1);
-                            }
-                            other => {
-                                let refused = DedupReply::Refused(ArenaError::OutOfSystemMemory);
-                                assert_eq!(rt; (other, key), (refused, None), "at {nth}");
-                            }
-                        }
-                    }
-                    assert_eq!(rt; arena.len(), next, "at {nth}");
-                }
+                Ok(replies) => assert!(rt; are_in_turn(&arena, replies), "at {nth}"),
+                Err(error) => assert_eq!(rt;
+                    (nth, error, arena.len()),
+                    (1, ArenaError::OutOfSystemMemory, 0)
+                ),
             }
             for value in 0..20u32 {
                 arena.alloc(value)?;

@@ -404,6 +404,37 @@ fn a_refused_clone_leaves_its_source(rt: HostRuntime) -> Result<(), Fail> {
     Ok(())
 }
 
+// Commands that hand in each name.
+fn hand_ins<'a, 'l>(
+    alloc: Global,
+    heap: &'a Observed<'l>,
+) -> Result<Vec<InternCommand, &'a Observed<'l>>, AllocError> {
+    let mut commands = Vec::new(heap);
+    for name in NAMES {
+        let text = String::from_str(alloc, name)?;
+        commands.push(InternCommand::Intern(text, InternHint::None))?;
+    }
+    Ok(commands)
+}
+
+// Whether the names were replied to by the symbols in turn, or else refused, and have these symbols.
+fn are_in_turn(
+    interner: &StringInterner<&Observed<'_>>,
+    replies: Vec<InternReply, &Observed<'_>>,
+) -> bool {
+    let mut next = 0u32;
+    for (name, reply) in NAMES.into_iter().zip(replies) {
+        let wanted = Sym::from_u32(next);
+        let symbol = interner.get(name);
+        if reply == InternReply::Sym(wanted) && symbol == Some(wanted) {
+            next = next.wrapping_add(1);
+        } else if reply != InternReply::Refused(ArenaError::OutOfSystemMemory) || symbol.is_some() {
+            return false;
+        }
+    }
+    interner.len() == next as usize
+}
+
 // Each request of a run refused in turn. The first is for the replies.
 #[test]
 fn a_run_goes_on_after_a_refusal(rt: HostRuntime) -> Result<(), Fail> {
@@ -412,37 +443,14 @@ fn a_run_goes_on_after_a_refusal(rt: HostRuntime) -> Result<(), Fail> {
         {
             let handle = Observed::new(rt.alloc(), &log);
             let mut interner = StringInterner::new(&handle);
-            let mut commands = Vec::new(&handle);
-            for name in NAMES {
-                let text = String::from_str(rt.alloc(), name)?;
-                commands.push(InternCommand::Intern(text, InternHint::None))?;
-            }
+            let commands = hand_ins(rt.alloc(), &handle)?;
             log.refuse_once(nth);
             match run_interner(&handle, &mut interner, commands) {
-                Err(error) => {
-                    assert_eq!(rt;
-                        (nth, error, interner.len()),
-                        (1, ArenaError::OutOfSystemMemory, 0)
-                    );
-                }
-                Ok(replies) => {
-                    let mut next = 0u32;
-                    for (name, reply) in NAMES.into_iter().zip(replies) {
-                        let symbol = interner.get(name);
-                        match reply {
-                            InternReply::Sym(given) => {
-                                let wanted = Sym::from_u32(next);
-                                assert_eq!(rt; (given, symbol), (wanted, Some(wanted)), "at {nth}");
-                                next = next.wrapping_add(1);
-                            }
-                            other => {
-                                let refused = InternReply::Refused(ArenaError::OutOfSystemMemory);
-                                assert_eq!(rt; (other, symbol), (refused, None), "at {nth}");
-                            }
-                        }
-                    }
-                    assert_eq!(rt; interner.len(), next as usize, "at {nth}");
-                }
+                Ok(replies) => assert!(rt; are_in_turn(&interner, replies), "at {nth}"),
+                Err(error) => assert_eq!(rt;
+                    (nth, error, interner.len()),
+                    (1, ArenaError::OutOfSystemMemory, 0)
+                ),
             }
             for name in NAMES {
                 let _symbol = interner.get_or_intern(name)?;

@@ -95,6 +95,14 @@ fn an_extent_stays(rt: HostRuntime) -> Result<(), Fail> {
     assert_eq!(rt; components.unset(3), Some(5));
     assert_eq!(rt; components.unset(4), None);
     assert_eq!(rt; components.extent(), 4);
+    Ok(())
+}
+
+#[test]
+fn clear_takes_the_extent_back(rt: HostRuntime) -> Result<(), Fail> {
+    let mut components: ComponentVec<usize, i32> = ComponentVec::new(rt.alloc());
+    components.set(3, 9)?;
+    components.unset(3);
     let fresh = ComponentVec::new(rt.alloc());
     assert!(rt; components != fresh && fresh != components);
     components.clear();

@@ -83,7 +83,6 @@ fn items_come_back_from_the_end(rt: HostRuntime) -> Result<(), Fail> {
     if let Some(last) = items.last_mut() {
         *last = 30;
     }
-    assert_eq!(rt; format!(in rt.alloc(); "{items:?}")?.as_str(), "[1, 2, 30]");
     let copy = items.clone()?;
     assert_eq!(rt;
         (items.pop(), items.pop(), items.pop()),
@@ -91,10 +90,16 @@ fn items_come_back_from_the_end(rt: HostRuntime) -> Result<(), Fail> {
     );
     assert_eq!(rt; (items.pop(), items.len()), (None, 0));
     assert_eq!(rt; copy, list(rt.alloc(), &[1, 2, 30])?);
-    let mut copy = copy;
-    copy.clear();
-    assert_eq!(rt; copy, items);
-    assert_eq!(rt; format!(in rt.alloc(); "{copy:?}")?.as_str(), "[]");
+    Ok(())
+}
+
+#[test]
+fn lists_print_their_items(rt: HostRuntime) -> Result<(), Fail> {
+    let mut items = list(rt.alloc(), &[1, 2, 30])?;
+    assert_eq!(rt; format!(in rt.alloc(); "{items:?}")?.as_str(), "[1, 2, 30]");
+    items.clear();
+    assert_eq!(rt; items, HeadVec::new(rt.alloc()));
+    assert_eq!(rt; format!(in rt.alloc(); "{items:?}")?.as_str(), "[]");
     let mut one = list(rt.alloc(), &[1])?;
     assert_eq!(rt; format!(in rt.alloc(); "{one:?}")?.as_str(), "[1]");
     assert_eq!(rt; (one.pop(), one.pop()), (Some(1), None));

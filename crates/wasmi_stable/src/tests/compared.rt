@@ -7,15 +7,6 @@ use std::num::NonZero;
 use std::test::Fail;
 use wasmi_arena::{ArenaError, StableArena, StableVec};
 
-// A vector of these items.
-fn vec_of<T: Copy + Drop>(alloc: Global, items: &[T]) -> Result<StableVec<T>, ArenaError> {
-    let mut vec = StableVec::new(alloc);
-    for item in items {
-        vec.push(*item)?;
-    }
-    Ok(vec)
-}
-
 // A vector of 0, 1 and so on, with another item at one index.
 fn exchanged(alloc: Global, len: u32, index: u32, item: u32) -> Result<StableVec<u32>, ArenaError> {
     let mut vec = StableVec::new(alloc);
@@ -25,9 +16,9 @@ fn exchanged(alloc: Global, len: u32, index: u32, item: u32) -> Result<StableVec
     Ok(vec)
 }
 
-fn hash_of<T: Hash>(value: &T) -> u64 {
+fn hash_of(vec: &StableVec<u32>) -> u64 {
     let mut hasher = DefaultHasher::new();
-    value.hash(&mut hasher);
+    vec.hash(&mut hasher);
     hasher.finish()
 }
 
@@ -39,7 +30,14 @@ fn equal_lists_are_equal(rt: HostRuntime) -> Result<(), Fail> {
         assert_eq!(rt; vec.cmp(&same), Ordering::Equal);
         assert_eq!(rt; vec.partial_cmp(&same), Some(Ordering::Equal));
         assert_eq!(rt; hash_of(&vec), hash_of(&same), "at {len}");
-        // One item more.
+    }
+    Ok(())
+}
+
+#[test]
+fn one_item_more_is_greater(rt: HostRuntime) -> Result<(), Fail> {
+    for len in [0, 1, 31, 32, 33, 95, 96, 97, 100, 300] {
+        let vec = counted(rt.alloc(), len)?;
         let longer = counted(rt.alloc(), len + 1)?;
         assert!(rt; vec != longer && longer != vec, "at {len}");
         assert!(rt; vec < longer && longer > vec, "at {len}");
@@ -58,11 +56,18 @@ fn lists_that_differ_at_one_index(rt: HostRuntime) -> Result<(), Fail> {
         assert!(rt; vec != other && other != vec, "at {index}");
         assert_eq!(rt; vec.cmp(&other), Ordering::Less, "at {index}");
         assert_eq!(rt; other.cmp(&vec), Ordering::Greater, "at {index}");
-        // The first index decides, whatever the lengths are.
-        let longer = counted(rt.alloc(), 500)?;
+        assert!(rt; hash_of(&vec) != hash_of(&other), "at {index}");
+    }
+    Ok(())
+}
+
+#[test]
+fn the_first_index_that_differs_decides(rt: HostRuntime) -> Result<(), Fail> {
+    let longer = counted(rt.alloc(), 500)?;
+    for index in [0, 31, 32, 95, 96, 223, 224, 299] {
+        let other = exchanged(rt.alloc(), 300, index, 1000)?;
         assert_eq!(rt; longer.cmp(&other), Ordering::Less, "at {index}");
         assert_eq!(rt; other.partial_cmp(&longer), Some(Ordering::Greater));
-        assert!(rt; hash_of(&vec) != hash_of(&other), "at {index}");
     }
     Ok(())
 }
@@ -70,12 +75,12 @@ fn lists_that_differ_at_one_index(rt: HostRuntime) -> Result<(), Fail> {
 #[test]
 fn ord_is_lexicographic(rt: HostRuntime) -> Result<(), Fail> {
     let ascending = [
-        vec_of(rt.alloc(), &[])?,
-        vec_of(rt.alloc(), &[1])?,
-        vec_of(rt.alloc(), &[1, 2])?,
-        vec_of(rt.alloc(), &[1, 2, 3])?,
-        vec_of(rt.alloc(), &[1, 3])?,
-        vec_of(rt.alloc(), &[2u8])?,
+        StableVec::new(rt.alloc()),
+        StableVec::from_iter(rt.alloc(), [1])?,
+        StableVec::from_iter(rt.alloc(), [1, 2])?,
+        StableVec::from_iter(rt.alloc(), [1, 2, 3])?,
+        StableVec::from_iter(rt.alloc(), [1, 3])?,
+        StableVec::from_iter(rt.alloc(), [2u8])?,
     ];
     for (i, left) in ascending.iter().enumerate() {
         for (k, right) in ascending.iter().enumerate() {
@@ -89,30 +94,35 @@ fn ord_is_lexicographic(rt: HostRuntime) -> Result<(), Fail> {
 
 #[test]
 fn items_without_an_order(rt: HostRuntime) -> Result<(), Fail> {
-    let nan = vec_of(rt.alloc(), &[1.0, f64::NAN])?;
-    let other = vec_of(rt.alloc(), &[1.0, f64::NAN, 2.0])?;
+    let nan = StableVec::from_iter(rt.alloc(), [1.0, f64::NAN])?;
+    let other = StableVec::from_iter(rt.alloc(), [1.0, f64::NAN, 2.0])?;
     assert!(rt; nan != nan);
     assert_eq!(rt; nan.partial_cmp(&other), None);
-    let below = vec_of(rt.alloc(), &[0.5, f64::NAN])?;
+    let below = StableVec::from_iter(rt.alloc(), [0.5, f64::NAN])?;
     assert_eq!(rt; below.partial_cmp(&nan), Some(Ordering::Less));
     Ok(())
 }
 
 #[test]
 fn items_without_size_are_counted(rt: HostRuntime) -> Result<(), Fail> {
-    let three = vec_of(rt.alloc(), &[(), (), ()])?;
-    let same = vec_of(rt.alloc(), &[(), (), ()])?;
-    let two = vec_of(rt.alloc(), &[(), ()])?;
+    let three = StableVec::from_iter(rt.alloc(), [(), (), ()])?;
+    let same = StableVec::from_iter(rt.alloc(), [(), (), ()])?;
+    let two = StableVec::from_iter(rt.alloc(), [(), ()])?;
     assert!(rt; three == same && three != two && three > two);
     Ok(())
 }
 
 #[test]
-fn debug_texts_of_vectors_and_arenas(rt: HostRuntime) -> Result<(), Fail> {
-    let vec = vec_of(rt.alloc(), &[1, 2, 3])?;
+fn debug_texts_of_vectors(rt: HostRuntime) -> Result<(), Fail> {
+    let vec = StableVec::from_iter(rt.alloc(), [1, 2, 3])?;
     assert_eq!(rt; format!(in rt.alloc(); "{vec:?}")?.as_str(), "[1, 2, 3]");
-    let none = vec_of::<u8>(rt.alloc(), &[])?;
+    let none = StableVec::<u8>::new(rt.alloc());
     assert_eq!(rt; format!(in rt.alloc(); "{none:?}")?.as_str(), "[]");
+    Ok(())
+}
+
+#[test]
+fn debug_texts_of_arenas(rt: HostRuntime) -> Result<(), Fail> {
     let mut arena: StableArena<u32, bool> = StableArena::new(rt.alloc());
     assert_eq!(rt; format!(in rt.alloc(); "{arena:?}")?.as_str(), "{}");
     arena.alloc(true)?;
@@ -121,7 +131,11 @@ fn debug_texts_of_vectors_and_arenas(rt: HostRuntime) -> Result<(), Fail> {
         format!(in rt.alloc(); "{arena:?}")?.as_str(),
         "{0: true, 1: false}"
     );
-    // Its keys, and not its positions.
+    Ok(())
+}
+
+#[test]
+fn an_arena_prints_its_keys(rt: HostRuntime) -> Result<(), Fail> {
     let keyed: StableArena<NonZero<u32>, u8> = StableArena::from_iter(rt.alloc(), 7..9)?;
     assert_eq!(rt;
         format!(in rt.alloc(); "{keyed:?}")?.as_str(),

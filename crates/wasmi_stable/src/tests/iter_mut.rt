@@ -100,6 +100,12 @@ fn slices_are_written(rt: HostRuntime) -> Result<(), Fail> {
     }
     assert_eq!(rt; format!(in rt.alloc(); "{lens:?}")?.as_str(), "[32, 64, 4]");
     assert!(rt; vec.iter().all(|item| *item == 7));
+    Ok(())
+}
+
+#[test]
+fn slices_are_written_from_both_ends(rt: HostRuntime) -> Result<(), Fail> {
+    let mut vec = counted(rt.alloc(), 100)?;
     let mut slices = vec.slices_mut();
     assert_eq!(rt; slices.len(), 3);
     slices.next_back().ok_or("last")?.fill(9);
@@ -115,7 +121,7 @@ fn slices_are_written(rt: HostRuntime) -> Result<(), Fail> {
     ];
     assert_eq!(rt;
         read,
-        [Some(&8), Some(&8), Some(&7), Some(&7), Some(&9), Some(&9)]
+        [Some(&8), Some(&8), Some(&32), Some(&95), Some(&9), Some(&9)]
     );
     assert_eq!(rt; vec.len(), 100);
     Ok(())

@@ -28,7 +28,14 @@ fn slices_hold_the_items(rt: HostRuntime) -> Result<(), Fail> {
         let all: Vec<u32> = (0..len).collect(rt.alloc())?;
         assert_eq!(rt; items, all, "at {len}");
         assert_eq!(rt; vec.slices().len(), vec.open_buckets(), "at {len}");
-        // From the back.
+    }
+    Ok(())
+}
+
+#[test]
+fn slices_from_the_back_hold_the_items(rt: HostRuntime) -> Result<(), Fail> {
+    for len in [0, 1, 32, 33, 100, 300] {
+        let vec = counted(rt.alloc(), len)?;
         let mut items = Vec::new(rt.alloc());
         for part in vec.slices().rev() {
             for item in part.iter().rev() {
