@@ -99,6 +99,12 @@ fn two_hundred_pushes(rt: HostRuntime) -> Result<(), Fail> {
         assert_eq!(rt; vec.get(i), Some(&i));
     }
     assert_eq!(rt; vec.get(200), None);
+    Ok(())
+}
+
+#[test]
+fn two_hundred_items_in_three_buckets(rt: HostRuntime) -> Result<(), Fail> {
+    let vec = counted(rt.alloc(), 200)?;
     for (bucket, len, capacity) in [(0, 32, 32), (1, 64, 64), (2, 104, 128)] {
         let open = vec.bucket(bucket).ok_or("not open")?;
         assert_eq!(rt; open.slice().len(), len);
@@ -107,6 +113,12 @@ fn two_hundred_pushes(rt: HostRuntime) -> Result<(), Fail> {
     assert!(rt; vec.bucket(3).is_none());
     assert!(rt; vec.bucket(27).is_none());
     assert_eq!(rt; vec.room(), 24);
+    Ok(())
+}
+
+#[test]
+fn a_walk_knows_its_length(rt: HostRuntime) -> Result<(), Fail> {
+    let vec = counted(rt.alloc(), 200)?;
     let mut items = vec.iter();
     assert_eq!(rt; items.len(), 200);
     assert_eq!(rt; items.next(), Some(&0));
