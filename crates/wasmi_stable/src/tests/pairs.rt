@@ -1,4 +1,4 @@
-//! Two items that are written at once.
+//! Two items that are written at once, or exchanged.
 use super::counted;
 use std::test::Fail;
 use wasmi_arena::{ArenaError, StableArena, StableVec};
@@ -143,5 +143,38 @@ fn two_items_without_size(rt: HostRuntime) -> Result<(), Fail> {
         Err(ArenaError::KeyOutOfBounds)
     );
     assert_eq!(rt; vec.len(), 40);
+    Ok(())
+}
+
+#[test]
+fn items_change_places(rt: HostRuntime) -> Result<(), Fail> {
+    let mut vec: StableVec<usize> = StableVec::from_iter(rt.alloc(), 0..100)?;
+    // In one bucket, in two, in either order.
+    for (first, second) in [(0, 31), (31, 32), (96, 5), (99, 98)] {
+        vec.swap(first, second)?;
+        assert_eq!(rt;
+            (vec.get(first), vec.get(second)),
+            (Some(&second), Some(&first))
+        );
+        vec.swap(second, first)?;
+        assert_eq!(rt;
+            (vec.get(first), vec.get(second)),
+            (Some(&first), Some(&second))
+        );
+    }
+    Ok(())
+}
+
+#[test]
+fn a_refused_exchange_changes_nothing(rt: HostRuntime) -> Result<(), Fail> {
+    let mut vec: StableVec<usize> = StableVec::from_iter(rt.alloc(), 0..100)?;
+    for index in [5, 100] {
+        assert_eq!(rt; vec.swap(index, index), Err(ArenaError::AliasingPairAccess));
+        assert_eq!(rt; vec.swap(index, 101), Err(ArenaError::KeyOutOfBounds));
+        assert_eq!(rt; vec.swap(101, index), Err(ArenaError::KeyOutOfBounds));
+    }
+    for (index, item) in (0..100).zip(vec.iter()) {
+        assert_eq!(rt; &index, item);
+    }
     Ok(())
 }
