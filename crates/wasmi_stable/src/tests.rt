@@ -15,6 +15,7 @@ use std::test::Fail;
 use wasmi_arena::{
     ArenaCommand, ArenaError, ArenaKey, ArenaReply, StableArena, StableVec, run_arena,
 };
+use wasmi_asserts::assert_equal;
 
 // A vector of 0, 1 and so on.
 fn counted(alloc: Global, len: u32) -> Result<StableVec<u32>, ArenaError> {
@@ -53,13 +54,13 @@ fn places_are_those_of_the_table(rt: HostRuntime) {
         (4294967263, (26, 2147483647)),
     ] {
         if index < 4294967264 {
-            assert_eq!(rt; StableVec::<u8>::place(index), place, "at {index}");
-            assert_eq!(rt; place_by_walk(index), place, "at {index}");
+            assert_equal!(rt; StableVec::<u8>::place(index), place, "at {index}");
+            assert_equal!(rt; place_by_walk(index), place, "at {index}");
         }
     }
     for (bucket, size) in [(0, 32), (1, 64), (2, 128), (26, 2147483648)] {
         if bucket < 27 {
-            assert_eq!(rt;
+            assert_equal!(rt;
                 StableVec::<u8>::size_of_bucket_at(bucket),
                 size,
                 "at {bucket}"
@@ -79,9 +80,9 @@ fn buckets_are_the_fewest(rt: HostRuntime) -> Result<(), Fail> {
         (97, 3, 224),
     ] {
         let vec = counted(rt.alloc(), len)?;
-        assert_eq!(rt; vec.open_buckets(), open, "at {len}");
-        assert_eq!(rt; vec.slots(), slots, "at {len}");
-        assert_eq!(rt; vec.room() + vec.len(), slots, "at {len}");
+        assert_equal!(rt; vec.open_buckets(), open, "at {len}");
+        assert_equal!(rt; vec.slots(), slots, "at {len}");
+        assert_equal!(rt; vec.room() + vec.len(), slots, "at {len}");
     }
     Ok(())
 }
@@ -91,14 +92,14 @@ fn two_hundred_pushes(rt: HostRuntime) -> Result<(), Fail> {
     let mut vec = StableVec::new(rt.alloc());
     assert!(rt; vec.is_empty());
     for i in 0..200usize {
-        assert_eq!(rt; vec.push(i)?, i);
+        assert_equal!(rt; vec.push(i)?, i);
     }
-    assert_eq!(rt; vec.len(), 200);
+    assert_equal!(rt; vec.len(), 200);
     assert!(rt; !vec.is_empty());
     for i in 0..200usize {
-        assert_eq!(rt; vec.get(i), Some(&i));
+        assert_equal!(rt; vec.get(i), Some(&i));
     }
-    assert_eq!(rt; vec.get(200), None);
+    assert_equal!(rt; vec.get(200), None);
     Ok(())
 }
 
@@ -107,12 +108,12 @@ fn two_hundred_items_in_three_buckets(rt: HostRuntime) -> Result<(), Fail> {
     let vec = counted(rt.alloc(), 200)?;
     for (bucket, len, capacity) in [(0, 32, 32), (1, 64, 64), (2, 104, 128)] {
         let open = vec.bucket(bucket).ok_or("not open")?;
-        assert_eq!(rt; open.slice().len(), len);
-        assert_eq!(rt; open.capacity(), capacity);
+        assert_equal!(rt; open.slice().len(), len);
+        assert_equal!(rt; open.capacity(), capacity);
     }
     assert!(rt; vec.bucket(3).is_none());
     assert!(rt; vec.bucket(27).is_none());
-    assert_eq!(rt; vec.room(), 24);
+    assert_equal!(rt; vec.room(), 24);
     Ok(())
 }
 
@@ -120,10 +121,10 @@ fn two_hundred_items_in_three_buckets(rt: HostRuntime) -> Result<(), Fail> {
 fn a_walk_knows_its_length(rt: HostRuntime) -> Result<(), Fail> {
     let vec = counted(rt.alloc(), 200)?;
     let mut items = vec.iter();
-    assert_eq!(rt; items.len(), 200);
-    assert_eq!(rt; items.next(), Some(&0));
-    assert_eq!(rt; items.len(), 199);
-    assert_eq!(rt; items.filter(|i| **i % 2 == 1).count(), 100);
+    assert_equal!(rt; items.len(), 200);
+    assert_equal!(rt; items.next(), Some(&0));
+    assert_equal!(rt; items.len(), 199);
+    assert_equal!(rt; items.filter(|i| **i % 2 == 1).count(), 100);
     Ok(())
 }
 
@@ -136,10 +137,10 @@ fn writes_through_references(rt: HostRuntime) -> Result<(), Fail> {
         }
     }
     for i in 0..200u32 {
-        assert_eq!(rt; vec.get(i as usize), Some(&(2 * i)));
+        assert_equal!(rt; vec.get(i as usize), Some(&(2 * i)));
     }
     assert!(rt; vec.get_mut(200).is_none());
-    assert_eq!(rt; (vec.len(), vec.open_buckets(), vec.slots()), (200, 3, 224));
+    assert_equal!(rt; (vec.len(), vec.open_buckets(), vec.slots()), (200, 3, 224));
     Ok(())
 }
 
@@ -148,30 +149,30 @@ fn walks_from_both_ends(rt: HostRuntime) -> Result<(), Fail> {
     let vec = counted(rt.alloc(), 200)?;
     let mut items = vec.iter();
     for (front, back) in [(0, 199), (1, 198)] {
-        assert_eq!(rt; items.next(), Some(&front));
-        assert_eq!(rt; items.next_back(), Some(&back));
+        assert_equal!(rt; items.next(), Some(&front));
+        assert_equal!(rt; items.next_back(), Some(&back));
     }
-    assert_eq!(rt; items.len(), 196);
-    assert_eq!(rt; items.next_back(), Some(&197));
+    assert_equal!(rt; items.len(), 196);
+    assert_equal!(rt; items.next_back(), Some(&197));
     let mut backward = vec.iter().rev();
     for wanted in 0..200u32 {
-        assert_eq!(rt; backward.next(), Some(&(199 - wanted)));
+        assert_equal!(rt; backward.next(), Some(&(199 - wanted)));
     }
-    assert_eq!(rt; backward.next(), None);
+    assert_equal!(rt; backward.next(), None);
     // One end comes to the last item of the other's bucket.
     let few = counted(rt.alloc(), 3)?;
     let mut ends = few.iter();
-    assert_eq!(rt; (ends.next_back(), ends.next()), (Some(&2), Some(&0)));
-    assert_eq!(rt; (ends.next(), ends.next_back()), (Some(&1), None));
+    assert_equal!(rt; (ends.next_back(), ends.next()), (Some(&2), Some(&0)));
+    assert_equal!(rt; (ends.next(), ends.next_back()), (Some(&1), None));
     let mut arena: StableArena<u32, u8> = StableArena::new(rt.alloc());
     for item in 0..100 {
         arena.alloc(item)?;
     }
     let mut entries = arena.iter();
-    assert_eq!(rt; entries.next_back(), Some((99, &99)));
-    assert_eq!(rt; entries.next(), Some((0, &0)));
-    assert_eq!(rt; entries.next_back(), Some((98, &98)));
-    assert_eq!(rt; entries.len(), 97);
+    assert_equal!(rt; entries.next_back(), Some((99, &99)));
+    assert_equal!(rt; entries.next(), Some((0, &0)));
+    assert_equal!(rt; entries.next_back(), Some((98, &98)));
+    assert_equal!(rt; entries.len(), 97);
     Ok(())
 }
 
@@ -181,7 +182,7 @@ fn items_without_size(rt: HostRuntime) -> Result<(), Fail> {
     for _ in 0..40 {
         vec.push(())?;
     }
-    assert_eq!(rt; (vec.len(), vec.open_buckets(), vec.slots()), (40, 2, 96));
+    assert_equal!(rt; (vec.len(), vec.open_buckets(), vec.slots()), (40, 2, 96));
     Ok(())
 }
 
@@ -209,10 +210,10 @@ fn each_item_is_dropped_once(rt: HostRuntime) -> Result<(), Fail> {
             number,
         })?;
     }
-    assert_eq!(rt; vec.open_buckets(), 3);
-    assert_eq!(rt; drops.get(), (0, 0));
+    assert_equal!(rt; vec.open_buckets(), 3);
+    assert_equal!(rt; drops.get(), (0, 0));
     drop(vec);
-    assert_eq!(rt; drops.get(), (100, 4950));
+    assert_equal!(rt; drops.get(), (100, 4950));
     Ok(())
 }
 
@@ -242,9 +243,9 @@ fn each_item_is_cloned_once(rt: HostRuntime) -> Result<(), Fail> {
     for _ in 0..100 {
         vec.push(CloneCount { clones: &clones })?;
     }
-    assert_eq!(rt; clones.get(), 0);
+    assert_equal!(rt; clones.get(), 0);
     let twin = vec.clone()?;
-    assert_eq!(rt; (twin.len(), clones.get()), (100, 100));
+    assert_equal!(rt; (twin.len(), clones.get()), (100, 100));
     Ok(())
 }
 
@@ -255,34 +256,34 @@ fn refused_pushes_change_nothing(rt: HostRuntime) -> Result<(), Fail> {
     for i in 0..100usize {
         let before = (vec.len(), vec.open_buckets(), vec.slots());
         if let Err(error) = vec.push(i) {
-            assert_eq!(rt; error, ArenaError::OutOfSystemMemory);
-            assert_eq!(rt; vec.room(), 0);
-            assert_eq!(rt; (vec.len(), vec.open_buckets(), vec.slots()), before);
-            assert_eq!(rt; vec.push(i)?, before.0);
+            assert_equal!(rt; error, ArenaError::OutOfSystemMemory);
+            assert_equal!(rt; vec.room(), 0);
+            assert_equal!(rt; (vec.len(), vec.open_buckets(), vec.slots()), before);
+            assert_equal!(rt; vec.push(i)?, before.0);
         }
-        assert_eq!(rt; vec.get(i), Some(&i));
+        assert_equal!(rt; vec.get(i), Some(&i));
     }
-    assert_eq!(rt; (vec.len(), vec.open_buckets(), vec.slots()), (100, 3, 224));
+    assert_equal!(rt; (vec.len(), vec.open_buckets(), vec.slots()), (100, 3, 224));
     Ok(())
 }
 
 #[test]
 fn keys_end_where_their_types_do(rt: HostRuntime) -> Result<(), Fail> {
-    assert_eq!(rt; NonZero::<u32>::from_usize(4294967295), None);
-    assert_eq!(rt; u32::from_usize(4294967295), Some(4294967295));
-    assert_eq!(rt; u32::from_usize(4294967296), None);
-    assert_eq!(rt; usize::from_usize(usize::MAX), Some(usize::MAX));
-    assert_eq!(rt; NonZero::<usize>::from_usize(usize::MAX), None);
+    assert_equal!(rt; NonZero::<u32>::from_usize(4294967295), None);
+    assert_equal!(rt; u32::from_usize(4294967295), Some(4294967295));
+    assert_equal!(rt; u32::from_usize(4294967296), None);
+    assert_equal!(rt; usize::from_usize(usize::MAX), Some(usize::MAX));
+    assert_equal!(rt; NonZero::<usize>::from_usize(usize::MAX), None);
     Ok(())
 }
 
 #[test]
 fn keys_have_their_numbers(rt: HostRuntime) -> Result<(), Fail> {
     for n in [0, 1, 4294967294] {
-        assert_eq!(rt; n.into_usize(), n);
-        assert_eq!(rt; u32::from_usize(n).ok_or("u32")?.into_usize(), n);
-        assert_eq!(rt; NonZero::<u32>::from_usize(n).ok_or("u32")?.into_usize(), n);
-        assert_eq!(rt;
+        assert_equal!(rt; n.into_usize(), n);
+        assert_equal!(rt; u32::from_usize(n).ok_or("u32")?.into_usize(), n);
+        assert_equal!(rt; NonZero::<u32>::from_usize(n).ok_or("u32")?.into_usize(), n);
+        assert_equal!(rt;
             NonZero::<usize>::from_usize(n).ok_or("usize")?.into_usize(),
             n
         );
@@ -314,13 +315,13 @@ fn texts_of_the_refusals(rt: HostRuntime) -> Result<(), Fail> {
             "AliasingPairAccess",
         ),
     ] {
-        assert_eq!(rt; error.text(), text);
+        assert_equal!(rt; error.text(), text);
         let shown = format!(in rt.alloc(); "{error}")?;
-        assert_eq!(rt; shown.as_str(), text);
+        assert_equal!(rt; shown.as_str(), text);
         let shown = format!(in rt.alloc(); "{error:?}")?;
-        assert_eq!(rt; shown.as_str(), debug);
+        assert_equal!(rt; shown.as_str(), debug);
     }
-    assert_eq!(rt;
+    assert_equal!(rt;
         ArenaError::from(std::alloc::AllocError),
         ArenaError::OutOfSystemMemory
     );
@@ -336,7 +337,7 @@ fn debug_texts_of_commands_and_replies(rt: HostRuntime) -> Result<(), Fail> {
         (ArenaCommand::Swap(0, 1), "Swap(0, 1)"),
     ] {
         let shown = format!(in rt.alloc(); "{command:?}")?;
-        assert_eq!(rt; shown.as_str(), text);
+        assert_equal!(rt; shown.as_str(), text);
     }
     for (reply, text) in [
         (ArenaReply::<u32, u8>::Key(0), "Key(0)"),
@@ -349,7 +350,7 @@ fn debug_texts_of_commands_and_replies(rt: HostRuntime) -> Result<(), Fail> {
         ),
     ] {
         let shown = format!(in rt.alloc(); "{reply:?}")?;
-        assert_eq!(rt; shown.as_str(), text);
+        assert_equal!(rt; shown.as_str(), text);
     }
     Ok(())
 }
@@ -379,7 +380,7 @@ fn arenas_under_two_keys(rt: HostRuntime) -> Result<(), Fail> {
     let two = NonZero::<u32>::new(2).ok_or("two")?;
     assert!(rt; fills(rt.alloc(), one, two));
     let arena: StableArena<usize, u8> = StableArena::new(rt.alloc());
-    assert_eq!(rt; arena.get(0), Err(ArenaError::KeyOutOfBounds));
+    assert_equal!(rt; arena.get(0), Err(ArenaError::KeyOutOfBounds));
     Ok(())
 }
 
@@ -387,13 +388,13 @@ fn arenas_under_two_keys(rt: HostRuntime) -> Result<(), Fail> {
 fn items_are_exchanged(rt: HostRuntime) -> Result<(), Fail> {
     let mut arena: StableArena<u32, u32> = StableArena::from_iter(rt.alloc(), 0..100)?;
     for key in 0..100 {
-        assert_eq!(rt; arena.put(key, 1000)?, key);
+        assert_equal!(rt; arena.put(key, 1000)?, key);
         *arena.get_mut(key)? = 99 - key;
     }
     for key in 0..100 {
-        assert_eq!(rt; arena.get(key), Ok(&(99 - key)));
+        assert_equal!(rt; arena.get(key), Ok(&(99 - key)));
     }
-    assert_eq!(rt; (arena.len(), arena.items().open_buckets()), (100, 3));
+    assert_equal!(rt; (arena.len(), arena.items().open_buckets()), (100, 3));
     Ok(())
 }
 
@@ -404,7 +405,7 @@ fn walks_give_what_was_written(rt: HostRuntime) -> Result<(), Fail> {
         *arena.get_mut(key)? = 99 - key;
     }
     for (key, item) in &arena {
-        assert_eq!(rt; key.wrapping_add(*item), 99);
+        assert_equal!(rt; key.wrapping_add(*item), 99);
     }
     for item in arena.items() {
         assert!(rt; *item < 100);
@@ -415,7 +416,7 @@ fn walks_give_what_was_written(rt: HostRuntime) -> Result<(), Fail> {
 #[test]
 fn no_item_at_the_next_key(rt: HostRuntime) -> Result<(), Fail> {
     let mut arena: StableArena<u32, u32> = StableArena::from_iter(rt.alloc(), 0..100)?;
-    assert_eq!(rt; arena.put(100, 7), Err(ArenaError::KeyOutOfBounds));
+    assert_equal!(rt; arena.put(100, 7), Err(ArenaError::KeyOutOfBounds));
     assert!(rt; arena.get_mut(100).is_err());
     assert!(rt; arena.has(99) && !arena.has(100));
     Ok(())
@@ -426,9 +427,9 @@ fn items_by_index(rt: HostRuntime) -> Result<(), Fail> {
     let mut arena: StableArena<u32, u8> = StableArena::new(rt.alloc());
     let first = arena.alloc(7)?;
     let second = arena.alloc(8)?;
-    assert_eq!(rt; (arena[first], arena[second]), (7, 8));
+    assert_equal!(rt; (arena[first], arena[second]), (7, 8));
     arena[second] = 9;
-    assert_eq!(rt; (arena[first], arena[second]), (7, 9));
+    assert_equal!(rt; (arena[first], arena[second]), (7, 9));
     Ok(())
 }
 
@@ -448,7 +449,7 @@ fn a_run_of_commands(rt: HostRuntime) -> Result<(), Fail> {
         ArenaCommand::Swap(1, 2),
     ]?;
     let replies = run_arena(rt.alloc(), &mut arena, commands)?;
-    assert_eq!(rt;
+    assert_equal!(rt;
         replies.as_slice(),
         [
             ArenaReply::Key(0),
@@ -464,6 +465,6 @@ fn a_run_of_commands(rt: HostRuntime) -> Result<(), Fail> {
         ]
         .as_slice()
     );
-    assert_eq!(rt; (arena.len(), arena.get(0)?, arena.get(1)?), (2, &9, &7));
+    assert_equal!(rt; (arena.len(), arena.get(0)?, arena.get(1)?), (2, &9, &7));
     Ok(())
 }

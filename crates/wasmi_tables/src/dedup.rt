@@ -4,6 +4,7 @@ use std::fmt::Write;
 use std::hash::{Hash, Hasher};
 use std::test::Fail;
 use wasmi_arena::ArenaKey;
+use wasmi_asserts::assert_equal;
 use wasmi_collections::arena::{Arena, ArenaError, DedupArena};
 use wasmi_collections::run::{DedupCommand, DedupReply, run_dedup};
 use wasmi_vectors::observed::{Log, Observed};
@@ -28,10 +29,10 @@ fn equal_values_have_one_key(rt: HostRuntime) -> Result<(), Fail> {
     let mut arena: DedupArena<usize, &str> = DedupArena::new(rt.alloc());
     for _ in 0..2 {
         for (nth, value) in ["a", "b", "c", "d"].iter().enumerate() {
-            assert_eq!(rt; arena.alloc(*value)?, nth);
+            assert_equal!(rt; arena.alloc(*value)?, nth);
         }
     }
-    assert_eq!(rt; arena.len(), 4);
+    assert_equal!(rt; arena.len(), 4);
     Ok(())
 }
 
@@ -41,20 +42,20 @@ fn a_plain_arena_keeps_equal_values(rt: HostRuntime) -> Result<(), Fail> {
     let mut plain: Arena<usize, &str> = Arena::new(rt.alloc());
     for first in [0usize, 4] {
         for (nth, value) in ["a", "b", "c", "d"].iter().enumerate() {
-            assert_eq!(rt; plain.alloc(*value)?, nth.wrapping_add(first));
+            assert_equal!(rt; plain.alloc(*value)?, nth.wrapping_add(first));
         }
     }
-    assert_eq!(rt; plain.len(), 8);
+    assert_equal!(rt; plain.len(), 8);
     Ok(())
 }
 
 #[test]
 fn equal_values_of_an_iterator_have_one_key(rt: HostRuntime) -> Result<(), Fail> {
     let mut made: DedupArena<usize, &str> = DedupArena::from_iter(rt.alloc(), ["a", "b", "a"])?;
-    assert_eq!(rt; made.len(), 2);
-    assert_eq!(rt; made.alloc("a")?, 0);
-    assert_eq!(rt; made.get(1), Ok(&"b"));
-    assert_eq!(rt; made.get(2), Err(ArenaError::KeyOutOfBounds));
+    assert_equal!(rt; made.len(), 2);
+    assert_equal!(rt; made.alloc("a")?, 0);
+    assert_equal!(rt; made.get(1), Ok(&"b"));
+    assert_equal!(rt; made.get(2), Err(ArenaError::KeyOutOfBounds));
     Ok(())
 }
 
@@ -70,8 +71,8 @@ fn written(alloc: Global) -> Result<DedupArena<usize, &'static str>, ArenaError>
 #[test]
 fn writes_change_no_key(rt: HostRuntime) -> Result<(), Fail> {
     let mut arena = written(rt.alloc())?;
-    assert_eq!(rt; (arena.alloc("x")?, arena.alloc("y")?), (0, 1));
-    assert_eq!(rt;
+    assert_equal!(rt; (arena.alloc("x")?, arena.alloc("y")?), (0, 1));
+    assert_equal!(rt;
         (arena.get(0), arena.get(1), arena.len()),
         (Ok(&"y"), Ok(&"y"), 2)
     );
@@ -82,7 +83,7 @@ fn writes_change_no_key(rt: HostRuntime) -> Result<(), Fail> {
 fn writes_do_not_reach_the_index(rt: HostRuntime) -> Result<(), Fail> {
     let arena = written(rt.alloc())?;
     let index = arena.index();
-    assert_eq!(rt;
+    assert_equal!(rt;
         (index.len(), index.get(&"x"), index.get(&"y")),
         (2, Some(&0), Some(&1))
     );
@@ -96,9 +97,9 @@ fn writes_in_a_loop_change_no_key(rt: HostRuntime) -> Result<(), Fail> {
         *item = "z";
     }
     for (key, value) in ["x", "y", "z"].iter().enumerate() {
-        assert_eq!(rt; arena.alloc(*value)?, key);
+        assert_equal!(rt; arena.alloc(*value)?, key);
     }
-    assert_eq!(rt; (arena.get(0), arena.get(1)), (Ok(&"z"), Ok(&"z")));
+    assert_equal!(rt; (arena.get(0), arena.get(1)), (Ok(&"z"), Ok(&"z")));
     Ok(())
 }
 
@@ -108,11 +109,11 @@ fn a_repeat_needs_no_key(rt: HostRuntime) -> Result<(), Fail> {
         rt.alloc(),
         ["p", "q", "r", "s"],
     )?;
-    assert_eq!(rt; arena.alloc("q").map(|key| key.into_usize()), Ok(1));
-    assert_eq!(rt; arena.alloc("t").err(), Some(ArenaError::NotEnoughKeys));
-    assert_eq!(rt; (arena.len(), arena.is_empty()), (4, false));
+    assert_equal!(rt; arena.alloc("q").map(|key| key.into_usize()), Ok(1));
+    assert_equal!(rt; arena.alloc("t").err(), Some(ArenaError::NotEnoughKeys));
+    assert_equal!(rt; (arena.len(), arena.is_empty()), (4, false));
     arena.clear();
-    assert_eq!(rt;
+    assert_equal!(rt;
         (
             arena.alloc("t").map(|key| key.into_usize()),
             arena.index().len()
@@ -123,7 +124,7 @@ fn a_repeat_needs_no_key(rt: HostRuntime) -> Result<(), Fail> {
         rt.alloc(),
         [0, 1, 0, 2, 3, 1, 4],
     );
-    assert_eq!(rt; full.err(), Some(ArenaError::NotEnoughKeys));
+    assert_equal!(rt; full.err(), Some(ArenaError::NotEnoughKeys));
     Ok(())
 }
 
@@ -142,7 +143,7 @@ fn commands_and_replies(rt: HostRuntime) -> Result<(), Fail> {
         DedupCommand::Alloc("y"),
     ]?;
     let replies = run_dedup(rt.alloc(), &mut arena, commands)?;
-    assert_eq!(rt;
+    assert_equal!(rt;
         replies.as_slice(),
         [
             DedupReply::Key(0),
@@ -166,10 +167,10 @@ fn items_alone_are_compared(rt: HostRuntime) -> Result<(), Fail> {
     let other: DedupArena<usize, i32> = DedupArena::from_iter(rt.alloc(), [7, 2])?;
     assert!(rt; one != other);
     *one.get_mut(0)? = 7;
-    assert!(rt; one == other);
+    assert_equal!(rt; &one, &other);
     let mut text = String::new(rt.alloc());
     write!(text, "{one:?}")?;
-    assert_eq!(rt; text.as_str(), "{0: 7, 1: 2}");
+    assert_equal!(rt; text.as_str(), "{0: 7, 1: 2}");
     Ok(())
 }
 
@@ -193,14 +194,14 @@ fn each_request_refused_in_turn(rt: HostRuntime) -> Result<(), Fail> {
             log.refuse_once(nth);
             for value in 0..100u32 {
                 if let Err(error) = arena.alloc(value) {
-                    assert_eq!(rt; error, ArenaError::OutOfSystemMemory);
+                    assert_equal!(rt; error, ArenaError::OutOfSystemMemory);
                     assert!(rt; has_first(&arena, value), "at {nth}");
-                    assert_eq!(rt; arena.alloc(value)?, value as usize);
+                    assert_equal!(rt; arena.alloc(value)?, value as usize);
                 }
             }
             assert!(rt; has_first(&arena, 100), "at {nth}");
         }
-        assert_eq!(rt; (log.returned(), log.misplaced()), (log.given(), 0));
+        assert_equal!(rt; (log.returned(), log.misplaced()), (log.given(), 0));
     }
     Ok(())
 }
@@ -229,11 +230,11 @@ fn a_value_that_is_there_needs_no_memory(rt: HostRuntime) -> Result<(), Fail> {
             let mut arena = hundred(&heap)?;
             log.refuse_from(1);
             let asked = log.requests();
-            assert_eq!(rt; (arena.alloc(0), arena.alloc(99)), (Ok(0), Ok(99)));
+            assert_equal!(rt; (arena.alloc(0), arena.alloc(99)), (Ok(0), Ok(99)));
             arena.clear();
-            assert_eq!(rt; (arena.alloc(5), log.requests()), (Ok(0), asked));
+            assert_equal!(rt; (arena.alloc(5), log.requests()), (Ok(0), asked));
         }
-        assert_eq!(rt; (log.returned(), log.misplaced()), (log.given(), 0));
+        assert_equal!(rt; (log.returned(), log.misplaced()), (log.given(), 0));
     }
     Ok(())
 }
@@ -241,8 +242,8 @@ fn a_value_that_is_there_needs_no_memory(rt: HostRuntime) -> Result<(), Fail> {
 #[test]
 fn a_refused_clone_changes_nothing(rt: HostRuntime) -> Result<(), Fail> {
     let mut arena: DedupArena<usize, Even> = DedupArena::from_iter(rt.alloc(), [Even(0), Even(2)])?;
-    assert_eq!(rt; arena.alloc(Even(1)), Err(ArenaError::OutOfSystemMemory));
-    assert_eq!(rt;
+    assert_equal!(rt; arena.alloc(Even(1)), Err(ArenaError::OutOfSystemMemory));
+    assert_equal!(rt;
         (
             arena.len(),
             arena.index().len(),
@@ -250,7 +251,7 @@ fn a_refused_clone_changes_nothing(rt: HostRuntime) -> Result<(), Fail> {
         ),
         (2, 2, None)
     );
-    assert_eq!(rt; (arena.alloc(Even(2))?, arena.alloc(Even(4))?), (1, 2));
+    assert_equal!(rt; (arena.alloc(Even(2))?, arena.alloc(Even(4))?), (1, 2));
     Ok(())
 }
 
@@ -285,7 +286,7 @@ fn a_run_goes_on_after_a_refusal(rt: HostRuntime) -> Result<(), Fail> {
             log.refuse_once(nth);
             match run_dedup(&heap, &mut arena, commands) {
                 Ok(replies) => assert!(rt; are_in_turn(&arena, replies), "at {nth}"),
-                Err(error) => assert_eq!(rt;
+                Err(error) => assert_equal!(rt;
                     (nth, error, arena.len()),
                     (1, ArenaError::OutOfSystemMemory, 0)
                 ),
@@ -293,9 +294,9 @@ fn a_run_goes_on_after_a_refusal(rt: HostRuntime) -> Result<(), Fail> {
             for value in 0..20u32 {
                 arena.alloc(value)?;
             }
-            assert_eq!(rt; arena.len(), 20, "at {nth}");
+            assert_equal!(rt; arena.len(), 20, "at {nth}");
         }
-        assert_eq!(rt; (log.returned(), log.misplaced()), (log.given(), 0));
+        assert_equal!(rt; (log.returned(), log.misplaced()), (log.given(), 0));
     }
     Ok(())
 }
@@ -318,15 +319,15 @@ fn a_new_value_is_cloned_once(rt: HostRuntime) -> Result<(), Fail> {
         let heap = Observed::new(rt.alloc(), &log);
         let mut arena = two_texts(&heap)?;
         let (asked, returned) = (log.requests(), log.returned());
-        assert_eq!(rt; arena.alloc(String::from_str(&heap, "a")?)?, 0);
-        assert_eq!(rt;
+        assert_equal!(rt; arena.alloc(String::from_str(&heap, "a")?)?, 0);
+        assert_equal!(rt;
             (log.requests(), log.returned()),
             (asked.wrapping_add(1), returned.wrapping_add(1))
         );
-        assert_eq!(rt; arena.alloc(String::from_str(&heap, "c")?)?, 2);
-        assert_eq!(rt; log.requests(), asked.wrapping_add(3));
+        assert_equal!(rt; arena.alloc(String::from_str(&heap, "c")?)?, 2);
+        assert_equal!(rt; log.requests(), asked.wrapping_add(3));
     }
-    assert_eq!(rt; (log.returned(), log.misplaced()), (log.given(), 0));
+    assert_equal!(rt; (log.returned(), log.misplaced()), (log.given(), 0));
     Ok(())
 }
 
@@ -339,10 +340,10 @@ fn a_value_whose_clone_is_refused_is_dropped(rt: HostRuntime) -> Result<(), Fail
         let mut arena = two_texts(&heap)?;
         log.refuse_once(2);
         let refused = arena.alloc(String::from_str(&heap, "d")?);
-        assert_eq!(rt; refused, Err(ArenaError::OutOfSystemMemory));
+        assert_equal!(rt; refused, Err(ArenaError::OutOfSystemMemory));
         arena.clear();
-        assert_eq!(rt; arena.alloc(String::from_str(&heap, "b")?)?, 0);
+        assert_equal!(rt; arena.alloc(String::from_str(&heap, "b")?)?, 0);
     }
-    assert_eq!(rt; (log.returned(), log.misplaced()), (log.given(), 0));
+    assert_equal!(rt; (log.returned(), log.misplaced()), (log.given(), 0));
     Ok(())
 }

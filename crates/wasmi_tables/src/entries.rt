@@ -4,6 +4,7 @@ use std::cell::Cell;
 use std::hash::{BuildHasher, Hasher};
 use std::rc::Rc;
 use std::test::Fail;
+use wasmi_asserts::assert_equal;
 use wasmi_hashed::hash::FixedState;
 use wasmi_hashed::map as hashed;
 use wasmi_ordered::map as ordered;
@@ -20,7 +21,7 @@ fn an_ordered_entry_that_is_refused_drops_its_key(rt: HostRuntime) -> Result<(),
     blocks.refuse_from(1);
     let mut map: Tree<'_> = ordered::Map::new(Observed::new(rt.alloc(), &blocks));
     assert!(rt; map.entry(Noted::new(1, &notes)).is_err());
-    assert_eq!(rt; notes.dropped(), 1);
+    assert_equal!(rt; notes.dropped(), 1);
     Ok(())
 }
 
@@ -30,7 +31,7 @@ fn a_hashed_entry_that_is_refused_drops_its_key(rt: HostRuntime) -> Result<(), F
     blocks.refuse_from(1);
     let mut map: Table<'_> = hashed::Map::new(Observed::new(rt.alloc(), &blocks));
     assert!(rt; map.entry(Noted::new(1, &notes)).is_err());
-    assert_eq!(rt; notes.dropped(), 1);
+    assert_equal!(rt; notes.dropped(), 1);
     Ok(())
 }
 
@@ -39,20 +40,20 @@ fn an_ordered_entry_drops_the_values_that_it_does_not_keep(rt: HostRuntime) -> R
     let drops = Cell::new(0);
     let mut map: ordered::Map<u32, Counted<'_>> = ordered::Map::new(rt.alloc());
     map.entry(1)?.or_insert(Counted::new(&drops))?;
-    assert_eq!(rt; drops.get(), 0);
+    assert_equal!(rt; drops.get(), 0);
     map.entry(1)?.or_insert(Counted::new(&drops))?;
-    assert_eq!(rt; drops.get(), 1);
+    assert_equal!(rt; drops.get(), 1);
     let held = Counted::new(&drops);
     map.entry(1)?.or_insert_with(move || held)?;
-    assert_eq!(rt; drops.get(), 2);
+    assert_equal!(rt; drops.get(), 2);
     let held = Counted::new(&drops);
     map.entry(1)?.or_insert_with_key(move |_| held)?;
-    assert_eq!(rt; drops.get(), 3);
+    assert_equal!(rt; drops.get(), 3);
     let held = Counted::new(&drops);
     drop(map.entry(2)?.and_modify(move |value| *value = held));
-    assert_eq!(rt; drops.get(), 4);
+    assert_equal!(rt; drops.get(), 4);
     drop(map);
-    assert_eq!(rt; drops.get(), 5);
+    assert_equal!(rt; drops.get(), 5);
     Ok(())
 }
 
@@ -61,20 +62,20 @@ fn a_hashed_entry_drops_the_values_that_it_does_not_keep(rt: HostRuntime) -> Res
     let drops = Cell::new(0);
     let mut map: hashed::Map<u32, Counted<'_>> = hashed::Map::new(rt.alloc());
     map.entry(1)?.or_insert(Counted::new(&drops))?;
-    assert_eq!(rt; drops.get(), 0);
+    assert_equal!(rt; drops.get(), 0);
     map.entry(1)?.or_insert(Counted::new(&drops))?;
-    assert_eq!(rt; drops.get(), 1);
+    assert_equal!(rt; drops.get(), 1);
     let held = Counted::new(&drops);
     map.entry(1)?.or_insert_with(move || held)?;
-    assert_eq!(rt; drops.get(), 2);
+    assert_equal!(rt; drops.get(), 2);
     let held = Counted::new(&drops);
     map.entry(1)?.or_insert_with_key(move |_| held)?;
-    assert_eq!(rt; drops.get(), 3);
+    assert_equal!(rt; drops.get(), 3);
     let held = Counted::new(&drops);
     drop(map.entry(2)?.and_modify(move |value| *value = held));
-    assert_eq!(rt; drops.get(), 4);
+    assert_equal!(rt; drops.get(), 4);
     drop(map);
-    assert_eq!(rt; drops.get(), 5);
+    assert_equal!(rt; drops.get(), 5);
     Ok(())
 }
 
@@ -83,11 +84,11 @@ fn an_ordered_entry_that_is_removed_drops_its_key(rt: HostRuntime) -> Result<(),
     let seven = Rc::new(rt.alloc(), 7u32)?;
     let mut map = ordered::Map::new(rt.alloc());
     map.entry(seven.clone()?)?.or_insert(10)?;
-    assert_eq!(rt; Rc::strong_count(&seven), 2);
+    assert_equal!(rt; Rc::strong_count(&seven), 2);
     if let ordered::Entry::Occupied(occupied) = map.entry(seven.clone()?)? {
-        assert_eq!(rt; occupied.remove(), 10);
+        assert_equal!(rt; occupied.remove(), 10);
     }
-    assert_eq!(rt; (map.len(), Rc::strong_count(&seven)), (0, 1));
+    assert_equal!(rt; (map.len(), Rc::strong_count(&seven)), (0, 1));
     Ok(())
 }
 
@@ -96,11 +97,11 @@ fn a_hashed_entry_that_is_removed_drops_its_key(rt: HostRuntime) -> Result<(), F
     let seven = Rc::new(rt.alloc(), 7u32)?;
     let mut map = hashed::Map::new(rt.alloc());
     map.entry(seven.clone()?)?.or_insert(10)?;
-    assert_eq!(rt; Rc::strong_count(&seven), 2);
+    assert_equal!(rt; Rc::strong_count(&seven), 2);
     if let hashed::Entry::Occupied(occupied) = map.entry(seven.clone()?)? {
-        assert_eq!(rt; occupied.remove(), 10);
+        assert_equal!(rt; occupied.remove(), 10);
     }
-    assert_eq!(rt; (map.len(), Rc::strong_count(&seven)), (0, 1));
+    assert_equal!(rt; (map.len(), Rc::strong_count(&seven)), (0, 1));
     Ok(())
 }
 
@@ -113,7 +114,7 @@ fn a_thousand_keys_come_through_entries(rt: HostRuntime) -> Result<(), Fail> {
         tree.entry(key)?.or_insert(key)?;
         table.entry(key)?.or_insert(key)?;
     }
-    assert_eq!(rt; (tree.len(), table.len()), (1000, 1000));
+    assert_equal!(rt; (tree.len(), table.len()), (1000, 1000));
     Ok(())
 }
 
@@ -132,7 +133,7 @@ fn an_entry_of_a_key_that_is_there_asks_for_nothing(rt: HostRuntime) -> Result<(
         let asked = blocks.requests();
         tree.entry(key)?.or_insert(0)?;
         table.entry(key)?.or_insert(0)?;
-        assert_eq!(rt; blocks.requests(), asked, "at {key}");
+        assert_equal!(rt; blocks.requests(), asked, "at {key}");
     }
     Ok(())
 }
@@ -144,10 +145,10 @@ fn an_ordered_entry_compares_as_a_read_does(rt: HostRuntime) -> Result<(), Fail>
     for number in 0..100 {
         for kept in [false, true] {
             let key = Noted::new(number, &notes);
-            assert_eq!(rt; map.contains_key(&key), kept);
+            assert_equal!(rt; map.contains_key(&key), kept);
             let read = notes.compared();
             map.entry(key)?.or_insert(number)?;
-            assert_eq!(rt; notes.compared(), read, "at {number}");
+            assert_equal!(rt; notes.compared(), read, "at {number}");
         }
     }
     Ok(())
@@ -191,7 +192,7 @@ fn a_hashed_entry_hashes_its_key_once(rt: HostRuntime) -> Result<(), Fail> {
         for _kept in [false, true] {
             hashes.set(0);
             map.entry(key)?.or_insert(key)?;
-            assert_eq!(rt; hashes.get(), 1, "at {key}");
+            assert_equal!(rt; hashes.get(), 1, "at {key}");
         }
     }
     Ok(())

@@ -1,6 +1,7 @@
 //! Hashed maps and sets over an allocator that refuses requests.
 use std::test::Fail;
 use wasmi_arena::ArenaError;
+use wasmi_asserts::assert_equal;
 use wasmi_hashed::hash::FixedState;
 use wasmi_hashed::map::Entry;
 use wasmi_hashed::{Map, Set};
@@ -34,22 +35,22 @@ fn a_refused_key_changes_nothing(rt: HostRuntime) -> Result<(), Fail> {
                     }
                 };
                 if let Some(error) = refused {
-                    assert_eq!(rt; error, ArenaError::OutOfSystemMemory);
+                    assert_equal!(rt; error, ArenaError::OutOfSystemMemory);
                     assert!(rt; has_first(&map, key), "at {nth}");
-                    assert_eq!(rt; map.insert(key, key)?, None);
+                    assert_equal!(rt; map.insert(key, key)?, None);
                 }
             }
             assert!(rt; has_first(&map, 100), "at {nth}");
             // What is there needs no memory.
             log.refuse_from(1);
             assert!(rt; map.reserve(1000).is_err());
-            assert_eq!(rt;
+            assert_equal!(rt;
                 (map.insert(7, 7), map.remove(&99)),
                 (Ok(Some(7)), Some(99))
             );
             assert!(rt; has_first(&map, 99), "at {nth}");
         }
-        assert_eq!(rt; (log.returned(), log.misplaced()), (log.given(), 0));
+        assert_equal!(rt; (log.returned(), log.misplaced()), (log.given(), 0));
     }
     Ok(())
 }
@@ -63,19 +64,19 @@ fn a_refused_element_changes_nothing(rt: HostRuntime) -> Result<(), Fail> {
             log.refuse_once(nth);
             for element in 0..100u32 {
                 if let Err(error) = set.insert(element) {
-                    assert_eq!(rt; error, ArenaError::OutOfSystemMemory);
+                    assert_equal!(rt; error, ArenaError::OutOfSystemMemory);
                     assert!(rt; has_elements(&set, element), "at {nth}");
-                    assert_eq!(rt; set.replace(element)?, None);
+                    assert_equal!(rt; set.replace(element)?, None);
                 }
             }
             assert!(rt; has_elements(&set, 100), "at {nth}");
             // What is there needs no memory.
             log.refuse_from(1);
             assert!(rt; set.reserve(1000).is_err());
-            assert_eq!(rt; (set.insert(7), set.take(&99)), (Ok(false), Some(99)));
+            assert_equal!(rt; (set.insert(7), set.take(&99)), (Ok(false), Some(99)));
             assert!(rt; has_elements(&set, 99), "at {nth}");
         }
-        assert_eq!(rt; (log.returned(), log.misplaced()), (log.given(), 0));
+        assert_equal!(rt; (log.returned(), log.misplaced()), (log.given(), 0));
     }
     Ok(())
 }
@@ -110,7 +111,7 @@ fn a_refused_table_gives_all_back(rt: HostRuntime) -> Result<(), Fail> {
         }
         assert!(rt; has_elements(&one, 100));
     }
-    assert_eq!(rt; (log.returned(), log.misplaced()), (log.given(), 0));
+    assert_equal!(rt; (log.returned(), log.misplaced()), (log.given(), 0));
     Ok(())
 }
 
@@ -125,12 +126,12 @@ fn a_refused_extend_keeps_a_front(rt: HostRuntime) -> Result<(), Fail> {
         match map.extend(pairs) {
             Ok(()) => assert!(rt; has_first(&map, 100), "at {nth}"),
             Err(error) => {
-                assert_eq!(rt; error, ArenaError::OutOfSystemMemory);
+                assert_equal!(rt; error, ArenaError::OutOfSystemMemory);
                 let front = u32::try_from(map.len()).unwrap_or(100);
                 assert!(rt; front < 100 && has_first(&map, front), "at {nth}");
             }
         }
     }
-    assert_eq!(rt; (log.returned(), log.misplaced()), (log.given(), 0));
+    assert_equal!(rt; (log.returned(), log.misplaced()), (log.given(), 0));
     Ok(())
 }

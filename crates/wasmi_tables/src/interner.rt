@@ -3,6 +3,7 @@
 use std::alloc::{AllocError, Global};
 use std::test::Fail;
 use wasmi_arena::ArenaError;
+use wasmi_asserts::assert_equal;
 use wasmi_collections::StringInterner;
 use wasmi_collections::run::{InternCommand, InternReply, run_interner};
 use wasmi_collections::string_interner::{InternHint, LenOrder, Steps, Sym};
@@ -29,10 +30,10 @@ fn five_texts_have_the_first_symbols(rt: HostRuntime) -> Result<(), Fail> {
     for (text, number) in [("b", 0), ("a", 1), ("bb", 2), ("", 3), ("é", 4)] {
         let symbol = Sym::from_u32(number);
         assert!(rt; interner.get(text).is_none(), "of {text}");
-        assert_eq!(rt; interner.get_or_intern(text)?, symbol, "of {text}");
-        assert_eq!(rt; interner.get(text), Some(symbol), "of {text}");
+        assert_equal!(rt; interner.get_or_intern(text)?, symbol, "of {text}");
+        assert_equal!(rt; interner.get(text), Some(symbol), "of {text}");
     }
-    assert_eq!(rt; (interner.len(), interner.is_empty()), (5, false));
+    assert_equal!(rt; (interner.len(), interner.is_empty()), (5, false));
     Ok(())
 }
 
@@ -41,7 +42,7 @@ fn a_hint_changes_nothing(rt: HostRuntime) -> Result<(), Fail> {
     let mut interner = five_texts(rt.alloc())?;
     for hint in HINTS {
         let symbol = interner.get_or_intern_with_hint("b", hint)?;
-        assert_eq!(rt; (symbol.into_u32(), interner.len()), (0, 5));
+        assert_equal!(rt; (symbol.into_u32(), interner.len()), (0, 5));
     }
     Ok(())
 }
@@ -50,7 +51,7 @@ fn a_hint_changes_nothing(rt: HostRuntime) -> Result<(), Fail> {
 fn a_symbol_has_its_text(rt: HostRuntime) -> Result<(), Fail> {
     let interner = five_texts(rt.alloc())?;
     for (number, text) in [(0, Some("b")), (4, Some("é")), (5, None), (u32::MAX, None)] {
-        assert_eq!(rt; interner.resolve(Sym::from_u32(number)), text);
+        assert_equal!(rt; interner.resolve(Sym::from_u32(number)), text);
     }
     Ok(())
 }
@@ -60,7 +61,7 @@ fn five_texts_take_three_steps_at_most(rt: HostRuntime) -> Result<(), Fail> {
     let interner = five_texts(rt.alloc())?;
     for text in ["", "a", "b", "c", "aa", "bb", "bc", "é", "zz", "bbb"] {
         let mut steps = Steps::new();
-        assert_eq!(rt; interner.get_counted(text, &mut steps), interner.get(text));
+        assert_equal!(rt; interner.get_counted(text, &mut steps), interner.get(text));
         assert!(rt; 1 <= steps.count() && steps.count() <= 3, "of {text}");
     }
     Ok(())
@@ -70,7 +71,7 @@ fn five_texts_take_three_steps_at_most(rt: HostRuntime) -> Result<(), Fail> {
 fn texts_are_shown_as_a_list(rt: HostRuntime) -> Result<(), Fail> {
     let interner = five_texts(rt.alloc())?;
     let text = format!(in rt.alloc(); "{interner:?}")?;
-    assert_eq!(rt; text.as_str(), "[\"b\", \"a\", \"bb\", \"\", \"é\"]");
+    assert_equal!(rt; text.as_str(), "[\"b\", \"a\", \"bb\", \"\", \"é\"]");
     Ok(())
 }
 
@@ -80,11 +81,11 @@ fn shorter_texts_come_first(rt: HostRuntime) {
     for (i, a) in ascending.iter().enumerate() {
         for (j, b) in ascending.iter().enumerate() {
             let order = LenOrder::new(a).cmp(&LenOrder::new(b));
-            assert_eq!(rt; order, i.cmp(&j), "of {a} and {b}");
+            assert_equal!(rt; order, i.cmp(&j), "of {a} and {b}");
         }
     }
-    assert_eq!(rt; "é".as_bytes(), [0xc3, 0xa9].as_slice());
-    assert_eq!(rt; LenOrder::new("bb").as_str(), "bb");
+    assert_equal!(rt; "é".as_bytes(), [0xc3, 0xa9].as_slice());
+    assert_equal!(rt; LenOrder::new("bb").as_str(), "bb");
 }
 
 // Symbols are numbers, in their order.
@@ -92,16 +93,16 @@ fn shorter_texts_come_first(rt: HostRuntime) {
 fn symbols_are_numbers(rt: HostRuntime) {
     for number in [0, 1, u32::MAX] {
         let symbol = Sym::from_u32(number);
-        assert_eq!(rt;
+        assert_equal!(rt;
             (symbol.into_u32(), symbol.into_usize()),
             (number, number as usize)
         );
-        assert_eq!(rt; Sym::from_usize(symbol.into_usize()), symbol);
+        assert_equal!(rt; Sym::from_usize(symbol.into_usize()), symbol);
     }
     assert!(rt; Sym::from_u32(2) < Sym::from_u32(10));
     let mut steps = Steps::new();
     steps.tick();
-    assert_eq!(rt; steps.count(), 1);
+    assert_equal!(rt; steps.count(), 1);
 }
 
 // An interner of one-letter texts, whose order isn't that of the letters.
@@ -117,7 +118,7 @@ fn letters(alloc: Global, count: usize) -> Result<StringInterner, ArenaError> {
 fn a_search_goes_by_halves(rt: HostRuntime) -> Result<(), Fail> {
     for (count, most) in [(0, 0), (1, 1), (2, 2), (3, 2), (4, 3), (7, 3), (8, 4)] {
         let interner = letters(rt.alloc(), count)?;
-        assert_eq!(rt; interner.len(), count);
+        assert_equal!(rt; interner.len(), count);
         let mut greatest = 0;
         for text in [
             "", "a", "b", "c", "d", "e", "f", "g", "h", "i", "j", "k", "l", "m", "n", "o", "p",
@@ -128,7 +129,7 @@ fn a_search_goes_by_halves(rt: HostRuntime) -> Result<(), Fail> {
             assert!(rt; count == 0 || 0 < steps.count(), "of {text}");
             greatest = steps.count().max(greatest);
         }
-        assert_eq!(rt; greatest, most, "among {count}");
+        assert_equal!(rt; greatest, most, "among {count}");
     }
     Ok(())
 }
@@ -147,7 +148,7 @@ fn the_middle_is_compared_first(rt: HostRuntime) -> Result<(), Fail> {
     ] {
         let mut steps = Steps::new();
         let _symbol = interner.get_counted(text, &mut steps);
-        assert_eq!(rt; steps.count(), count, "of {text}");
+        assert_equal!(rt; steps.count(), count, "of {text}");
     }
     Ok(())
 }
@@ -186,8 +187,8 @@ fn a_run_replies_as_the_table_says(rt: HostRuntime) -> Result<(), Fail> {
         InternReply::Len(2),
         InternReply::Sym(Sym::from_u32(2)),
     ];
-    assert!(rt; replies.as_slice() == expected.as_slice());
-    assert_eq!(rt; interner.len(), 3);
+    assert_equal!(rt; replies.as_slice(), expected.as_slice());
+    assert_equal!(rt; interner.len(), 3);
     Ok(())
 }
 
@@ -203,17 +204,17 @@ fn three_thousand_texts_are_found(rt: HostRuntime) -> Result<(), Fail> {
     for number in 0..3001 {
         let text = scattered(rt.alloc(), number)?;
         let symbol = interner.get_or_intern(text.as_str())?;
-        assert_eq!(rt; symbol.into_u32(), number);
+        assert_equal!(rt; symbol.into_u32(), number);
     }
     for number in 0..3001 {
         let text = scattered(rt.alloc(), number)?;
         let mut steps = Steps::new();
         let symbol = interner.get_counted(text.as_str(), &mut steps);
-        assert_eq!(rt; symbol, Some(Sym::from_u32(number)));
+        assert_equal!(rt; symbol, Some(Sym::from_u32(number)));
         assert!(rt; steps.count() <= 12, "of {number}");
     }
     assert!(rt; interner.get("3001").is_none());
-    assert!(rt; interner.clone()? == interner);
+    assert_equal!(rt; &interner.clone()?, &interner);
     Ok(())
 }
 
@@ -252,18 +253,18 @@ fn a_refused_text_changes_nothing(rt: HostRuntime) -> Result<(), Fail> {
             log.refuse_once(nth);
             for (len, name) in NAMES.into_iter().enumerate() {
                 if let Err(error) = interner.get_or_intern(name) {
-                    assert_eq!(rt; error, ArenaError::OutOfSystemMemory);
+                    assert_equal!(rt; error, ArenaError::OutOfSystemMemory);
                     assert!(rt; goes_on(&mut interner, len, name)?, "at {nth}");
                     refusals = refusals.wrapping_add(1);
                 }
             }
             assert!(rt; has_first(&interner, 10), "at {nth}");
         }
-        assert_eq!(rt; (log.returned(), log.misplaced()), (log.given(), 0));
+        assert_equal!(rt; (log.returned(), log.misplaced()), (log.given(), 0));
     }
     // A block for each text that has a byte, three for the growing texts, three for the first block of the
     // index as it grows, and one for the list of blocks.
-    assert_eq!(rt; refusals, 16);
+    assert_equal!(rt; refusals, 16);
     Ok(())
 }
 
@@ -291,20 +292,20 @@ fn a_refused_block_of_the_index_is_opened_later(rt: HostRuntime) -> Result<(), F
             let mut interner = with_a_full_block(&handle, rt.alloc())?;
             log.refuse_once(nth);
             if interner.get_or_intern("memory").is_err() {
-                assert_eq!(rt; (interner.get("memory"), interner.len()), (None, 1024));
+                assert_equal!(rt; (interner.get("memory"), interner.len()), (None, 1024));
                 refusals = refusals.wrapping_add(1);
             }
             let symbol = interner.get_or_intern("memory")?;
-            assert_eq!(rt; symbol.into_u32(), 1024);
+            assert_equal!(rt; symbol.into_u32(), 1024);
             for number in 0..1024 {
                 let text = scattered(rt.alloc(), number)?;
                 let found = interner.get(text.as_str());
-                assert_eq!(rt; found, Some(Sym::from_u32(number)), "at {nth}");
+                assert_equal!(rt; found, Some(Sym::from_u32(number)), "at {nth}");
             }
         }
-        assert_eq!(rt; (log.returned(), log.misplaced()), (log.given(), 0));
+        assert_equal!(rt; (log.returned(), log.misplaced()), (log.given(), 0));
     }
-    assert_eq!(rt; refusals, 3);
+    assert_equal!(rt; refusals, 3);
     Ok(())
 }
 
@@ -334,12 +335,12 @@ fn a_text_that_is_there_needs_no_memory(rt: HostRuntime) -> Result<(), Fail> {
             let asked = log.requests();
             for hint in HINTS {
                 let symbol = interner.get_or_intern_with_hint("global", hint);
-                assert_eq!(rt; (symbol, log.requests()), (Ok(Sym::from_u32(3)), asked));
+                assert_equal!(rt; (symbol, log.requests()), (Ok(Sym::from_u32(3)), asked));
             }
             assert!(rt; interner.get_or_intern("import").is_err());
             assert!(rt; has_first(&interner, 10), "at {nth}");
         }
-        assert_eq!(rt; (log.returned(), log.misplaced()), (log.given(), 0));
+        assert_equal!(rt; (log.returned(), log.misplaced()), (log.given(), 0));
     }
     Ok(())
 }
@@ -352,13 +353,13 @@ fn a_third_text_is_refused(rt: HostRuntime) -> Result<(), Fail> {
     let _a = interner.get_or_intern("a")?;
     let _b = interner.get_or_intern("b")?;
     log.refuse_from(1);
-    assert_eq!(rt;
+    assert_equal!(rt;
         interner.get_or_intern("c"),
         Err(ArenaError::OutOfSystemMemory)
     );
-    assert_eq!(rt; (interner.get("c"), interner.len()), (None, 2));
+    assert_equal!(rt; (interner.get("c"), interner.len()), (None, 2));
     log.refuse_none();
-    assert_eq!(rt; interner.get_or_intern("c")?, Sym::from_u32(2));
+    assert_equal!(rt; interner.get_or_intern("c")?, Sym::from_u32(2));
     Ok(())
 }
 
@@ -370,8 +371,8 @@ fn a_clone_asks_for_twelve_blocks(rt: HostRuntime) -> Result<(), Fail> {
     let interner = with_names(&handle)?;
     let before = log.requests();
     let copy = interner.clone()?;
-    assert_eq!(rt; log.requests().wrapping_sub(before), 12);
-    assert!(rt; copy == interner);
+    assert_equal!(rt; log.requests().wrapping_sub(before), 12);
+    assert_equal!(rt; &copy, &interner);
     Ok(())
 }
 
@@ -395,12 +396,12 @@ fn a_refused_clone_leaves_its_source(rt: HostRuntime) -> Result<(), Fail> {
         for nth in 1..13 {
             log.refuse_once(nth);
             let refused = interner.clone().err();
-            assert_eq!(rt; refused, Some(ArenaError::OutOfSystemMemory), "at {nth}");
+            assert_equal!(rt; refused, Some(ArenaError::OutOfSystemMemory), "at {nth}");
             assert!(rt; has_first(&interner, 10), "at {nth}");
         }
-        assert!(rt; interner.clone()? == interner);
+        assert_equal!(rt; &interner.clone()?, &interner);
     }
-    assert_eq!(rt; (log.returned(), log.misplaced()), (log.given(), 0));
+    assert_equal!(rt; (log.returned(), log.misplaced()), (log.given(), 0));
     Ok(())
 }
 
@@ -447,7 +448,7 @@ fn a_run_goes_on_after_a_refusal(rt: HostRuntime) -> Result<(), Fail> {
             log.refuse_once(nth);
             match run_interner(&handle, &mut interner, commands) {
                 Ok(replies) => assert!(rt; are_in_turn(&interner, replies), "at {nth}"),
-                Err(error) => assert_eq!(rt;
+                Err(error) => assert_equal!(rt;
                     (nth, error, interner.len()),
                     (1, ArenaError::OutOfSystemMemory, 0)
                 ),
@@ -455,9 +456,9 @@ fn a_run_goes_on_after_a_refusal(rt: HostRuntime) -> Result<(), Fail> {
             for name in NAMES {
                 let _symbol = interner.get_or_intern(name)?;
             }
-            assert_eq!(rt; interner.len(), 10, "at {nth}");
+            assert_equal!(rt; interner.len(), 10, "at {nth}");
         }
-        assert_eq!(rt; (log.returned(), log.misplaced()), (log.given(), 0));
+        assert_equal!(rt; (log.returned(), log.misplaced()), (log.given(), 0));
     }
     Ok(())
 }

@@ -2,6 +2,7 @@
 use std::alloc::{AllocError, Global};
 use std::test::Fail;
 use wasmi_arena::ArenaError;
+use wasmi_asserts::assert_equal;
 use wasmi_ordered::map::Entry;
 use wasmi_ordered::{Map, Set};
 use wasmi_vectors::observed::{Log, Observed};
@@ -49,15 +50,15 @@ fn a_refused_insert_changes_nothing(rt: HostRuntime) -> Result<(), Fail> {
             let mut len: usize = 0;
             for key in 0..100u32 {
                 if let Err(error) = map.insert(key, key) {
-                    assert_eq!(rt; error, ArenaError::OutOfSystemMemory);
+                    assert_equal!(rt; error, ArenaError::OutOfSystemMemory);
                     assert!(rt; has_first(&map, len), "at {nth}");
-                    assert_eq!(rt; map.insert(key, key)?, None);
+                    assert_equal!(rt; map.insert(key, key)?, None);
                 }
                 len = len.wrapping_add(1);
             }
             assert!(rt; has_first(&map, 100), "at {nth}");
         }
-        assert_eq!(rt; log.returned(), log.given(), "at {nth}");
+        assert_equal!(rt; log.returned(), log.given(), "at {nth}");
     }
     Ok(())
 }
@@ -72,15 +73,15 @@ fn a_refused_element_changes_nothing(rt: HostRuntime) -> Result<(), Fail> {
             let mut len: usize = 0;
             for element in 0..100u32 {
                 if let Err(error) = set.insert(element) {
-                    assert_eq!(rt; error, ArenaError::OutOfSystemMemory);
+                    assert_equal!(rt; error, ArenaError::OutOfSystemMemory);
                     assert!(rt; has_elements(&set, len), "at {nth}");
-                    assert_eq!(rt; set.replace(element)?, None);
+                    assert_equal!(rt; set.replace(element)?, None);
                 }
                 len = len.wrapping_add(1);
             }
             assert!(rt; has_elements(&set, 100), "at {nth}");
         }
-        assert_eq!(rt; log.returned(), log.given(), "at {nth}");
+        assert_equal!(rt; log.returned(), log.given(), "at {nth}");
     }
     Ok(())
 }
@@ -103,15 +104,15 @@ fn a_refused_entry_changes_nothing(rt: HostRuntime) -> Result<(), Fail> {
                     Err(error) => Some(error),
                 };
                 if let Some(error) = refused {
-                    assert_eq!(rt; error, ArenaError::OutOfSystemMemory);
+                    assert_equal!(rt; error, ArenaError::OutOfSystemMemory);
                     assert!(rt; has_first(&map, len), "at {nth}");
-                    assert_eq!(rt; map.insert(key, key)?, None);
+                    assert_equal!(rt; map.insert(key, key)?, None);
                 }
                 len = len.wrapping_add(1);
             }
             assert!(rt; has_first(&map, 100), "at {nth}");
         }
-        assert_eq!(rt; log.returned(), log.given(), "at {nth}");
+        assert_equal!(rt; log.returned(), log.given(), "at {nth}");
     }
     Ok(())
 }
@@ -142,7 +143,7 @@ fn a_refused_extend_keeps_a_front(rt: HostRuntime) -> Result<(), Fail> {
     let requests = log.requests();
     map.clear();
     log.refuse_once(requests);
-    assert_eq!(rt;
+    assert_equal!(rt;
         map.extend(pairs(rt.alloc())?),
         Err(ArenaError::OutOfSystemMemory)
     );
@@ -151,7 +152,7 @@ fn a_refused_extend_keeps_a_front(rt: HostRuntime) -> Result<(), Fail> {
     map.extend(pairs(rt.alloc())?)?;
     assert!(rt; has_first(&map, 100));
     drop(map);
-    assert_eq!(rt; log.returned(), log.given());
+    assert_equal!(rt; log.returned(), log.given());
     Ok(())
 }
 
@@ -161,9 +162,9 @@ fn a_refused_collection_gives_all_back(rt: HostRuntime) -> Result<(), Fail> {
     let map = hundred_pairs(rt.alloc(), &log)?;
     log.refuse_once(log.requests());
     let refused = Map::from_iter(Observed::new(rt.alloc(), &log), pairs(rt.alloc())?);
-    assert_eq!(rt; refused.err(), Some(ArenaError::OutOfSystemMemory));
+    assert_equal!(rt; refused.err(), Some(ArenaError::OutOfSystemMemory));
     drop(map);
-    assert_eq!(rt; log.returned(), log.given());
+    assert_equal!(rt; log.returned(), log.given());
     Ok(())
 }
 
@@ -172,10 +173,10 @@ fn a_key_that_is_there_needs_no_memory(rt: HostRuntime) -> Result<(), Fail> {
     let log = Log::new();
     let mut map = hundred_pairs(rt.alloc(), &log)?;
     log.refuse_from(1);
-    assert_eq!(rt; map.reserve(1000), Ok(()));
-    assert_eq!(rt; map.insert(7, 7), Ok(Some(7)));
+    assert_equal!(rt; map.reserve(1000), Ok(()));
+    assert_equal!(rt; map.insert(7, 7), Ok(Some(7)));
     let value = map.entry(7)?.or_insert(8)?;
-    assert_eq!(rt; *value, 7);
+    assert_equal!(rt; *value, 7);
     assert!(rt; has_first(&map, 100));
     Ok(())
 }
@@ -185,9 +186,9 @@ fn an_element_that_is_there_needs_no_memory(rt: HostRuntime) -> Result<(), Fail>
     let log = Log::new();
     let mut set = hundred_elements(rt.alloc(), &log)?;
     log.refuse_from(1);
-    assert_eq!(rt; set.reserve(1000), Ok(()));
-    assert_eq!(rt; set.insert(7), Ok(false));
-    assert_eq!(rt; set.replace(7), Ok(Some(7)));
+    assert_equal!(rt; set.reserve(1000), Ok(()));
+    assert_equal!(rt; set.insert(7), Ok(false));
+    assert_equal!(rt; set.replace(7), Ok(Some(7)));
     assert!(rt; has_elements(&set, 100));
     Ok(())
 }
@@ -197,7 +198,7 @@ fn keys_are_taken_out_without_memory(rt: HostRuntime) -> Result<(), Fail> {
     let log = Log::new();
     let mut map = hundred_pairs(rt.alloc(), &log)?;
     log.refuse_from(1);
-    assert_eq!(rt;
+    assert_equal!(rt;
         (map.remove(&99), map.remove_entry(&98)),
         (Some(99), Some((98, 98)))
     );
@@ -214,7 +215,7 @@ fn elements_are_taken_out_without_memory(rt: HostRuntime) -> Result<(), Fail> {
     let log = Log::new();
     let mut set = hundred_elements(rt.alloc(), &log)?;
     log.refuse_from(1);
-    assert_eq!(rt; (set.remove(&99), set.take(&98)), (true, Some(98)));
+    assert_equal!(rt; (set.remove(&99), set.take(&98)), (true, Some(98)));
     assert!(rt; has_elements(&set, 98));
     set.retain(|element| *element < 50);
     assert!(rt; has_elements(&set, 50));
@@ -239,15 +240,15 @@ fn a_refused_copy_gives_all_back(rt: HostRuntime) -> Result<(), Fail> {
         for nth in 1..60 {
             log.refuse_once(nth);
             match map.clone() {
-                Ok(copy) => assert!(rt; copy == map, "at {nth}"),
-                Err(error) => assert_eq!(rt; error, ArenaError::OutOfSystemMemory),
+                Ok(copy) => assert_equal!(rt; &copy, &map, "at {nth}"),
+                Err(error) => assert_equal!(rt; error, ArenaError::OutOfSystemMemory),
             }
         }
         assert!(rt; has_first(&map, 100));
         log.refuse_from(1);
         assert!(rt; map.clone().is_err());
     }
-    assert_eq!(rt; log.returned(), log.given());
+    assert_equal!(rt; log.returned(), log.given());
     Ok(())
 }
 
@@ -276,6 +277,6 @@ fn a_refused_set_gives_all_back(rt: HostRuntime) -> Result<(), Fail> {
         assert!(rt; one.bitand(&other).is_err() && one.bitor(&other).is_err());
         assert!(rt; one.bitxor(&other).is_err() && one.sub(&other).is_err());
     }
-    assert_eq!(rt; log.returned(), log.given());
+    assert_equal!(rt; log.returned(), log.given());
     Ok(())
 }

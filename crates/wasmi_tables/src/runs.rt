@@ -1,6 +1,7 @@
 //! Lists of commands to maps and sets of both backings.
 use std::alloc::{AllocError, Global};
 use std::test::Fail;
+use wasmi_asserts::assert_equal;
 use wasmi_collections::hash::RandomState;
 use wasmi_collections::run::{MapCommand, MapReply, SetCommand, SetReply, run_map, run_set};
 use wasmi_collections::{hashed, ordered};
@@ -41,16 +42,16 @@ const MAP_REPLIES: [MapReply<&'static str>; 10] = [
 fn maps_reply_as_the_table_says(rt: HostRuntime) -> Result<(), Fail> {
     let mut map = ordered::Map::new(rt.alloc());
     let replies = run_map(rt.alloc(), &mut map, map_commands(rt.alloc())?)?;
-    assert!(rt; replies.as_slice() == MAP_REPLIES.as_slice());
+    assert_equal!(rt; replies.as_slice(), MAP_REPLIES.as_slice());
     assert!(rt; map.is_empty());
     let mut map = hashed::Map::new(rt.alloc());
     let replies = run_map(rt.alloc(), &mut map, map_commands(rt.alloc())?)?;
-    assert!(rt; replies.as_slice() == MAP_REPLIES.as_slice());
+    assert_equal!(rt; replies.as_slice(), MAP_REPLIES.as_slice());
     assert!(rt; map.is_empty());
     let state = RandomState::new(&rt)?;
     let mut map = hashed::Map::with_hasher(rt.alloc(), state);
     let replies = run_map(rt.alloc(), &mut map, map_commands(rt.alloc())?)?;
-    assert!(rt; replies.as_slice() == MAP_REPLIES.as_slice());
+    assert_equal!(rt; replies.as_slice(), MAP_REPLIES.as_slice());
     assert!(rt; map.is_empty());
     Ok(())
 }
@@ -89,13 +90,13 @@ const SET_REPLIES: [SetReply; 9] = [
 fn sets_reply_as_the_table_says(rt: HostRuntime) -> Result<(), Fail> {
     let mut set = ordered::Set::new(rt.alloc());
     let replies = run_set(rt.alloc(), &mut set, set_commands(rt.alloc())?)?;
-    assert!(rt; replies.as_slice() == SET_REPLIES.as_slice());
+    assert_equal!(rt; replies.as_slice(), SET_REPLIES.as_slice());
     let mut set = hashed::Set::new(rt.alloc());
     let replies = run_set(rt.alloc(), &mut set, set_commands(rt.alloc())?)?;
-    assert!(rt; replies.as_slice() == SET_REPLIES.as_slice());
+    assert_equal!(rt; replies.as_slice(), SET_REPLIES.as_slice());
     let state = RandomState::new(&rt)?;
     let mut set = hashed::Set::with_hasher(rt.alloc(), state);
     let replies = run_set(rt.alloc(), &mut set, set_commands(rt.alloc())?)?;
-    assert!(rt; replies.as_slice() == SET_REPLIES.as_slice());
+    assert_equal!(rt; replies.as_slice(), SET_REPLIES.as_slice());
     Ok(())
 }

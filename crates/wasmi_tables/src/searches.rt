@@ -3,6 +3,7 @@ ghost use Rattle.std.specs.Prelude.{◌+◌, ◌<◌, ◌^◌};
 
 use std::cmp::Ordering;
 use std::test::Fail;
+use wasmi_asserts::assert_equal;
 use wasmi_collections::string_interner::{Probe, Steps, search};
 
 // A sorted list: so many items are less than what is searched, then it may be there, and so many are
@@ -72,7 +73,7 @@ fn what_is_searched_is_found_in_few_looks(rt: HostRuntime) -> Result<(), Fail> {
         let less = less as usize;
         let (found, looks) = searched(less, is_there, greater as usize);
         let place = if is_there { Ok(less) } else { Err(less) };
-        assert!(rt; found == place, "{less} less, {greater} greater");
+        assert_equal!(rt; found, place, "{less} less, {greater} greater");
         assert!(rt; fewest <= looks && looks <= most, "{looks} looks");
     }
     Ok(())

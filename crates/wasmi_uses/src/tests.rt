@@ -12,6 +12,7 @@ use crate::tables::{add_once, reset};
 use crate::write::put_or_alloc;
 use std::test::Fail;
 use wasmi_arena::{StableArena, StableVec};
+use wasmi_asserts::assert_equal;
 use wasmi_collections::string_interner::Sym;
 use wasmi_collections::{HeadVec, StringInterner, hashed, ordered};
 use wasmi_dense::{Arena, ComponentVec};
@@ -23,9 +24,9 @@ fn a_store_of_two_functions(rt: HostRuntime) -> Result<(), Fail> {
     let first = store.put("add")?;
     let second = store.put("sub")?;
     assert!(rt; first != second);
-    assert_eq!(rt; store.count(), 2);
-    assert_eq!(rt; store.get(first), Some(&"add"));
-    assert_eq!(rt; store.get(second), Some(&"sub"));
+    assert_equal!(rt; store.count(), 2);
+    assert_equal!(rt; store.get(first), Some(&"add"));
+    assert_equal!(rt; store.get(second), Some(&"sub"));
     Ok(())
 }
 
@@ -33,11 +34,11 @@ fn a_store_of_two_functions(rt: HostRuntime) -> Result<(), Fail> {
 fn symbols_of_three_names(rt: HostRuntime) -> Result<(), Fail> {
     let mut symbols = Symbols::new(rt.alloc());
     for (name, symbol) in [("memory", 0), ("table", 1), ("memory", 0), ("", 2)] {
-        assert_eq!(rt; symbols.intern(rt.alloc(), name)?, symbol, "of {name}");
+        assert_equal!(rt; symbols.intern(rt.alloc(), name)?, symbol, "of {name}");
     }
-    assert_eq!(rt; symbols.find("table"), Some(1));
-    assert_eq!(rt; symbols.find("tables"), None);
-    assert_eq!(rt; intern_both(&mut symbols, rt.alloc(), "", "start")?, (2, 3));
+    assert_equal!(rt; symbols.find("table"), Some(1));
+    assert_equal!(rt; symbols.find("tables"), None);
+    assert_equal!(rt; intern_both(&mut symbols, rt.alloc(), "", "start")?, (2, 3));
     Ok(())
 }
 
@@ -47,8 +48,8 @@ fn a_search_across_buckets(rt: HostRuntime) -> Result<(), Fail> {
     for i in 0..100u64 {
         vec.push(i * 2)?;
     }
-    assert_eq!(rt; position_of(&vec, &140), Some(70));
-    assert_eq!(rt; position_of(&vec, &141), None);
+    assert_equal!(rt; position_of(&vec, &140), Some(70));
+    assert_equal!(rt; position_of(&vec, &141), None);
     Ok(())
 }
 
@@ -57,18 +58,18 @@ fn a_property_is_set_once(rt: HostRuntime) -> Result<(), Fail> {
     let mut names: ComponentVec<u32, &str> = ComponentVec::new(rt.alloc());
     assert!(rt; set_once(&mut names, 3, "add")?);
     assert!(rt; !set_once(&mut names, 3, "sub")?);
-    assert_eq!(rt; (names.get(3), names.extent()), (Some(&"add"), 4));
+    assert_equal!(rt; (names.get(3), names.extent()), (Some(&"add"), 4));
     Ok(())
 }
 
 #[test]
 fn a_tail_call_takes_the_place(rt: HostRuntime) -> Result<(), Fail> {
     let mut frames = HeadVec::new(rt.alloc());
-    assert_eq!(rt; tail_call(&mut frames, "f"), None);
+    assert_equal!(rt; tail_call(&mut frames, "f"), None);
     frames.push("main")?;
     frames.push("f")?;
-    assert_eq!(rt; tail_call(&mut frames, "g"), Some("f"));
-    assert_eq!(rt;
+    assert_equal!(rt; tail_call(&mut frames, "g"), Some("f"));
+    assert_equal!(rt;
         (frames.pop(), frames.pop(), frames.pop()),
         (Some("g"), Some("main"), None)
     );
@@ -80,14 +81,14 @@ fn a_write_into_either_arena(rt: HostRuntime) -> Result<(), Fail> {
     let mut dense: Arena<u32, &'static str> = Arena::new(rt.alloc());
     let mut stable: StableArena<u32, &'static str> = StableArena::new(rt.alloc());
     for (key, text, at) in [(5, "a", 0), (5, "b", 1), (0, "c", 0), (1, "d", 1)] {
-        assert_eq!(rt; put_or_alloc(&mut dense, key, text)?, at, "of {text}");
-        assert_eq!(rt; put_or_alloc(&mut stable, key, text)?, at, "of {text}");
+        assert_equal!(rt; put_or_alloc(&mut dense, key, text)?, at, "of {text}");
+        assert_equal!(rt; put_or_alloc(&mut stable, key, text)?, at, "of {text}");
     }
-    assert_eq!(rt;
+    assert_equal!(rt;
         (dense.len(), dense.get(0), dense.get(1)),
         (2, Ok(&"c"), Ok(&"d"))
     );
-    assert_eq!(rt;
+    assert_equal!(rt;
         (stable.len(), stable.get(0), stable.get(1)),
         (2, Ok(&"c"), Ok(&"d"))
     );
@@ -99,7 +100,7 @@ fn two_items_go_in_together(rt: HostRuntime) -> Result<(), Fail> {
     let mut arena: Arena<usize, u64> = Arena::new(rt.alloc());
     put_both(&mut arena, 1, 2)?;
     put_both(&mut arena, 3, 4)?;
-    assert_eq!(rt;
+    assert_equal!(rt;
         (arena.len(), arena.get(1), arena.get(2)),
         (4, Ok(&2), Ok(&3))
     );
@@ -112,23 +113,23 @@ fn a_table_of_counts(rt: HostRuntime) -> Result<(), Fail> {
     assert!(rt; add_once(&mut counts, 7, 3)?);
     assert!(rt; add_once(&mut counts, 8, 4)?);
     assert!(rt; !add_once(&mut counts, 7, 9)?);
-    assert_eq!(rt; reset(&mut counts, &7), Some(3));
-    assert_eq!(rt; reset(&mut counts, &9), None);
-    assert_eq!(rt; (counts.get(&7), counts.get(&8)), (Some(&0), Some(&4)));
+    assert_equal!(rt; reset(&mut counts, &7), Some(3));
+    assert_equal!(rt; reset(&mut counts, &9), None);
+    assert_equal!(rt; (counts.get(&7), counts.get(&8)), (Some(&0), Some(&4)));
     Ok(())
 }
 
 #[test]
 fn names_are_defined_once(rt: HostRuntime) -> Result<(), Fail> {
     let mut sorted = ordered::Map::new(rt.alloc());
-    assert_eq!(rt; define(&mut sorted, 1, "one")?, 1);
-    assert_eq!(rt; define(&mut sorted, 2, "two")?, 2);
-    assert_eq!(rt; define(&mut sorted, 1, "uno")?, 2);
-    assert_eq!(rt; sorted.get(&1), Some(&"one"));
+    assert_equal!(rt; define(&mut sorted, 1, "one")?, 1);
+    assert_equal!(rt; define(&mut sorted, 2, "two")?, 2);
+    assert_equal!(rt; define(&mut sorted, 1, "uno")?, 2);
+    assert_equal!(rt; sorted.get(&1), Some(&"one"));
     let mut scattered = hashed::Map::new(rt.alloc());
-    assert_eq!(rt; define(&mut scattered, 1, "one")?, 1);
-    assert_eq!(rt; define(&mut scattered, 1, "uno")?, 1);
-    assert_eq!(rt; scattered.get(&1), Some(&"one"));
+    assert_equal!(rt; define(&mut scattered, 1, "one")?, 1);
+    assert_equal!(rt; define(&mut scattered, 1, "uno")?, 1);
+    assert_equal!(rt; scattered.get(&1), Some(&"one"));
     Ok(())
 }
 
@@ -141,9 +142,9 @@ fn a_name_is_exported_once(rt: HostRuntime) -> Result<(), Fail> {
         ("memory", false),
         ("", true),
     ] {
-        assert_eq!(rt; export(&mut names, name)?, was_new, "of {name}");
+        assert_equal!(rt; export(&mut names, name)?, was_new, "of {name}");
     }
-    assert_eq!(rt; import(&names, "table"), Some(Sym::from_u32(1)));
-    assert_eq!(rt; import(&names, "global"), None);
+    assert_equal!(rt; import(&names, "table"), Some(Sym::from_u32(1)));
+    assert_equal!(rt; import(&names, "global"), None);
     Ok(())
 }

@@ -4,6 +4,7 @@ use std::alloc::AllocError;
 use std::cell::Cell;
 use std::test::Fail;
 use wasmi_arena::{ArenaError, StableArena, StableVec};
+use wasmi_asserts::assert_equal;
 
 // How many items were cloned, and how many dropped.
 #[derive(Drop)]
@@ -73,12 +74,12 @@ fn each_item_of_an_arena_is_cloned_once(rt: HostRuntime) -> Result<(), Fail> {
     let counts = Counts::new();
     {
         let arena = hundred(Observed::new(rt.alloc(), &log), &counts)?;
-        assert_eq!(rt; log.requests(), 3);
+        assert_equal!(rt; log.requests(), 3);
         let twin = arena.clone()?;
-        assert_eq!(rt; (twin.len(), counts.get()), (100, (100, 0)));
-        assert_eq!(rt; log.requests(), 6);
+        assert_equal!(rt; (twin.len(), counts.get()), (100, (100, 0)));
+        assert_equal!(rt; log.requests(), 6);
     }
-    assert_eq!(rt; counts.get(), (100, 200));
+    assert_equal!(rt; counts.get(), (100, 200));
     Ok(())
 }
 
@@ -89,10 +90,10 @@ fn a_clone_in_another_allocator_clones_each_item_once(rt: HostRuntime) -> Result
     {
         let arena = hundred(Observed::new(rt.alloc(), &log), &counts)?;
         let other = arena.clone_in(Observed::new(rt.alloc(), &log))?;
-        assert_eq!(rt; (other.len(), counts.get()), (100, (100, 0)));
-        assert_eq!(rt; log.requests(), 6);
+        assert_equal!(rt; (other.len(), counts.get()), (100, (100, 0)));
+        assert_equal!(rt; log.requests(), 6);
     }
-    assert_eq!(rt; counts.get(), (100, 200));
+    assert_equal!(rt; counts.get(), (100, 200));
     Ok(())
 }
 
@@ -108,11 +109,11 @@ fn a_clone_that_fails_drops_what_was_made(rt: HostRuntime) -> Result<(), Fail> {
                 bare: number == 39,
             })?;
         }
-        assert_eq!(rt; vec.clone().err(), Some(ArenaError::OutOfSystemMemory));
-        assert_eq!(rt; counts.get(), (39, 39));
+        assert_equal!(rt; vec.clone().err(), Some(ArenaError::OutOfSystemMemory));
+        assert_equal!(rt; counts.get(), (39, 39));
     }
-    assert_eq!(rt; counts.get(), (39, 79));
-    assert_eq!(rt; (log.given(), log.returned(), log.misplaced()), (4, 4, 0));
+    assert_equal!(rt; counts.get(), (39, 79));
+    assert_equal!(rt; (log.given(), log.returned(), log.misplaced()), (4, 4, 0));
     Ok(())
 }
 
@@ -127,6 +128,6 @@ fn a_clone_of_no_items_needs_no_memory(rt: HostRuntime) -> Result<(), Fail> {
         &log,
     ));
     assert!(rt; arena.clone()?.is_empty());
-    assert_eq!(rt; log.requests(), 0);
+    assert_equal!(rt; log.requests(), 0);
     Ok(())
 }

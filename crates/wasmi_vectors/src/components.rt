@@ -7,6 +7,7 @@ use std::alloc::{AllocError, Allocator, Global};
 use std::cell::Cell;
 use std::num::NonZero;
 use std::test::Fail;
+use wasmi_asserts::assert_equal;
 use wasmi_collections::ComponentVec;
 use wasmi_collections::arena::{ArenaError, ArenaKey};
 
@@ -28,18 +29,18 @@ fn it_works(rt: HostRuntime) -> Result<(), Fail> {
     let mut components: ComponentVec<usize, String> = ComponentVec::new(rt.alloc());
     for number in 0..10usize {
         let mut shown = text(rt.alloc(), number)?;
-        assert_eq!(rt; components.get(number), None);
+        assert_equal!(rt; components.get(number), None);
         assert!(rt; components.get_mut(number).is_none());
-        assert_eq!(rt; components.set(number, shown.clone()?)?, None);
-        assert_eq!(rt; components.get(number), Some(&shown));
-        assert_eq!(rt; components.get_mut(number), Some(&mut shown));
-        assert_eq!(rt; components[number], shown);
+        assert_equal!(rt; components.set(number, shown.clone()?)?, None);
+        assert_equal!(rt; components.get(number), Some(&shown));
+        assert_equal!(rt; components.get_mut(number), Some(&mut shown));
+        assert_equal!(rt; &components[number], &shown);
     }
     for number in (0..10usize).rev() {
         let shown = text(rt.alloc(), number)?;
-        assert_eq!(rt; components.unset(number), Some(shown));
-        assert_eq!(rt; components.unset(number), None);
-        assert_eq!(rt; components.get(number), None);
+        assert_equal!(rt; components.unset(number), Some(shown));
+        assert_equal!(rt; components.unset(number), None);
+        assert_equal!(rt; components.get(number), None);
     }
     Ok(())
 }
@@ -49,31 +50,31 @@ fn clear_works(rt: HostRuntime) -> Result<(), Fail> {
     let mut components = texts(rt.alloc())?;
     components.clear();
     for number in 0..10usize {
-        assert_eq!(rt; components.get(number), None);
+        assert_equal!(rt; components.get(number), None);
         assert!(rt; components.get_mut(number).is_none());
     }
-    assert_eq!(rt; components, ComponentVec::new(rt.alloc()));
+    assert_equal!(rt; components, ComponentVec::new(rt.alloc()));
     Ok(())
 }
 
 #[test]
 fn debug_works(rt: HostRuntime) -> Result<(), Fail> {
     let mut components: ComponentVec<usize, String> = ComponentVec::new(rt.alloc());
-    assert_eq!(rt;
+    assert_equal!(rt;
         format!(in rt.alloc(); "{components:?}")?.as_str(),
         "ComponentVec { components: {} }"
     );
     for number in 0..4usize {
         components.set(number, text(rt.alloc(), number)?)?;
     }
-    assert_eq!(rt;
+    assert_equal!(rt;
         format!(in rt.alloc(); "{components:?}")?.as_str(),
         r#"ComponentVec { components: {0: "0", 1: "1", 2: "2", 3: "3"} }"#
     );
     let mut sparse: ComponentVec<usize, i32> = ComponentVec::new(rt.alloc());
     sparse.set(3, 9)?;
     sparse.set(0, 7)?;
-    assert_eq!(rt;
+    assert_equal!(rt;
         format!(in rt.alloc(); "{sparse:?}")?.as_str(),
         "ComponentVec { components: {0: 7, 3: 9} }"
     );
@@ -83,18 +84,18 @@ fn debug_works(rt: HostRuntime) -> Result<(), Fail> {
 #[test]
 fn an_extent_stays(rt: HostRuntime) -> Result<(), Fail> {
     let mut components: ComponentVec<usize, i32> = ComponentVec::new(rt.alloc());
-    assert_eq!(rt; components.set(3, 9)?, None);
-    assert_eq!(rt; components.set(3, 8)?, Some(9));
-    assert_eq!(rt; components.set(1, 7)?, None);
-    assert_eq!(rt; components.extent(), 4);
+    assert_equal!(rt; components.set(3, 9)?, None);
+    assert_equal!(rt; components.set(3, 8)?, Some(9));
+    assert_equal!(rt; components.set(1, 7)?, None);
+    assert_equal!(rt; components.extent(), 4);
     components[1] = 6;
     if let Some(there) = components.get_mut(3) {
         *there = 5;
     }
-    assert_eq!(rt; components.unset(1), Some(6));
-    assert_eq!(rt; components.unset(3), Some(5));
-    assert_eq!(rt; components.unset(4), None);
-    assert_eq!(rt; components.extent(), 4);
+    assert_equal!(rt; components.unset(1), Some(6));
+    assert_equal!(rt; components.unset(3), Some(5));
+    assert_equal!(rt; components.unset(4), None);
+    assert_equal!(rt; components.extent(), 4);
     Ok(())
 }
 
@@ -106,8 +107,8 @@ fn clear_takes_the_extent_back(rt: HostRuntime) -> Result<(), Fail> {
     let fresh = ComponentVec::new(rt.alloc());
     assert!(rt; components != fresh && fresh != components);
     components.clear();
-    assert_eq!(rt; components.extent(), 0);
-    assert_eq!(rt; components, fresh);
+    assert_equal!(rt; components.extent(), 0);
+    assert_equal!(rt; components, fresh);
     Ok(())
 }
 
@@ -122,7 +123,7 @@ fn equal_where_components_and_extents_are(rt: HostRuntime) -> Result<(), Fail> {
     second.set(1, 4)?;
     assert!(rt; first != second);
     second.unset(0);
-    assert_eq!(rt; first, second);
+    assert_equal!(rt; &first, &second);
     third.set(1, 4)?;
     third.set(2, 5)?;
     third.unset(2);
@@ -141,13 +142,13 @@ fn numbers_at_the_end(rt: HostRuntime) -> Result<(), Fail> {
     components.set(2, 7)?;
     let requests = log.requests();
     let refused = components.set(usize::MAX, 1);
-    assert_eq!(rt; refused, Err(ArenaError::KeyOutOfBounds));
+    assert_equal!(rt; refused, Err(ArenaError::KeyOutOfBounds));
     let refused = components.set(usize::MAX - 1, 1);
-    assert_eq!(rt; refused, Err(ArenaError::OutOfSystemMemory));
-    assert_eq!(rt; (components.extent(), components.get(2)), (3, Some(&7)));
-    assert_eq!(rt; components.get(usize::MAX), None);
-    assert_eq!(rt; components.unset(usize::MAX), None);
-    assert_eq!(rt; log.requests(), requests);
+    assert_equal!(rt; refused, Err(ArenaError::OutOfSystemMemory));
+    assert_equal!(rt; (components.extent(), components.get(2)), (3, Some(&7)));
+    assert_equal!(rt; components.get(usize::MAX), None);
+    assert_equal!(rt; components.unset(usize::MAX), None);
+    assert_equal!(rt; log.requests(), requests);
     Ok(())
 }
 
@@ -162,13 +163,13 @@ fn keys_count_by_their_numbers(rt: HostRuntime) -> Result<(), Fail> {
     {
         by_number.set(key, 7)?;
         by_tiny.set(tiny, 7)?;
-        assert_eq!(rt; (by_number.extent(), by_tiny.extent()), (3, 3));
-        assert_eq!(rt;
+        assert_equal!(rt; (by_number.extent(), by_tiny.extent()), (3, 3));
+        assert_equal!(rt;
             (by_number.get(key), by_tiny.get(tiny)),
             (Some(&7), Some(&7))
         );
     }
-    assert_eq!(rt; by_number.extent(), 3);
+    assert_equal!(rt; by_number.extent(), 3);
     Ok(())
 }
 
@@ -202,14 +203,14 @@ fn each_request_refused_in_turn(rt: HostRuntime) -> Result<(), Fail> {
                 let extent = components.extent();
                 if let Err(error) = components.set(number, 3 * number as u64) {
                     refusals = refusals.wrapping_add(1);
-                    assert_eq!(rt; error, ArenaError::OutOfSystemMemory);
+                    assert_equal!(rt; error, ArenaError::OutOfSystemMemory);
                     assert!(rt; has_the_even_ones(&components, extent), "at {nth}");
-                    assert_eq!(rt; components.set(number, 3 * number as u64)?, None);
+                    assert_equal!(rt; components.set(number, 3 * number as u64)?, None);
                 }
             }
             assert!(rt; has_the_even_ones(&components, 299), "at {nth}");
         }
-        assert_eq!(rt; (log.returned(), log.misplaced()), (log.given(), 0));
+        assert_equal!(rt; (log.returned(), log.misplaced()), (log.given(), 0));
     }
     // The vector grew several times.
     assert!(rt; refusals > 3 && refusals < 19);
@@ -223,22 +224,22 @@ fn a_far_number_asks_once(rt: HostRuntime) -> Result<(), Fail> {
         let handle = Observed::new(rt.alloc(), &log);
         let mut components: ComponentVec<usize, u64, Observed<'_>> = ComponentVec::new(handle);
         components.set(100_000, 7)?;
-        assert_eq!(rt; (log.requests(), components.extent()), (1, 100_001));
-        assert_eq!(rt;
+        assert_equal!(rt; (log.requests(), components.extent()), (1, 100_001));
+        assert_equal!(rt;
             (components.get(99_999), components.get(100_000)),
             (None, Some(&7))
         );
         // Below the extent nothing takes memory.
         log.refuse_from(1);
         for number in 0..100usize {
-            assert_eq!(rt; components.set(number, 1)?, None);
-            assert_eq!(rt; components.set(number, 2)?, Some(1));
-            assert_eq!(rt; components.unset(number), Some(2));
+            assert_equal!(rt; components.set(number, 1)?, None);
+            assert_equal!(rt; components.set(number, 2)?, Some(1));
+            assert_equal!(rt; components.unset(number), Some(2));
         }
         components.clear();
-        assert_eq!(rt; log.requests(), 1);
+        assert_equal!(rt; log.requests(), 1);
     }
-    assert_eq!(rt; (log.given(), log.returned(), log.misplaced()), (1, 1, 0));
+    assert_equal!(rt; (log.given(), log.returned(), log.misplaced()), (1, 1, 0));
     Ok(())
 }
 
@@ -276,10 +277,10 @@ fn each_component_is_dropped_once(rt: HostRuntime) -> Result<(), Fail> {
         // One is refused for each of the two reasons.
         log.refuse_from(1);
         let refused = set_counted(&mut components, 1000, &drops, 4);
-        assert_eq!(rt; refused, Err(ArenaError::OutOfSystemMemory));
+        assert_equal!(rt; refused, Err(ArenaError::OutOfSystemMemory));
         assert!(rt; counts_are(&drops, &[1, 1, 0, 0, 1, 0]));
         let refused = set_counted(&mut components, usize::MAX, &drops, 5);
-        assert_eq!(rt; refused, Err(ArenaError::KeyOutOfBounds));
+        assert_equal!(rt; refused, Err(ArenaError::KeyOutOfBounds));
         assert!(rt; counts_are(&drops, &[1, 1, 0, 0, 1, 1]));
         components.clear();
         assert!(rt; each_is(&drops, 1));
@@ -287,20 +288,20 @@ fn each_component_is_dropped_once(rt: HostRuntime) -> Result<(), Fail> {
         assert!(rt; !set_counted(&mut components, 2, &drops, 0)?);
     }
     assert!(rt; counts_are(&drops, &[2, 1, 1, 1, 1, 1]));
-    assert_eq!(rt; (log.returned(), log.misplaced()), (log.given(), 0));
+    assert_equal!(rt; (log.returned(), log.misplaced()), (log.given(), 0));
     Ok(())
 }
 
 #[test]
 fn components_without_size(rt: HostRuntime) -> Result<(), Fail> {
     let mut marked: ComponentVec<u32, ()> = ComponentVec::new(rt.alloc());
-    assert_eq!(rt; marked.set(5, ())?, None);
-    assert_eq!(rt; marked.set(5, ())?, Some(()));
-    assert_eq!(rt;
+    assert_equal!(rt; marked.set(5, ())?, None);
+    assert_equal!(rt; marked.set(5, ())?, Some(()));
+    assert_equal!(rt;
         (marked.get(4), marked.get(5), marked.extent()),
         (None, Some(&()), 6)
     );
-    assert_eq!(rt; marked.unset(5), Some(()));
-    assert_eq!(rt; (marked.get(5), marked.extent()), (None, 6));
+    assert_equal!(rt; marked.unset(5), Some(()));
+    assert_equal!(rt; (marked.get(5), marked.extent()), (None, 6));
     Ok(())
 }

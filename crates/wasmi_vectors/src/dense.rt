@@ -6,6 +6,7 @@ use std::test::Fail;
 use wasmi_arena::{
     AnyArena, ArenaCommand, ArenaError, ArenaKey, ArenaReply, StableArena, run_arena,
 };
+use wasmi_asserts::assert_equal;
 use wasmi_dense::Arena;
 
 // An arena of four texts under the keys 0 to 3.
@@ -21,11 +22,11 @@ fn four(alloc: Global) -> Result<Arena<usize, &'static str>, ArenaError> {
 fn items_get_their_keys_in_turn(rt: HostRuntime) -> Result<(), Fail> {
     let mut arena: Arena<usize, &'static str> = Arena::new(rt.alloc());
     assert!(rt; arena.is_empty());
-    assert_eq!(rt; arena.get(0), Err(ArenaError::KeyOutOfBounds));
+    assert_equal!(rt; arena.get(0), Err(ArenaError::KeyOutOfBounds));
     for (index, text) in ["a", "b", "c", "d"].iter().enumerate() {
-        assert_eq!(rt; arena.next_key(), Ok(index));
-        assert_eq!(rt; arena.alloc(text)?, index);
-        assert_eq!(rt; arena.len(), index + 1);
+        assert_equal!(rt; arena.next_key(), Ok(index));
+        assert_equal!(rt; arena.alloc(text)?, index);
+        assert_equal!(rt; arena.len(), index + 1);
     }
     Ok(())
 }
@@ -34,13 +35,13 @@ fn items_get_their_keys_in_turn(rt: HostRuntime) -> Result<(), Fail> {
 fn items_come_under_their_keys(rt: HostRuntime) -> Result<(), Fail> {
     let arena = four(rt.alloc())?;
     for (index, text) in ["a", "b", "c", "d"].iter().enumerate() {
-        assert_eq!(rt; arena.get(index), Ok(text));
+        assert_equal!(rt; arena.get(index), Ok(text));
         if index < arena.len() {
-            assert_eq!(rt; arena[index], *text);
+            assert_equal!(rt; arena[index], *text);
         }
         assert!(rt; arena.has(index));
     }
-    assert_eq!(rt; arena.get(4), Err(ArenaError::KeyOutOfBounds));
+    assert_equal!(rt; arena.get(4), Err(ArenaError::KeyOutOfBounds));
     assert!(rt; !arena.has(4));
     Ok(())
 }
@@ -51,10 +52,10 @@ fn a_cleared_arena_begins_at_key_0(rt: HostRuntime) -> Result<(), Fail> {
     let slots = arena.len() + arena.room();
     arena.clear();
     assert!(rt; arena.is_empty());
-    assert_eq!(rt; arena.get(0), Err(ArenaError::KeyOutOfBounds));
-    assert_eq!(rt; arena.room(), slots);
-    assert_eq!(rt; arena.alloc("e")?, 0);
-    assert_eq!(rt; arena.get(0), Ok(&"e"));
+    assert_equal!(rt; arena.get(0), Err(ArenaError::KeyOutOfBounds));
+    assert_equal!(rt; arena.room(), slots);
+    assert_equal!(rt; arena.alloc("e")?, 0);
+    assert_equal!(rt; arena.get(0), Ok(&"e"));
     Ok(())
 }
 
@@ -71,13 +72,13 @@ fn a_walk_goes_from_both_ends(rt: HostRuntime) -> Result<(), Fail> {
         (false, None, 0),
         (true, None, 0),
     ] {
-        assert_eq!(rt; walk.len(), ahead);
+        assert_equal!(rt; walk.len(), ahead);
         let step = if is_back {
             walk.next_back()
         } else {
             walk.next()
         };
-        assert_eq!(rt; step, entry);
+        assert_equal!(rt; step, entry);
     }
     Ok(())
 }
@@ -87,18 +88,18 @@ fn walks_have_each_entry_once(rt: HostRuntime) -> Result<(), Fail> {
     let arena = four(rt.alloc())?;
     let mut visited = 0;
     for (key, text) in &arena {
-        assert_eq!(rt; key, visited);
-        assert_eq!(rt; arena.get(key), Ok(text));
+        assert_equal!(rt; key, visited);
+        assert_equal!(rt; arena.get(key), Ok(text));
         visited = key.wrapping_add(1);
     }
-    assert_eq!(rt; visited, 4);
+    assert_equal!(rt; visited, 4);
     Ok(())
 }
 
 #[test]
 fn a_collected_arena_is_the_allocated_one(rt: HostRuntime) -> Result<(), Fail> {
     let made: Arena<usize, &'static str> = Arena::from_iter(rt.alloc(), ["a", "b", "c", "d"])?;
-    assert!(rt; made == four(rt.alloc())?);
+    assert_equal!(rt; &made, &four(rt.alloc())?);
     let fewer: Arena<usize, &'static str> = Arena::from_iter(rt.alloc(), ["a", "b", "c"])?;
     assert!(rt; made != fewer);
     let other: Arena<usize, &'static str> = Arena::from_iter(rt.alloc(), ["a", "b", "c", "e"])?;
@@ -110,9 +111,9 @@ fn a_collected_arena_is_the_allocated_one(rt: HostRuntime) -> Result<(), Fail> {
 fn equal_items_have_keys_of_their_own(rt: HostRuntime) -> Result<(), Fail> {
     let mut arena = four(rt.alloc())?;
     for (index, text) in ["a", "b", "c", "d"].iter().enumerate() {
-        assert_eq!(rt; arena.alloc(text)?, index + 4);
+        assert_equal!(rt; arena.alloc(text)?, index + 4);
     }
-    assert_eq!(rt; arena.len(), 8);
+    assert_equal!(rt; arena.len(), 8);
     Ok(())
 }
 
@@ -123,20 +124,20 @@ fn items_are_written_in_a_loop(rt: HostRuntime) -> Result<(), Fail> {
         *item = item.wrapping_add(key as u64);
     }
     for (key, item) in arena.iter() {
-        assert_eq!(rt; *item, (key as u64).wrapping_mul(2));
+        assert_equal!(rt; *item, (key as u64).wrapping_mul(2));
     }
     let mut walk = arena.iter_mut();
-    assert_eq!(rt; walk.len(), 10);
+    assert_equal!(rt; walk.len(), 10);
     if let Some((key, item)) = walk.next_back() {
-        assert_eq!(rt; (key, *item), (9, 18));
+        assert_equal!(rt; (key, *item), (9, 18));
         *item = 100;
     }
     if let Some((key, item)) = walk.next() {
-        assert_eq!(rt; (key, *item), (0, 0));
+        assert_equal!(rt; (key, *item), (0, 0));
         *item = 200;
     }
-    assert_eq!(rt; walk.len(), 8);
-    assert_eq!(rt; (arena.get(0), arena.get(9)), (Ok(&200), Ok(&100)));
+    assert_equal!(rt; walk.len(), 8);
+    assert_equal!(rt; (arena.get(0), arena.get(9)), (Ok(&200), Ok(&100)));
     Ok(())
 }
 
@@ -147,26 +148,26 @@ fn items_are_written_under_keys(rt: HostRuntime) -> Result<(), Fail> {
     if 4 < arena.len() {
         arena[4] = 40;
     }
-    assert_eq!(rt; arena.put(5, 50), Ok(5));
-    assert_eq!(rt; arena.put(10, 0), Err(ArenaError::KeyOutOfBounds));
-    assert_eq!(rt; arena.get_mut(10).err(), Some(ArenaError::KeyOutOfBounds));
+    assert_equal!(rt; arena.put(5, 50), Ok(5));
+    assert_equal!(rt; arena.put(10, 0), Err(ArenaError::KeyOutOfBounds));
+    assert_equal!(rt; arena.get_mut(10).err(), Some(ArenaError::KeyOutOfBounds));
     arena.reserve(5)?;
     let room = arena.room();
     let (one, eight) = arena.get_disjoint_mut([1, 8])?;
     *one = -1;
     *eight = -8;
-    assert_eq!(rt; arena.room(), room);
+    assert_equal!(rt; arena.room(), room);
     let (nine, two) = arena.get_disjoint_mut([9, 2])?;
-    assert_eq!(rt; (*nine, *two), (9, 2));
+    assert_equal!(rt; (*nine, *two), (9, 2));
     *nine = -9;
     *two = -2;
     let wanted: Arena<u32, i32> = Arena::from_iter(
         rt.alloc(),
         [0, -1, -2, 30, 40, 50, 6, 7, -8, -9],
     )?;
-    assert!(rt; arena == wanted);
-    assert_eq!(rt; arena.swap(1, 8), Ok(()));
-    assert_eq!(rt; (arena.get(1), arena.get(8)), (Ok(&-8), Ok(&-1)));
+    assert_equal!(rt; &arena, &wanted);
+    assert_equal!(rt; arena.swap(1, 8), Ok(()));
+    assert_equal!(rt; (arena.get(1), arena.get(8)), (Ok(&-8), Ok(&-1)));
     Ok(())
 }
 
@@ -184,10 +185,10 @@ fn pairs_out_of_bounds_come_before_equal_ones(rt: HostRuntime) -> Result<(), Fai
         (3, 3, ArenaError::KeyOutOfBounds),
     ] {
         let refused = arena.get_disjoint_mut([first, second]).err();
-        assert_eq!(rt; refused, Some(error), "{first} {second}");
-        assert_eq!(rt; arena.swap(first, second), Err(error), "{first} {second}");
+        assert_equal!(rt; refused, Some(error), "{first} {second}");
+        assert_equal!(rt; arena.swap(first, second), Err(error), "{first} {second}");
         // Nothing has changed.
-        assert_eq!(rt;
+        assert_equal!(rt;
             (arena.get(0), arena.get(1), arena.get(2), arena.room()),
             (Ok(&0), Ok(&1), Ok(&2), room)
         );
@@ -198,41 +199,41 @@ fn pairs_out_of_bounds_come_before_equal_ones(rt: HostRuntime) -> Result<(), Fai
 #[test]
 fn four_keys_are_enough_for_four_items(rt: HostRuntime) -> Result<(), Fail> {
     let mut arena: Arena<Tiny, i32> = Arena::from_iter(rt.alloc(), 0..3)?;
-    assert_eq!(rt; arena.alloc_many(1).err(), Some(ArenaError::NotEnoughKeys));
-    assert_eq!(rt; arena.len(), 3);
+    assert_equal!(rt; arena.alloc_many(1).err(), Some(ArenaError::NotEnoughKeys));
+    assert_equal!(rt; arena.len(), 3);
     let none = arena.alloc_many(0)?;
-    assert_eq!(rt; (none.start.into_usize(), none.end.into_usize()), (3, 3));
-    assert_eq!(rt; arena.alloc(9)?.into_usize(), 3);
-    assert_eq!(rt; arena.alloc(9).err(), Some(ArenaError::NotEnoughKeys));
-    assert_eq!(rt; arena.alloc_many(0).err(), Some(ArenaError::NotEnoughKeys));
-    assert_eq!(rt; arena.next_key().err(), Some(ArenaError::NotEnoughKeys));
-    assert_eq!(rt; arena.len(), 4);
+    assert_equal!(rt; (none.start.into_usize(), none.end.into_usize()), (3, 3));
+    assert_equal!(rt; arena.alloc(9)?.into_usize(), 3);
+    assert_equal!(rt; arena.alloc(9).err(), Some(ArenaError::NotEnoughKeys));
+    assert_equal!(rt; arena.alloc_many(0).err(), Some(ArenaError::NotEnoughKeys));
+    assert_equal!(rt; arena.next_key().err(), Some(ArenaError::NotEnoughKeys));
+    assert_equal!(rt; arena.len(), 4);
     let full: Arena<Tiny, i32> = Arena::from_iter(rt.alloc(), 0..4)?;
     for (index, (key, item)) in full.iter().enumerate() {
-        assert_eq!(rt; (key.into_usize(), *item), (index, index as i32));
+        assert_equal!(rt; (key.into_usize(), *item), (index, index as i32));
     }
     let more: Result<Arena<Tiny, i32>, ArenaError> = Arena::from_iter(rt.alloc(), 0..5);
-    assert_eq!(rt; more.err(), Some(ArenaError::NotEnoughKeys));
+    assert_equal!(rt; more.err(), Some(ArenaError::NotEnoughKeys));
     Ok(())
 }
 
 #[test]
 fn many_items_come_at_once(rt: HostRuntime) -> Result<(), Fail> {
     let mut arena: Arena<usize, i32> = Arena::new(rt.alloc());
-    assert_eq!(rt;
+    assert_equal!(rt;
         arena.alloc_many(usize::MAX).err(),
         Some(ArenaError::OutOfSystemMemory)
     );
     let keys = arena.alloc_many(10)?;
-    assert_eq!(rt; (keys.start, keys.end, arena.len()), (0, 10, 10));
+    assert_equal!(rt; (keys.start, keys.end, arena.len()), (0, 10, 10));
     for (_, item) in &arena {
-        assert_eq!(rt; *item, 0);
+        assert_equal!(rt; *item, 0);
     }
-    assert_eq!(rt;
+    assert_equal!(rt;
         arena.alloc_many(usize::MAX).err(),
         Some(ArenaError::NotEnoughKeys)
     );
-    assert_eq!(rt; arena.len(), 10);
+    assert_equal!(rt; arena.len(), 10);
     Ok(())
 }
 
@@ -266,7 +267,7 @@ fn one_run_for_both_arenas(rt: HostRuntime) -> Result<(), Fail> {
         (&of_dense, ArenaError::KeyOutOfBounds),
         (&of_stable, ArenaError::AliasingPairAccess),
     ] {
-        assert_eq!(rt;
+        assert_equal!(rt;
             replies.as_slice(),
             [
                 ArenaReply::Key(0),
@@ -282,11 +283,11 @@ fn one_run_for_both_arenas(rt: HostRuntime) -> Result<(), Fail> {
             .as_slice()
         );
     }
-    assert_eq!(rt;
+    assert_equal!(rt;
         (dense.len(), dense.get(0), dense.get(1)),
         (2, Ok(&9), Ok(&7))
     );
-    assert_eq!(rt;
+    assert_equal!(rt;
         (stable.len(), stable.get(0), stable.get(1)),
         (2, Ok(&9), Ok(&7))
     );
@@ -296,15 +297,15 @@ fn one_run_for_both_arenas(rt: HostRuntime) -> Result<(), Fail> {
 #[test]
 fn an_arena_prints_as_a_map(rt: HostRuntime) -> Result<(), Fail> {
     let arena: Arena<usize, i32> = Arena::from_iter(rt.alloc(), 7..9)?;
-    assert_eq!(rt;
+    assert_equal!(rt;
         format!(in rt.alloc(); "{arena:?}")?.as_str(),
         "{0: 7, 1: 8}"
     );
     let empty: Arena<usize, i32> = Arena::new(rt.alloc());
-    assert_eq!(rt; format!(in rt.alloc(); "{empty:?}")?.as_str(), "{}");
+    assert_equal!(rt; format!(in rt.alloc(); "{empty:?}")?.as_str(), "{}");
     // Its keys, and not its positions.
     let keyed: Arena<NonZero<u32>, i32> = Arena::from_iter(rt.alloc(), 7..9)?;
-    assert_eq!(rt;
+    assert_equal!(rt;
         format!(in rt.alloc(); "{keyed:?}")?.as_str(),
         "{1: 7, 2: 8}"
     );

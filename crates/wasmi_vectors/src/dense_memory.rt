@@ -5,6 +5,7 @@ use crate::observed::{Log, Observed};
 use crate::tiny::Tiny;
 use std::test::Fail;
 use wasmi_arena::{ArenaCommand, ArenaError, ArenaReply, run_arena};
+use wasmi_asserts::assert_equal;
 use wasmi_dense::Arena;
 
 #[test]
@@ -15,26 +16,26 @@ fn reserved_room_needs_no_more_memory(rt: HostRuntime) -> Result<(), Fail> {
             rt.alloc(),
             &log,
         ));
-        assert_eq!(rt; arena.room(), 0);
+        assert_equal!(rt; arena.room(), 0);
         log.refuse_from(1);
-        assert_eq!(rt; arena.reserve(10), Err(ArenaError::OutOfSystemMemory));
-        assert_eq!(rt; (arena.len(), arena.room()), (0, 0));
+        assert_equal!(rt; arena.reserve(10), Err(ArenaError::OutOfSystemMemory));
+        assert_equal!(rt; (arena.len(), arena.room()), (0, 0));
         log.refuse_none();
         arena.reserve(10)?;
         log.refuse_from(1);
         for i in 0..10u64 {
-            assert_eq!(rt; arena.alloc(i)?, i as usize);
+            assert_equal!(rt; arena.alloc(i)?, i as usize);
         }
         arena.reserve(0)?;
-        assert_eq!(rt; arena.get(9), Ok(&9));
-        assert_eq!(rt; arena.put(9, 90), Ok(9));
-        assert_eq!(rt; arena.swap(0, 9), Ok(()));
+        assert_equal!(rt; arena.get(9), Ok(&9));
+        assert_equal!(rt; arena.put(9, 90), Ok(9));
+        assert_equal!(rt; arena.swap(0, 9), Ok(()));
         arena.clear();
         let keys = arena.alloc_many(10)?;
-        assert_eq!(rt; (keys.start, keys.end), (0, 10));
+        assert_equal!(rt; (keys.start, keys.end), (0, 10));
     }
-    assert_eq!(rt; (log.requests(), log.given()), (2, 1));
-    assert_eq!(rt; (log.returned(), log.misplaced()), (1, 0));
+    assert_equal!(rt; (log.requests(), log.given()), (2, 1));
+    assert_equal!(rt; (log.returned(), log.misplaced()), (1, 0));
     Ok(())
 }
 
@@ -51,18 +52,18 @@ fn each_growth_refused_in_turn(rt: HostRuntime) -> Result<(), Fail> {
             log.refuse_once(nth);
             for i in 0..100u64 {
                 if let Err(error) = arena.alloc(i) {
-                    assert_eq!(rt; error, ArenaError::OutOfSystemMemory);
-                    assert_eq!(rt; (arena.len(), arena.room()), (len, 0), "at {nth}");
-                    assert_eq!(rt; arena.alloc(i)?, len);
+                    assert_equal!(rt; error, ArenaError::OutOfSystemMemory);
+                    assert_equal!(rt; (arena.len(), arena.room()), (len, 0), "at {nth}");
+                    assert_equal!(rt; arena.alloc(i)?, len);
                 }
             }
             for (key, item) in &arena {
-                assert_eq!(rt; *item, key as u64, "at {nth}");
+                assert_equal!(rt; *item, key as u64, "at {nth}");
             }
-            assert_eq!(rt; arena.len(), 100, "at {nth}");
+            assert_equal!(rt; arena.len(), 100, "at {nth}");
         }
-        assert_eq!(rt; log.requests(), 7);
-        assert_eq!(rt; (log.given(), log.returned(), log.misplaced()), (6, 6, 0));
+        assert_equal!(rt; log.requests(), 7);
+        assert_equal!(rt; (log.given(), log.returned(), log.misplaced()), (6, 6, 0));
     }
     Ok(())
 }
@@ -76,26 +77,26 @@ fn many_items_come_or_none(rt: HostRuntime) -> Result<(), Fail> {
             0..31,
         )?;
         let made = log.requests();
-        assert_eq!(rt; arena.room(), 1);
+        assert_equal!(rt; arena.room(), 1);
         log.refuse_from(1);
-        assert_eq!(rt;
+        assert_equal!(rt;
             arena.alloc_many(100).err(),
             Some(ArenaError::OutOfSystemMemory)
         );
-        assert_eq!(rt; (arena.len(), arena.room()), (31, 1));
+        assert_equal!(rt; (arena.len(), arena.room()), (31, 1));
         let one = arena.alloc_many(1)?;
-        assert_eq!(rt; (one.start, one.end), (31, 32));
+        assert_equal!(rt; (one.start, one.end), (31, 32));
         log.refuse_none();
         let keys = arena.alloc_many(100)?;
-        assert_eq!(rt; (keys.start, keys.end), (32, 132));
+        assert_equal!(rt; (keys.start, keys.end), (32, 132));
         // One request that was refused, and one for all hundred.
-        assert_eq!(rt; log.requests(), made.wrapping_add(2));
+        assert_equal!(rt; log.requests(), made.wrapping_add(2));
         for (key, item) in &arena {
             let wanted = if key < 31 { key as i32 } else { 0 };
-            assert_eq!(rt; *item, wanted);
+            assert_equal!(rt; *item, wanted);
         }
     }
-    assert_eq!(rt; (log.returned(), log.misplaced()), (log.given(), 0));
+    assert_equal!(rt; (log.returned(), log.misplaced()), (log.given(), 0));
     Ok(())
 }
 
@@ -108,12 +109,12 @@ fn a_refused_collection_gives_all_back(rt: HostRuntime) -> Result<(), Fail> {
             Observed::new(rt.alloc(), &log),
             0..10,
         );
-        assert_eq!(rt;
+        assert_equal!(rt;
             refused.err(),
             Some(ArenaError::OutOfSystemMemory),
             "at {nth}"
         );
-        assert_eq!(rt;
+        assert_equal!(rt;
             (log.returned(), log.misplaced()),
             (log.given(), 0),
             "at {nth}"
@@ -135,7 +136,7 @@ fn a_run_goes_on_after_a_refusal(rt: HostRuntime) -> Result<(), Fail> {
         let commands = vec![in rt.alloc(); ArenaCommand::Alloc(1), ArenaCommand::Has(0)]?;
         log.refuse_from(1);
         let replies = run_arena(rt.alloc(), &mut arena, commands)?;
-        assert_eq!(rt;
+        assert_equal!(rt;
             replies.as_slice(),
             [
                 ArenaReply::Refused(ArenaError::OutOfSystemMemory),
@@ -143,15 +144,15 @@ fn a_run_goes_on_after_a_refusal(rt: HostRuntime) -> Result<(), Fail> {
             ]
             .as_slice()
         );
-        assert_eq!(rt; arena.len(), len);
+        assert_equal!(rt; arena.len(), len);
         let handle = Observed::new(rt.alloc(), &log);
         log.refuse_none();
         let more = vec![in handle.clone()?; ArenaCommand::Alloc(1), ArenaCommand::Has(0)]?;
         log.refuse_from(1);
         assert!(rt; run_arena(handle, &mut arena, more).is_err());
-        assert_eq!(rt; arena.len(), len);
+        assert_equal!(rt; arena.len(), len);
     }
-    assert_eq!(rt; (log.returned(), log.misplaced()), (log.given(), 0));
+    assert_equal!(rt; (log.returned(), log.misplaced()), (log.given(), 0));
     Ok(())
 }
 
@@ -183,7 +184,7 @@ fn each_item_is_dropped_once(rt: HostRuntime) -> Result<(), Fail> {
         }
         assert!(rt; counts_are(&drops, &[100, 2, 10, 1]));
     }
-    assert_eq!(rt; (log.returned(), log.misplaced()), (log.given(), 0));
+    assert_equal!(rt; (log.returned(), log.misplaced()), (log.given(), 0));
     Ok(())
 }
 
@@ -212,7 +213,7 @@ fn items_without_a_key_are_dropped(rt: HostRuntime) -> Result<(), Fail> {
         let mut arena: Arena<usize, Counted<'_>> = Arena::new(rt.alloc());
         let commands = Vec::from_array(rt.alloc(), [ArenaCommand::Put(3, Counted::new(refused))])?;
         let replies = run_arena(rt.alloc(), &mut arena, commands)?;
-        assert_eq!(rt; (replies.len(), arena.len()), (1, 0));
+        assert_equal!(rt; (replies.len(), arena.len()), (1, 0));
         assert!(rt; counts_are(&drops, &[4, 7]));
     }
     Ok(())
@@ -222,11 +223,11 @@ fn items_without_a_key_are_dropped(rt: HostRuntime) -> Result<(), Fail> {
 fn items_without_size(rt: HostRuntime) -> Result<(), Fail> {
     let mut arena: Arena<usize, ()> = Arena::new(rt.alloc());
     for index in 0..40 {
-        assert_eq!(rt; arena.alloc(())?, index);
+        assert_equal!(rt; arena.alloc(())?, index);
     }
     let keys = arena.alloc_many(60)?;
-    assert_eq!(rt; (keys.start, keys.end, arena.iter().len()), (40, 100, 100));
-    assert_eq!(rt;
+    assert_equal!(rt; (keys.start, keys.end, arena.iter().len()), (40, 100, 100));
+    assert_equal!(rt;
         (arena.get(99), arena.get(100)),
         (Ok(&()), Err(ArenaError::KeyOutOfBounds))
     );
@@ -244,11 +245,11 @@ fn a_pair_needs_no_memory(rt: HostRuntime) -> Result<(), Fail> {
         arena.alloc(9)?;
     }
     let requests = log.requests();
-    assert_eq!(rt; arena.get_disjoint_mut([1, 0])?, (&mut 8, &mut 7));
-    assert_eq!(rt;
+    assert_equal!(rt; arena.get_disjoint_mut([1, 0])?, (&mut 8, &mut 7));
+    assert_equal!(rt;
         arena.get_disjoint_mut([1, 1]).err(),
         Some(ArenaError::AliasingPairAccess)
     );
-    assert_eq!(rt; (arena.room(), log.requests()), (0, requests));
+    assert_equal!(rt; (arena.room(), log.requests()), (0, requests));
     Ok(())
 }

@@ -7,6 +7,7 @@ use std::alloc::{AllocError, Global};
 use std::cell::Cell;
 use std::test::Fail;
 use wasmi_arena::{ArenaError, ArenaKey, StableArena, StableVec};
+use wasmi_asserts::assert_equal;
 
 // So many items that count their drops in one of the counts.
 fn items<'a>(
@@ -28,9 +29,9 @@ fn items<'a>(
 fn items_come_in_their_order(rt: HostRuntime) -> Result<(), Fail> {
     let mut vec = StableVec::from_iter(rt.alloc(), 0..50u64)?;
     vec.extend(50..100)?;
-    assert_eq!(rt; (vec.len(), vec.open_buckets()), (100, 3));
+    assert_equal!(rt; (vec.len(), vec.open_buckets()), (100, 3));
     for (index, item) in vec.iter().enumerate() {
-        assert_eq!(rt; *item, index as u64);
+        assert_equal!(rt; *item, index as u64);
     }
     Ok(())
 }
@@ -46,12 +47,12 @@ fn a_refused_extend_keeps_what_had_room(rt: HostRuntime) -> Result<(), Fail> {
         vec.extend(first)?;
         log.refuse_from(1);
         let refused = vec.extend(more);
-        assert_eq!(rt; refused, Err(ArenaError::OutOfSystemMemory));
-        assert_eq!(rt; (vec.len(), vec.open_buckets()), (32, 1));
+        assert_equal!(rt; refused, Err(ArenaError::OutOfSystemMemory));
+        assert_equal!(rt; (vec.len(), vec.open_buckets()), (32, 1));
         assert!(rt; counts_are(&drops, &[0, 3]));
     }
     assert!(rt; counts_are(&drops, &[30, 5]));
-    assert_eq!(rt; (log.given(), log.returned(), log.misplaced()), (1, 1, 0));
+    assert_equal!(rt; (log.given(), log.returned(), log.misplaced()), (1, 1, 0));
     Ok(())
 }
 
@@ -62,11 +63,11 @@ fn an_extend_goes_as_far_as_its_buckets(rt: HostRuntime) -> Result<(), Fail> {
         let mut vec = StableVec::new(Observed::new(rt.alloc(), &log));
         vec.extend(0..32u64)?;
         log.refuse_once(2);
-        assert_eq!(rt; vec.extend(32..132), Err(ArenaError::OutOfSystemMemory));
-        assert_eq!(rt; (vec.len(), vec.open_buckets()), (96, 2));
-        assert_eq!(rt; vec.get(95), Some(&95));
+        assert_equal!(rt; vec.extend(32..132), Err(ArenaError::OutOfSystemMemory));
+        assert_equal!(rt; (vec.len(), vec.open_buckets()), (96, 2));
+        assert_equal!(rt; vec.get(95), Some(&95));
     }
-    assert_eq!(rt; (log.given(), log.returned(), log.misplaced()), (2, 2, 0));
+    assert_equal!(rt; (log.given(), log.returned(), log.misplaced()), (2, 2, 0));
     Ok(())
 }
 
@@ -80,33 +81,33 @@ fn alloc_many_adds_all_or_none(rt: HostRuntime) -> Result<(), Fail> {
         )?;
         log.refuse_once(2);
         let refused = arena.alloc_many(100).err();
-        assert_eq!(rt; refused, Some(ArenaError::OutOfSystemMemory));
-        assert_eq!(rt; (arena.len(), arena.items().open_buckets()), (31, 1));
-        assert_eq!(rt; (log.given(), log.returned()), (2, 1));
+        assert_equal!(rt; refused, Some(ArenaError::OutOfSystemMemory));
+        assert_equal!(rt; (arena.len(), arena.items().open_buckets()), (31, 1));
+        assert_equal!(rt; (log.given(), log.returned()), (2, 1));
         let keys = arena.alloc_many(100)?;
-        assert_eq!(rt; (keys.start, keys.end), (31, 131));
-        assert_eq!(rt;
+        assert_equal!(rt; (keys.start, keys.end), (31, 131));
+        assert_equal!(rt;
             (arena.items().open_buckets(), arena.items().slots()),
             (3, 224)
         );
-        assert_eq!(rt;
+        assert_equal!(rt;
             (arena.get(30), arena.get(31), arena.get(130)),
             (Ok(&30), Ok(&0), Ok(&0))
         );
     }
-    assert_eq!(rt; (log.given(), log.returned(), log.misplaced()), (4, 4, 0));
+    assert_equal!(rt; (log.given(), log.returned(), log.misplaced()), (4, 4, 0));
     Ok(())
 }
 
 #[test]
 fn alloc_many_needs_a_key_for_its_end(rt: HostRuntime) -> Result<(), Fail> {
     let mut arena: StableArena<Tiny, i32> = StableArena::from_iter(rt.alloc(), 0..3)?;
-    assert_eq!(rt; arena.alloc_many(1).err(), Some(ArenaError::NotEnoughKeys));
-    assert_eq!(rt; arena.len(), 3);
+    assert_equal!(rt; arena.alloc_many(1).err(), Some(ArenaError::NotEnoughKeys));
+    assert_equal!(rt; arena.len(), 3);
     let keys = arena.alloc_many(0)?;
-    assert_eq!(rt; (keys.start.into_usize(), keys.end.into_usize()), (3, 3));
+    assert_equal!(rt; (keys.start.into_usize(), keys.end.into_usize()), (3, 3));
     let full: Result<StableArena<Tiny, i32>, ArenaError> = StableArena::from_iter(rt.alloc(), 0..5);
-    assert_eq!(rt; full.err(), Some(ArenaError::NotEnoughKeys));
+    assert_equal!(rt; full.err(), Some(ArenaError::NotEnoughKeys));
     Ok(())
 }
 
@@ -118,8 +119,8 @@ fn too_many_for_the_buckets_open_none(rt: HostRuntime) -> Result<(), Fail> {
         &log,
     ));
     let refused = arena.alloc_many(4_294_967_265).err();
-    assert_eq!(rt; refused, Some(ArenaError::NotEnoughKeys));
-    assert_eq!(rt; (arena.len(), log.requests()), (0, 0));
+    assert_equal!(rt; refused, Some(ArenaError::NotEnoughKeys));
+    assert_equal!(rt; (arena.len(), log.requests()), (0, 0));
     Ok(())
 }
 
@@ -130,15 +131,15 @@ fn a_clone_is_in_the_allocator_that_it_is_given(rt: HostRuntime) -> Result<(), F
     {
         let made = vec.clone_in(Observed::new(rt.alloc(), &log))?;
         let again = made.clone()?;
-        assert_eq!(rt; (made.len(), again.len()), (100, 100));
+        assert_equal!(rt; (made.len(), again.len()), (100, 100));
         for index in 0..100 {
-            assert_eq!(rt; made.get(index), vec.get(index));
-            assert_eq!(rt; again.get(index), vec.get(index));
+            assert_equal!(rt; made.get(index), vec.get(index));
+            assert_equal!(rt; again.get(index), vec.get(index));
         }
         log.refuse_once(2);
-        assert_eq!(rt; made.clone().err(), Some(ArenaError::OutOfSystemMemory));
+        assert_equal!(rt; made.clone().err(), Some(ArenaError::OutOfSystemMemory));
     }
-    assert_eq!(rt; (log.given(), log.returned(), log.misplaced()), (7, 7, 0));
+    assert_equal!(rt; (log.given(), log.returned(), log.misplaced()), (7, 7, 0));
     Ok(())
 }
 
@@ -151,11 +152,11 @@ fn items_without_size_ask_for_nothing(rt: HostRuntime) -> Result<(), Fail> {
         &log,
     ));
     let keys = arena.alloc_many(40)?;
-    assert_eq!(rt; (keys.start, keys.end), (0, 40));
+    assert_equal!(rt; (keys.start, keys.end), (0, 40));
     let mut vec = arena.items().clone()?;
     vec.extend([(), ()])?;
-    assert_eq!(rt; (vec.len(), arena.clone()?.len()), (42, 40));
-    assert_eq!(rt; log.requests(), 0);
+    assert_equal!(rt; (vec.len(), arena.clone()?.len()), (42, 40));
+    assert_equal!(rt; log.requests(), 0);
     Ok(())
 }
 
@@ -170,8 +171,8 @@ fn a_refused_extend_draws_no_further(rt: HostRuntime) -> Result<(), Fail> {
         draws.set(draws.get().wrapping_add(1));
         number
     });
-    assert_eq!(rt; vec.extend(numbers), Err(ArenaError::OutOfSystemMemory));
-    assert_eq!(rt; (vec.len(), draws.get()), (32, 33));
+    assert_equal!(rt; vec.extend(numbers), Err(ArenaError::OutOfSystemMemory));
+    assert_equal!(rt; (vec.len(), draws.get()), (32, 33));
     Ok(())
 }
 
@@ -183,19 +184,19 @@ fn a_refused_collection_drops_all_items(rt: HostRuntime) -> Result<(), Fail> {
         log.refuse_once(nth);
         let first = items(rt.alloc(), &drops, 0, 100)?;
         let refused = StableVec::from_iter(Observed::new(rt.alloc(), &log), first).err();
-        assert_eq!(rt; refused, Some(ArenaError::OutOfSystemMemory), "at {nth}");
+        assert_equal!(rt; refused, Some(ArenaError::OutOfSystemMemory), "at {nth}");
         assert!(rt; counts_are(&drops, &[100, 0]));
         log.refuse_once(nth);
         let second = items(rt.alloc(), &drops, 1, 100)?;
         let refused: Result<StableArena<usize, Counted<'_>, Observed<'_>>, ArenaError> =
             StableArena::from_iter(Observed::new(rt.alloc(), &log), second);
-        assert_eq!(rt;
+        assert_equal!(rt;
             refused.err(),
             Some(ArenaError::OutOfSystemMemory),
             "at {nth}"
         );
         assert!(rt; counts_are(&drops, &[100, 100]));
-        assert_eq!(rt;
+        assert_equal!(rt;
             (log.returned(), log.misplaced()),
             (log.given(), 0),
             "at {nth}"

@@ -6,6 +6,7 @@ use std::alloc::{AllocError, Allocator, Global};
 use std::cell::Cell;
 use std::cmp::Ordering;
 use std::test::Fail;
+use wasmi_asserts::assert_equal;
 use wasmi_collections::HeadVec;
 use wasmi_collections::arena::ArenaError;
 
@@ -36,13 +37,13 @@ fn the_last_items_are_compared_first(rt: HostRuntime) -> Result<(), Fail> {
         let this = list(rt.alloc(), items)?;
         for (other, items) in lists.iter().enumerate() {
             let that = list(rt.alloc(), items)?;
-            assert_eq!(rt; this.cmp(&that), one.cmp(&other), "at {one} and {other}");
-            assert_eq!(rt; this.partial_cmp(&that), Some(one.cmp(&other)));
-            assert_eq!(rt; this == that, one == other);
+            assert_equal!(rt; this.cmp(&that), one.cmp(&other), "at {one} and {other}");
+            assert_equal!(rt; this.partial_cmp(&that), Some(one.cmp(&other)));
+            assert_equal!(rt; this == that, one == other);
         }
     }
     assert!(rt; list(rt.alloc(), &[2, 1])? < list(rt.alloc(), &[1, 2])?);
-    assert_eq!(rt;
+    assert_equal!(rt;
         list(rt.alloc(), &[1, 2])?.cmp(&list(rt.alloc(), &[3])?),
         Ordering::Less
     );
@@ -52,15 +53,15 @@ fn the_last_items_are_compared_first(rt: HostRuntime) -> Result<(), Fail> {
 #[test]
 fn items_that_are_not_ordered(rt: HostRuntime) -> Result<(), Fail> {
     let none = list(rt.alloc(), &[1.0, f64::NAN])?;
-    assert_eq!(rt; none.partial_cmp(&list(rt.alloc(), &[1.0, 2.0])?), None);
-    assert_eq!(rt;
+    assert_equal!(rt; none.partial_cmp(&list(rt.alloc(), &[1.0, 2.0])?), None);
+    assert_equal!(rt;
         list(rt.alloc(), &[f64::NAN, 1.0])?.partial_cmp(&none),
         None
     );
     let less = list(rt.alloc(), &[f64::NAN, 1.0])?;
     let greater = list(rt.alloc(), &[f64::NAN, 2.0])?;
-    assert_eq!(rt; less.partial_cmp(&greater), Some(Ordering::Less));
-    assert_eq!(rt; less.partial_cmp(&less), None);
+    assert_equal!(rt; less.partial_cmp(&greater), Some(Ordering::Less));
+    assert_equal!(rt; less.partial_cmp(&less), None);
     assert!(rt; less != less);
     Ok(())
 }
@@ -68,7 +69,7 @@ fn items_that_are_not_ordered(rt: HostRuntime) -> Result<(), Fail> {
 #[test]
 fn items_come_back_from_the_end(rt: HostRuntime) -> Result<(), Fail> {
     let mut items: HeadVec<u32> = HeadVec::new(rt.alloc());
-    assert_eq!(rt;
+    assert_equal!(rt;
         (items.len(), items.is_empty(), items.last()),
         (0, true, None)
     );
@@ -76,7 +77,7 @@ fn items_come_back_from_the_end(rt: HostRuntime) -> Result<(), Fail> {
     items.push(1)?;
     items.push(2)?;
     items.push(3)?;
-    assert_eq!(rt;
+    assert_equal!(rt;
         (items.len(), items.is_empty(), items.last()),
         (3, false, Some(&3))
     );
@@ -84,25 +85,25 @@ fn items_come_back_from_the_end(rt: HostRuntime) -> Result<(), Fail> {
         *last = 30;
     }
     let copy = items.clone()?;
-    assert_eq!(rt;
+    assert_equal!(rt;
         (items.pop(), items.pop(), items.pop()),
         (Some(30), Some(2), Some(1))
     );
-    assert_eq!(rt; (items.pop(), items.len()), (None, 0));
-    assert_eq!(rt; copy, list(rt.alloc(), &[1, 2, 30])?);
+    assert_equal!(rt; (items.pop(), items.len()), (None, 0));
+    assert_equal!(rt; copy, list(rt.alloc(), &[1, 2, 30])?);
     Ok(())
 }
 
 #[test]
 fn lists_print_their_items(rt: HostRuntime) -> Result<(), Fail> {
     let mut items = list(rt.alloc(), &[1, 2, 30])?;
-    assert_eq!(rt; format!(in rt.alloc(); "{items:?}")?.as_str(), "[1, 2, 30]");
+    assert_equal!(rt; format!(in rt.alloc(); "{items:?}")?.as_str(), "[1, 2, 30]");
     items.clear();
-    assert_eq!(rt; items, HeadVec::new(rt.alloc()));
-    assert_eq!(rt; format!(in rt.alloc(); "{items:?}")?.as_str(), "[]");
+    assert_equal!(rt; &items, &HeadVec::new(rt.alloc()));
+    assert_equal!(rt; format!(in rt.alloc(); "{items:?}")?.as_str(), "[]");
     let mut one = list(rt.alloc(), &[1])?;
-    assert_eq!(rt; format!(in rt.alloc(); "{one:?}")?.as_str(), "[1]");
-    assert_eq!(rt; (one.pop(), one.pop()), (Some(1), None));
+    assert_equal!(rt; format!(in rt.alloc(); "{one:?}")?.as_str(), "[1]");
+    assert_equal!(rt; (one.pop(), one.pop()), (Some(1), None));
     Ok(())
 }
 
@@ -113,12 +114,12 @@ fn one_item_needs_no_memory(rt: HostRuntime) -> Result<(), Fail> {
     let mut items = HeadVec::new(Observed::new(rt.alloc(), &log));
     for _ in 0..3 {
         items.push(5u64)?;
-        assert_eq!(rt; (items.len(), items.last()), (1, Some(&5)));
+        assert_equal!(rt; (items.len(), items.last()), (1, Some(&5)));
         let copy = items.clone()?;
-        assert_eq!(rt; copy, items);
-        assert_eq!(rt; (items.pop(), items.clone()?.len()), (Some(5), 0));
+        assert_equal!(rt; &copy, &items);
+        assert_equal!(rt; (items.pop(), items.clone()?.len()), (Some(5), 0));
     }
-    assert_eq!(rt; log.requests(), 0);
+    assert_equal!(rt; log.requests(), 0);
     Ok(())
 }
 
@@ -133,7 +134,7 @@ fn a_pop_gives_no_memory_back(rt: HostRuntime) -> Result<(), Fail> {
     for _ in 0..40 {
         assert!(rt; items.pop().is_some());
     }
-    assert_eq!(rt; log.returned(), returned);
+    assert_equal!(rt; log.returned(), returned);
     Ok(())
 }
 
@@ -148,16 +149,16 @@ fn each_request_refused_in_turn(rt: HostRuntime) -> Result<(), Fail> {
             for item in 0..300usize {
                 if let Err(error) = items.push(item) {
                     refusals = refusals.wrapping_add(1);
-                    assert_eq!(rt; error, ArenaError::OutOfSystemMemory);
-                    assert_eq!(rt; items.len(), item, "at {nth}");
+                    assert_equal!(rt; error, ArenaError::OutOfSystemMemory);
+                    assert_equal!(rt; items.len(), item, "at {nth}");
                     assert!(rt; ends_with_numbers(items.clone()?, item), "at {nth}");
                     items.push(item)?;
                 }
-                assert_eq!(rt; items.last(), Some(&item));
+                assert_equal!(rt; items.last(), Some(&item));
             }
             assert!(rt; ends_with_numbers(items, 300), "at {nth}");
         }
-        assert_eq!(rt; (log.returned(), log.misplaced()), (log.given(), 0));
+        assert_equal!(rt; (log.returned(), log.misplaced()), (log.given(), 0));
     }
     // The list grew several times.
     assert!(rt; refusals > 3 && refusals < 19);
@@ -185,8 +186,8 @@ fn a_refused_clone_leaves_its_source(rt: HostRuntime) -> Result<(), Fail> {
         // A box for each item, and a block for the first two of them.
         for nth in 1..5u64 {
             log.refuse_once(nth);
-            assert_eq!(rt; items.clone().err(), Some(ArenaError::OutOfSystemMemory));
-            assert_eq!(rt;
+            assert_equal!(rt; items.clone().err(), Some(ArenaError::OutOfSystemMemory));
+            assert_equal!(rt;
                 (items.len(), items.last().map(|last| **last)),
                 (3, Some(2))
             );
@@ -194,9 +195,9 @@ fn a_refused_clone_leaves_its_source(rt: HostRuntime) -> Result<(), Fail> {
         log.refuse_none();
         let asked = log.requests();
         let copy = items.clone()?;
-        assert_eq!(rt; (log.requests(), &copy), (asked.wrapping_add(4), &items));
+        assert_equal!(rt; (log.requests(), &copy), (asked.wrapping_add(4), &items));
     }
-    assert_eq!(rt; (log.returned(), log.misplaced()), (log.given(), 0));
+    assert_equal!(rt; (log.returned(), log.misplaced()), (log.given(), 0));
     Ok(())
 }
 
@@ -224,7 +225,7 @@ fn each_item_is_dropped_once(rt: HostRuntime) -> Result<(), Fail> {
         push_counted(&mut items, &drops, 0)?;
         log.refuse_from(1);
         let refused = push_counted(&mut items, &drops, 1);
-        assert_eq!(rt; refused, Err(ArenaError::OutOfSystemMemory));
+        assert_equal!(rt; refused, Err(ArenaError::OutOfSystemMemory));
         assert!(rt; counts_are(&drops, &[0, 1, 0, 0, 0]));
         log.refuse_none();
         push_counted(&mut items, &drops, 2)?;
@@ -237,7 +238,7 @@ fn each_item_is_dropped_once(rt: HostRuntime) -> Result<(), Fail> {
         assert!(rt; counts_are(&drops, &[1, 1, 1, 1, 0]));
     }
     assert!(rt; each_is(&drops, 1));
-    assert_eq!(rt; (log.returned(), log.misplaced()), (log.given(), 0));
+    assert_equal!(rt; (log.returned(), log.misplaced()), (log.given(), 0));
     Ok(())
 }
 
@@ -247,11 +248,11 @@ fn items_without_size(rt: HostRuntime) -> Result<(), Fail> {
     for _ in 0..40 {
         items.push(())?;
     }
-    assert_eq!(rt; (items.len(), items.last()), (40, Some(&())));
+    assert_equal!(rt; (items.len(), items.last()), (40, Some(&())));
     for len in (0..40).rev() {
-        assert_eq!(rt; items.pop(), Some(()));
-        assert_eq!(rt; items.len(), len);
+        assert_equal!(rt; items.pop(), Some(()));
+        assert_equal!(rt; items.len(), len);
     }
-    assert_eq!(rt; items.pop(), None);
+    assert_equal!(rt; items.pop(), None);
     Ok(())
 }

@@ -8,6 +8,7 @@ use std::test::Fail;
 use wasmi_arena::{
     ArenaCommand, ArenaError, ArenaKey, ArenaReply, StableArena, StableVec, run_arena,
 };
+use wasmi_asserts::assert_equal;
 
 #[test]
 fn a_refused_bucket_can_be_opened_later(rt: HostRuntime) -> Result<(), Fail> {
@@ -18,15 +19,15 @@ fn a_refused_bucket_can_be_opened_later(rt: HostRuntime) -> Result<(), Fail> {
             vec.push(i)?;
         }
         log.refuse_from(1);
-        assert_eq!(rt; vec.push(31)?, 31);
-        assert_eq!(rt; vec.push(32), Err(ArenaError::OutOfSystemMemory));
-        assert_eq!(rt; (vec.len(), vec.open_buckets(), vec.slots()), (32, 1, 32));
+        assert_equal!(rt; vec.push(31)?, 31);
+        assert_equal!(rt; vec.push(32), Err(ArenaError::OutOfSystemMemory));
+        assert_equal!(rt; (vec.len(), vec.open_buckets(), vec.slots()), (32, 1, 32));
         log.refuse_none();
-        assert_eq!(rt; vec.push(32)?, 32);
-        assert_eq!(rt; (vec.len(), vec.open_buckets(), vec.slots()), (33, 2, 96));
+        assert_equal!(rt; vec.push(32)?, 32);
+        assert_equal!(rt; (vec.len(), vec.open_buckets(), vec.slots()), (33, 2, 96));
     }
-    assert_eq!(rt; log.requests(), 3);
-    assert_eq!(rt; (log.given(), log.returned(), log.misplaced()), (2, 2, 0));
+    assert_equal!(rt; log.requests(), 3);
+    assert_equal!(rt; (log.given(), log.returned(), log.misplaced()), (2, 2, 0));
     Ok(())
 }
 
@@ -39,19 +40,19 @@ fn each_request_refused_in_turn(rt: HostRuntime) -> Result<(), Fail> {
             log.refuse_once(nth);
             for i in 0..300u64 {
                 if let Err(error) = vec.push(i) {
-                    assert_eq!(rt; error, ArenaError::OutOfSystemMemory);
-                    assert_eq!(rt; (vec.len(), vec.open_buckets()), (len, open), "at {nth}");
+                    assert_equal!(rt; error, ArenaError::OutOfSystemMemory);
+                    assert_equal!(rt; (vec.len(), vec.open_buckets()), (len, open), "at {nth}");
                     vec.push(i)?;
                 }
-                assert_eq!(rt; vec.iter().len(), vec.len());
+                assert_equal!(rt; vec.iter().len(), vec.len());
             }
-            assert_eq!(rt;
+            assert_equal!(rt;
                 (vec.len(), vec.open_buckets(), vec.get(299)),
                 (300, 4, Some(&299))
             );
         }
-        assert_eq!(rt; log.requests(), 5);
-        assert_eq!(rt; (log.given(), log.returned(), log.misplaced()), (4, 4, 0));
+        assert_equal!(rt; log.requests(), 5);
+        assert_equal!(rt; (log.given(), log.returned(), log.misplaced()), (4, 4, 0));
     }
     Ok(())
 }
@@ -64,8 +65,8 @@ fn items_without_size_need_no_memory(rt: HostRuntime) -> Result<(), Fail> {
     for _ in 0..40 {
         vec.push(())?;
     }
-    assert_eq!(rt; (vec.len(), vec.open_buckets(), vec.slots()), (40, 2, 96));
-    assert_eq!(rt; log.requests(), 0);
+    assert_equal!(rt; (vec.len(), vec.open_buckets(), vec.slots()), (40, 2, 96));
+    assert_equal!(rt; log.requests(), 0);
     Ok(())
 }
 
@@ -83,7 +84,7 @@ fn a_run_goes_on_after_a_refusal(rt: HostRuntime) -> Result<(), Fail> {
         let commands = vec![in rt.alloc(); ArenaCommand::Alloc(1), ArenaCommand::Has(0)]?;
         log.refuse_from(1);
         let replies = run_arena(rt.alloc(), &mut arena, commands)?;
-        assert_eq!(rt;
+        assert_equal!(rt;
             replies.as_slice(),
             [
                 ArenaReply::Refused(ArenaError::OutOfSystemMemory),
@@ -91,9 +92,9 @@ fn a_run_goes_on_after_a_refusal(rt: HostRuntime) -> Result<(), Fail> {
             ]
             .as_slice()
         );
-        assert_eq!(rt; (arena.len(), arena.room()), (32, 0));
+        assert_equal!(rt; (arena.len(), arena.room()), (32, 0));
     }
-    assert_eq!(rt; (log.given(), log.returned(), log.misplaced()), (1, 1, 0));
+    assert_equal!(rt; (log.given(), log.returned(), log.misplaced()), (1, 1, 0));
     Ok(())
 }
 
@@ -109,7 +110,7 @@ fn a_run_without_room_for_its_replies(rt: HostRuntime) -> Result<(), Fail> {
         assert!(rt; refused);
         assert!(rt; arena.is_empty());
     }
-    assert_eq!(rt; (log.given(), log.returned(), log.misplaced()), (1, 1, 0));
+    assert_equal!(rt; (log.given(), log.returned(), log.misplaced()), (1, 1, 0));
     Ok(())
 }
 
@@ -122,26 +123,26 @@ fn eleven_buckets_are_opened_in_turn(rt: HostRuntime) -> Result<(), Fail> {
         for i in 0..32_736u64 {
             vec.push(i)?;
         }
-        assert_eq!(rt;
+        assert_equal!(rt;
             (vec.open_buckets(), vec.slots(), vec.room()),
             (10, 32_736, 0)
         );
-        assert_eq!(rt; (log.requests(), log.bytes()), (10, 261_888));
+        assert_equal!(rt; (log.requests(), log.bytes()), (10, 261_888));
         for i in 32_736..40_000u64 {
             vec.push(i)?;
         }
-        assert_eq!(rt;
+        assert_equal!(rt;
             (vec.len(), vec.open_buckets(), vec.slots()),
             (40_000, 11, 65_504)
         );
-        assert_eq!(rt;
+        assert_equal!(rt;
             (vec.get(32_735), vec.get(32_736)),
             (Some(&32_735), Some(&32_736))
         );
-        assert_eq!(rt; (vec.get(39_999), vec.get(40_000)), (Some(&39_999), None));
-        assert_eq!(rt; (log.requests(), log.bytes()), (11, 524_032));
+        assert_equal!(rt; (vec.get(39_999), vec.get(40_000)), (Some(&39_999), None));
+        assert_equal!(rt; (log.requests(), log.bytes()), (11, 524_032));
     }
-    assert_eq!(rt; (log.given(), log.returned(), log.misplaced()), (11, 11, 0));
+    assert_equal!(rt; (log.given(), log.returned(), log.misplaced()), (11, 11, 0));
     Ok(())
 }
 
@@ -164,18 +165,18 @@ fn each_large_bucket_refused_once(rt: HostRuntime) -> Result<(), Fail> {
             for i in 0..40_000u64 {
                 if let Err(error) = vec.push(i) {
                     refused = refused.wrapping_add(1);
-                    assert_eq!(rt; error, ArenaError::OutOfSystemMemory);
-                    assert_eq!(rt; (vec.len(), vec.slots(), vec.room()), (slots, slots, 0));
-                    assert_eq!(rt; vec.open_buckets(), open, "at bucket {bucket}");
-                    assert_eq!(rt; vec.push(i)?, slots);
+                    assert_equal!(rt; error, ArenaError::OutOfSystemMemory);
+                    assert_equal!(rt; (vec.len(), vec.slots(), vec.room()), (slots, slots, 0));
+                    assert_equal!(rt; vec.open_buckets(), open, "at bucket {bucket}");
+                    assert_equal!(rt; vec.push(i)?, slots);
                 }
             }
-            assert_eq!(rt; refused, 1);
-            assert_eq!(rt; (vec.len(), vec.open_buckets()), (40_000, 11));
-            assert_eq!(rt; vec.iter().len(), 40_000);
+            assert_equal!(rt; refused, 1);
+            assert_equal!(rt; (vec.len(), vec.open_buckets()), (40_000, 11));
+            assert_equal!(rt; vec.iter().len(), 40_000);
         }
-        assert_eq!(rt; log.requests(), 12);
-        assert_eq!(rt; (log.given(), log.returned(), log.misplaced()), (11, 11, 0));
+        assert_equal!(rt; log.requests(), 12);
+        assert_equal!(rt; (log.given(), log.returned(), log.misplaced()), (11, 11, 0));
     }
     Ok(())
 }
@@ -215,11 +216,11 @@ fn an_item_whose_push_is_refused_is_dropped(rt: HostRuntime) -> Result<(), Fail>
         }
         log.refuse_from(1);
         let error = vec.push(Counted::new(&refused)).err();
-        assert_eq!(rt; error, Some(ArenaError::OutOfSystemMemory));
-        assert_eq!(rt; refused.get(), 1);
+        assert_equal!(rt; error, Some(ArenaError::OutOfSystemMemory));
+        assert_equal!(rt; refused.get(), 1);
         assert!(rt; each_is(&stored, 0));
     }
-    assert_eq!(rt; refused.get(), 1);
+    assert_equal!(rt; refused.get(), 1);
     assert!(rt; each_is(&stored, 1));
     Ok(())
 }
@@ -238,11 +239,11 @@ fn an_item_that_finds_no_memory_is_dropped(rt: HostRuntime) -> Result<(), Fail> 
         }
         log.refuse_from(1);
         let error = arena.alloc(Counted::new(&refused)).err();
-        assert_eq!(rt; error, Some(ArenaError::OutOfSystemMemory));
-        assert_eq!(rt; (arena.len(), refused.get()), (32, 1));
+        assert_equal!(rt; error, Some(ArenaError::OutOfSystemMemory));
+        assert_equal!(rt; (arena.len(), refused.get()), (32, 1));
         assert!(rt; each_is(&stored, 0));
     }
-    assert_eq!(rt; refused.get(), 1);
+    assert_equal!(rt; refused.get(), 1);
     assert!(rt; each_is(&stored, 1));
     Ok(())
 }
@@ -262,12 +263,12 @@ fn an_item_that_finds_no_key_is_dropped(rt: HostRuntime) -> Result<(), Fail> {
         }
         log.refuse_from(1);
         let error = arena.alloc(Counted::new(&refused)).err();
-        assert_eq!(rt; error, Some(ArenaError::NotEnoughKeys));
-        assert_eq!(rt; (arena.len(), refused.get()), (4, 1));
+        assert_equal!(rt; error, Some(ArenaError::NotEnoughKeys));
+        assert_equal!(rt; (arena.len(), refused.get()), (4, 1));
         assert!(rt; each_is(&stored, 0));
-        assert_eq!(rt; log.requests(), 1);
+        assert_equal!(rt; log.requests(), 1);
     }
-    assert_eq!(rt; refused.get(), 1);
+    assert_equal!(rt; refused.get(), 1);
     assert!(rt; each_is(&stored, 1));
     Ok(())
 }
@@ -309,7 +310,7 @@ fn a_run_drops_the_item_that_finds_no_memory(rt: HostRuntime) -> Result<(), Fail
         let mut arena = StableArena::new(Observed::new(rt.alloc(), &log));
         log.refuse_once(2);
         let replies = run_arena(rt.alloc(), &mut arena, commands)?;
-        assert_eq!(rt; (replies.len(), arena.len()), (34, 33));
+        assert_equal!(rt; (replies.len(), arena.len()), (34, 33));
         for (item, reply) in replies.iter().enumerate() {
             let expected = match item {
                 32 => Err(ArenaError::OutOfSystemMemory),
@@ -319,7 +320,7 @@ fn a_run_drops_the_item_that_finds_no_memory(rt: HostRuntime) -> Result<(), Fail
             assert!(rt; replies_with(reply, expected));
         }
         for (item, drops) in counts.iter().enumerate() {
-            assert_eq!(rt; drops.get(), if item == 32 { 1 } else { 0 });
+            assert_equal!(rt; drops.get(), if item == 32 { 1 } else { 0 });
         }
     }
     assert!(rt; each_is(&counts, 1));
@@ -333,13 +334,13 @@ fn a_run_drops_the_items_that_find_no_key(rt: HostRuntime) -> Result<(), Fail> {
         let commands = allocs(rt.alloc(), &counts)?;
         let mut arena = StableArena::new(rt.alloc());
         let replies = run_arena(rt.alloc(), &mut arena, commands)?;
-        assert_eq!(rt; (replies.len(), arena.len()), (6, 4));
+        assert_equal!(rt; (replies.len(), arena.len()), (6, 4));
         for (item, reply) in replies.iter().enumerate() {
             let expected = Tiny::from_usize(item).ok_or(ArenaError::NotEnoughKeys);
             assert!(rt; replies_with(reply, expected));
         }
         for (item, drops) in counts.iter().enumerate() {
-            assert_eq!(rt; drops.get(), if item < 4 { 0 } else { 1 });
+            assert_equal!(rt; drops.get(), if item < 4 { 0 } else { 1 });
         }
     }
     assert!(rt; each_is(&counts, 1));
@@ -388,7 +389,7 @@ fn a_run_hands_back_what_makes_way(rt: HostRuntime) -> Result<(), Fail> {
         let commands = alloc_and_puts(rt.alloc(), &counts)?;
         let mut arena = StableArena::new(rt.alloc());
         let replies = run_arena(rt.alloc(), &mut arena, commands)?;
-        assert_eq!(rt; (replies.len(), arena.len()), (3, 1));
+        assert_equal!(rt; (replies.len(), arena.len()), (3, 1));
         assert!(rt; counts_are(&counts, &[0, 1, 0]));
         drop(replies);
         assert!(rt; counts_are(&counts, &[1, 1, 0]));
@@ -411,9 +412,9 @@ fn a_vector_lends_two_items_without_memory(rt: HostRuntime) -> Result<(), Fail> 
     let log = Log::new();
     let mut vec = full(Observed::new(rt.alloc(), &log))?;
     log.refuse_from(1);
-    assert_eq!(rt; vec.get_disjoint_mut([32, 31])?, (&mut 32, &mut 31));
+    assert_equal!(rt; vec.get_disjoint_mut([32, 31])?, (&mut 32, &mut 31));
     assert!(rt; vec.get_disjoint_mut([32, 96]).is_err());
-    assert_eq!(rt; log.requests(), 2);
+    assert_equal!(rt; log.requests(), 2);
     Ok(())
 }
 
@@ -423,10 +424,10 @@ fn a_vector_lends_its_items_without_memory(rt: HostRuntime) -> Result<(), Fail> 
     let mut vec = full(Observed::new(rt.alloc(), &log))?;
     log.refuse_from(1);
     vec.swap(0, 95)?;
-    assert_eq!(rt; vec.get_mut(95), Some(&mut 0));
-    assert_eq!(rt; vec.iter_mut().len(), 96);
-    assert_eq!(rt; vec.slices_mut().len(), 2);
-    assert_eq!(rt; log.requests(), 2);
+    assert_equal!(rt; vec.get_mut(95), Some(&mut 0));
+    assert_equal!(rt; vec.iter_mut().len(), 96);
+    assert_equal!(rt; vec.slices_mut().len(), 2);
+    assert_equal!(rt; log.requests(), 2);
     Ok(())
 }
 
@@ -446,9 +447,9 @@ fn an_arena_lends_two_items_without_memory(rt: HostRuntime) -> Result<(), Fail> 
     let log = Log::new();
     let mut arena = full_arena(Observed::new(rt.alloc(), &log))?;
     log.refuse_from(1);
-    assert_eq!(rt; arena.get_disjoint_mut([32, 31])?, (&mut 32, &mut 31));
+    assert_equal!(rt; arena.get_disjoint_mut([32, 31])?, (&mut 32, &mut 31));
     assert!(rt; arena.get_disjoint_mut([32, 32]).is_err());
-    assert_eq!(rt; log.requests(), 2);
+    assert_equal!(rt; log.requests(), 2);
     Ok(())
 }
 
@@ -458,9 +459,9 @@ fn an_arena_lends_its_items_without_memory(rt: HostRuntime) -> Result<(), Fail> 
     let mut arena = full_arena(Observed::new(rt.alloc(), &log))?;
     log.refuse_from(1);
     arena.swap(0, 95)?;
-    assert_eq!(rt; arena.put(95, 7), Ok(0));
-    assert_eq!(rt; arena.iter_mut().len(), 96);
-    assert_eq!(rt; log.requests(), 2);
+    assert_equal!(rt; arena.put(95, 7), Ok(0));
+    assert_equal!(rt; arena.iter_mut().len(), 96);
+    assert_equal!(rt; log.requests(), 2);
     Ok(())
 }
 
@@ -472,7 +473,7 @@ fn a_run_asks_for_its_replies_alone(rt: HostRuntime) -> Result<(), Fail> {
     let commands = vec![in handle.clone()?; ArenaCommand::Alloc(1), ArenaCommand::Has(0)]?;
     let requests = log.requests();
     let replies = run_arena(handle, &mut arena, commands)?;
-    assert_eq!(rt;
+    assert_equal!(rt;
         (replies.len(), log.requests()),
         (2, requests.wrapping_add(1))
     );

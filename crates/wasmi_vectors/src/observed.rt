@@ -7,6 +7,7 @@ ghost use Rattle.std.specs.contracts.impls.GlobalAllocator.TheImpl.{ghosts};
 
 use std::alloc::{AllocError, Allocator, Global};
 use std::cell::Cell;
+use wasmi_asserts::assert_equal;
 
 // Requests are numbered from 1 over the life of a log.
 #[derive(Clone, Copy)]
@@ -193,13 +194,13 @@ mod tests {
                     numbers.push(number)?;
                 }
             }
-            assert_eq!(rt; refusals, 1);
-            assert_eq!(rt; numbers.as_slice(), [0, 1, 2, 3, 4, 5, 6, 7, 8].as_slice());
+            assert_equal!(rt; refusals, 1);
+            assert_equal!(rt; numbers.as_slice(), [0, 1, 2, 3, 4, 5, 6, 7, 8].as_slice());
         }
         // A second request came, and it alone was refused.
         assert!(rt; log.requests() > 2);
-        assert_eq!(rt; log.given().wrapping_add(1), log.requests());
-        assert_eq!(rt; (log.returned(), log.misplaced()), (log.given(), 0));
+        assert_equal!(rt; log.given().wrapping_add(1), log.requests());
+        assert_equal!(rt; (log.returned(), log.misplaced()), (log.given(), 0));
         Ok(())
     }
 
@@ -221,9 +222,9 @@ mod tests {
             let log = Log::new();
             log.refuse_once(nth);
             assert!(rt; boxes(Observed::new(rt.alloc(), &log), 6).is_err());
-            assert_eq!(rt; log.requests(), nth);
-            assert_eq!(rt; log.given().wrapping_add(1), nth);
-            assert_eq!(rt; (log.returned(), log.misplaced()), (log.given(), 0));
+            assert_equal!(rt; log.requests(), nth);
+            assert_equal!(rt; log.given().wrapping_add(1), nth);
+            assert_equal!(rt; (log.returned(), log.misplaced()), (log.given(), 0));
         }
     }
 
@@ -239,11 +240,11 @@ mod tests {
             assert!(rt; Box::new(handle.clone()?, 4u64).is_err());
             log.refuse_none();
             let fifth = Box::new(handle, 5u64)?;
-            assert_eq!(rt; (*first, *second, *fifth), (1, 2, 5));
-            assert_eq!(rt; log.returned(), 0);
+            assert_equal!(rt; (*first, *second, *fifth), (1, 2, 5));
+            assert_equal!(rt; log.returned(), 0);
         }
-        assert_eq!(rt; (log.requests(), log.bytes()), (5, 36));
-        assert_eq!(rt; (log.given(), log.returned(), log.misplaced()), (3, 3, 0));
+        assert_equal!(rt; (log.requests(), log.bytes()), (5, 36));
+        assert_equal!(rt; (log.given(), log.returned(), log.misplaced()), (3, 3, 0));
         Ok(())
     }
 
@@ -255,11 +256,11 @@ mod tests {
         let other = one.clone()?;
         assert!(rt; one.gives(Ok(null_mut())).is_ok());
         other.takes_back();
-        assert_eq!(rt; log.misplaced(), 1);
+        assert_equal!(rt; log.misplaced(), 1);
         drop(other);
-        assert_eq!(rt; log.misplaced(), 1);
+        assert_equal!(rt; log.misplaced(), 1);
         drop(one);
-        assert_eq!(rt; (log.given(), log.returned(), log.misplaced()), (1, 1, 2));
+        assert_equal!(rt; (log.given(), log.returned(), log.misplaced()), (1, 1, 2));
         Ok(())
     }
 }

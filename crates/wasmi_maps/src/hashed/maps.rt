@@ -3,6 +3,7 @@ use std::alloc::Global;
 use std::hash::{BuildHasher, Hasher};
 use std::test::Fail;
 use wasmi_arena::ArenaError;
+use wasmi_asserts::assert_equal;
 use wasmi_hashed::Map;
 use wasmi_hashed::hash::RandomState;
 
@@ -19,26 +20,26 @@ fn six(alloc: Global) -> Result<Map<u32, u32>, ArenaError> {
 fn a_key_keeps_its_last_value(rt: HostRuntime) -> Result<(), Fail> {
     let mut map: Map<u32, &'static str> = Map::new(rt.alloc());
     assert!(rt; map.is_empty());
-    assert_eq!(rt; map.insert(1, "a"), Ok(None));
-    assert_eq!(rt; map.insert(1, "b"), Ok(Some("a")));
-    assert_eq!(rt; map.len(), 1);
-    assert_eq!(rt; map.remove(&2), None);
-    assert_eq!(rt; map.insert(2, "c"), Ok(None));
-    assert_eq!(rt; map.get(&1), Some(&"b"));
-    assert_eq!(rt; map.get(&3), None);
-    assert_eq!(rt; map.get_key_value(&2), Some((&2, &"c")));
+    assert_equal!(rt; map.insert(1, "a"), Ok(None));
+    assert_equal!(rt; map.insert(1, "b"), Ok(Some("a")));
+    assert_equal!(rt; map.len(), 1);
+    assert_equal!(rt; map.remove(&2), None);
+    assert_equal!(rt; map.insert(2, "c"), Ok(None));
+    assert_equal!(rt; map.get(&1), Some(&"b"));
+    assert_equal!(rt; map.get(&3), None);
+    assert_equal!(rt; map.get_key_value(&2), Some((&2, &"c")));
     assert!(rt; map.contains_key(&2) && !map.contains_key(&3));
     if map.contains_key(&2) {
-        assert_eq!(rt; map[&2], "c");
+        assert_equal!(rt; map[&2], "c");
     }
     let mut walk = map.iter();
-    assert_eq!(rt; walk.len(), 2);
+    assert_equal!(rt; walk.len(), 2);
     // In an open order.
     assert!(rt; walk.all(|(key, value)| (*key, *value) == (1, "b") || (*key, *value) == (2, "c")));
-    assert_eq!(rt; walk.next(), None);
-    assert_eq!(rt; map.remove(&1), Some("b"));
-    assert_eq!(rt; map.reserve(100), Ok(()));
-    assert_eq!(rt; map.len(), 1);
+    assert_equal!(rt; walk.next(), None);
+    assert_equal!(rt; map.remove(&1), Some("b"));
+    assert_equal!(rt; map.reserve(100), Ok(()));
+    assert_equal!(rt; map.len(), 1);
     map.clear();
     assert!(rt; map.is_empty());
     Ok(())
@@ -47,18 +48,18 @@ fn a_key_keeps_its_last_value(rt: HostRuntime) -> Result<(), Fail> {
 #[test]
 fn a_later_pair_of_one_key_wins(rt: HostRuntime) -> Result<(), Fail> {
     let mut map = Map::from_iter(rt.alloc(), [(1, "a"), (2, "b"), (1, "c")])?;
-    assert_eq!(rt; map.len(), 2);
-    assert_eq!(rt; map.get(&1), Some(&"c"));
+    assert_equal!(rt; map.len(), 2);
+    assert_equal!(rt; map.get(&1), Some(&"c"));
     map.extend([(2, "d"), (3, "e"), (3, "f")])?;
-    assert!(rt; map == Map::from_iter(rt.alloc(), [(1, "c"), (2, "d"), (3, "f")])?);
+    assert_equal!(rt; &map, &Map::from_iter(rt.alloc(), [(1, "c"), (2, "d"), (3, "f")])?);
     let more = [(3, "g"), (4, "h")];
     let mut other = Map::new(rt.alloc());
     other.extend(more)?;
     map.extend_ref(&other)?;
-    assert_eq!(rt; map.get(&3), Some(&"g"));
-    assert_eq!(rt; map.len(), 4);
-    assert_eq!(rt; map.remove_entry(&1), Some((1, "c")));
-    assert_eq!(rt; map.remove_entry(&1), None);
+    assert_equal!(rt; map.get(&3), Some(&"g"));
+    assert_equal!(rt; map.len(), 4);
+    assert_equal!(rt; map.remove_entry(&1), Some((1, "c")));
+    assert_equal!(rt; map.remove_entry(&1), None);
     Ok(())
 }
 
@@ -66,12 +67,12 @@ fn a_later_pair_of_one_key_wins(rt: HostRuntime) -> Result<(), Fail> {
 fn some_entries_are_kept(rt: HostRuntime) -> Result<(), Fail> {
     let mut map = six(rt.alloc())?;
     map.retain(|key, _| key % 2 == 0);
-    assert!(rt; map == Map::from_iter(rt.alloc(), [(2, 2), (4, 4), (6, 6)])?);
+    assert_equal!(rt; &map, &Map::from_iter(rt.alloc(), [(2, 2), (4, 4), (6, 6)])?);
     map.retain(|_, value| {
         *value /= 2;
         true
     });
-    assert!(rt; map == Map::from_iter(rt.alloc(), [(2, 1), (4, 2), (6, 3)])?);
+    assert_equal!(rt; &map, &Map::from_iter(rt.alloc(), [(2, 1), (4, 2), (6, 3)])?);
     Ok(())
 }
 
@@ -81,10 +82,10 @@ fn values_are_written(rt: HostRuntime) -> Result<(), Fail> {
     if let Some(value) = map.get_mut(&3) {
         *value = 30;
     }
-    assert_eq!(rt; map.get_mut(&7), None);
-    assert_eq!(rt; map.get(&3), Some(&30));
-    assert_eq!(rt; map.get(&4), Some(&4));
-    assert_eq!(rt; map.iter_mut().len(), 6);
+    assert_equal!(rt; map.get_mut(&7), None);
+    assert_equal!(rt; map.get(&3), Some(&30));
+    assert_equal!(rt; map.get(&4), Some(&4));
+    assert_equal!(rt; map.iter_mut().len(), 6);
     for (key, value) in map.iter_mut() {
         *value = 7 - *key % 7;
     }
@@ -92,16 +93,16 @@ fn values_are_written(rt: HostRuntime) -> Result<(), Fail> {
         *value = value.wrapping_add(*key);
     }
     for (_, value) in &map {
-        assert_eq!(rt; *value, 7);
+        assert_equal!(rt; *value, 7);
     }
-    assert_eq!(rt; map.values_mut().len(), 6);
+    assert_equal!(rt; map.values_mut().len(), 6);
     for value in map.values_mut() {
         *value = 8;
     }
     let mut values = map.values();
-    assert_eq!(rt; values.len(), 6);
-    assert_eq!(rt; values.next(), Some(&8));
-    assert_eq!(rt; values.next(), Some(&8));
+    assert_equal!(rt; values.len(), 6);
+    assert_equal!(rt; values.next(), Some(&8));
+    assert_equal!(rt; values.next(), Some(&8));
     Ok(())
 }
 
@@ -109,7 +110,7 @@ fn values_are_written(rt: HostRuntime) -> Result<(), Fail> {
 fn walks_give_each_entry_once(rt: HostRuntime) -> Result<(), Fail> {
     let map = six(rt.alloc())?;
     let copy = map.clone()?;
-    assert!(rt; copy == map);
+    assert_equal!(rt; &copy, &map);
     let mut keys: Vec<u32> = map.keys().copied().collect(rt.alloc())?;
     keys.sort_unstable();
     assert!(rt; keys.iter().eq([1, 2, 3, 4, 5, 6].iter()));
@@ -120,19 +121,19 @@ fn walks_give_each_entry_once(rt: HostRuntime) -> Result<(), Fail> {
     values.sort_unstable();
     assert!(rt; values.iter().eq([1, 2, 3, 4, 5, 6].iter()));
     let mut pairs = copy.into_iter();
-    assert_eq!(rt; pairs.len(), 6);
+    assert_equal!(rt; pairs.len(), 6);
     for _ in 0..6 {
         let (key, value) = pairs.next().ok_or("a pair")?;
-        assert_eq!(rt; key, value);
+        assert_equal!(rt; key, value);
     }
-    assert_eq!(rt; pairs.next(), None);
+    assert_equal!(rt; pairs.next(), None);
     Ok(())
 }
 
 #[test]
 fn equal_maps_have_equal_values(rt: HostRuntime) -> Result<(), Fail> {
     let one = Map::from_iter(rt.alloc(), [(1, "a"), (2, "b")])?;
-    assert!(rt; one == Map::from_iter(rt.alloc(), [(2, "b"), (1, "a")])?);
+    assert_equal!(rt; &one, &Map::from_iter(rt.alloc(), [(2, "b"), (1, "a")])?);
     assert!(rt; one != Map::from_iter(rt.alloc(), [(1, "a"), (2, "c")])?);
     assert!(rt; one != Map::from_iter(rt.alloc(), [(1, "a")])?);
     assert!(rt; one != Map::from_iter(rt.alloc(), [(1, "a"), (2, "b"), (3, "c")])?);
@@ -147,14 +148,14 @@ fn keys_are_hashed_by_the_state_handed_in(rt: HostRuntime) -> Result<(), Fail> {
     for key in 0..200u32 {
         map.insert(key, key.wrapping_mul(3))?;
     }
-    assert_eq!(rt; map.reserve(1000), Ok(()));
+    assert_equal!(rt; map.reserve(1000), Ok(()));
     let copy = map.clone()?;
     for key in 0..200u32 {
-        assert_eq!(rt; map.get(&key), Some(&key.wrapping_mul(3)));
-        assert_eq!(rt; copy.get(&key), Some(&key.wrapping_mul(3)));
+        assert_equal!(rt; map.get(&key), Some(&key.wrapping_mul(3)));
+        assert_equal!(rt; copy.get(&key), Some(&key.wrapping_mul(3)));
     }
-    assert!(rt; copy == map);
-    assert_eq!(rt; map.remove(&7), Some(21));
+    assert_equal!(rt; &copy, &map);
+    assert_equal!(rt; map.remove(&7), Some(21));
     assert!(rt; copy != map);
     Ok(())
 }
@@ -189,15 +190,15 @@ impl BuildHasher for OneHash {
 fn keys_of_one_hash_are_told_apart(rt: HostRuntime) -> Result<(), Fail> {
     let mut map: Map<u32, u32, OneHash> = Map::with_hasher(rt.alloc(), OneHash);
     for key in 0..50u32 {
-        assert_eq!(rt; map.insert(key, key)?, None);
+        assert_equal!(rt; map.insert(key, key)?, None);
     }
     for key in (0..50u32).step_by(2) {
-        assert_eq!(rt; map.remove(&key), Some(key));
+        assert_equal!(rt; map.remove(&key), Some(key));
     }
     for key in 0..50u32 {
-        assert_eq!(rt; map.contains_key(&key), key % 2 == 1);
+        assert_equal!(rt; map.contains_key(&key), key % 2 == 1);
     }
-    assert_eq!(rt; map.len(), 25);
+    assert_equal!(rt; map.len(), 25);
     Ok(())
 }
 
@@ -215,7 +216,7 @@ fn a_key_that_is_there_is_kept(rt: HostRuntime) -> Result<(), Fail> {
     let alloc = rt.alloc();
     let roomy = String::with_capacity(alloc, 40)?;
     let mut map = Map::from_iter(alloc, [(roomy, 1), (String::new(alloc), 2)])?;
-    assert_eq!(rt;
+    assert_equal!(rt;
         (map.len(), map.insert(String::new(alloc), 3)?),
         (1, Some(2))
     );

@@ -6,6 +6,7 @@ use std::hash::{DefaultHasher, Hash, Hasher};
 use std::num::NonZero;
 use std::test::Fail;
 use wasmi_arena::{ArenaError, StableArena, StableVec};
+use wasmi_asserts::assert_equal;
 
 // A vector of 0, 1 and so on, with another item at one index.
 fn exchanged(alloc: Global, len: u32, index: u32, item: u32) -> Result<StableVec<u32>, ArenaError> {
@@ -26,10 +27,10 @@ fn hash_of(vec: &StableVec<u32>) -> u64 {
 fn equal_lists_are_equal(rt: HostRuntime) -> Result<(), Fail> {
     for len in [0, 1, 31, 32, 33, 95, 96, 97, 100, 300] {
         let (vec, same) = (counted(rt.alloc(), len)?, counted(rt.alloc(), len)?);
-        assert_eq!(rt; vec, same);
-        assert_eq!(rt; vec.cmp(&same), Ordering::Equal);
-        assert_eq!(rt; vec.partial_cmp(&same), Some(Ordering::Equal));
-        assert_eq!(rt; hash_of(&vec), hash_of(&same), "at {len}");
+        assert_equal!(rt; &vec, &same);
+        assert_equal!(rt; vec.cmp(&same), Ordering::Equal);
+        assert_equal!(rt; vec.partial_cmp(&same), Some(Ordering::Equal));
+        assert_equal!(rt; hash_of(&vec), hash_of(&same), "at {len}");
     }
     Ok(())
 }
@@ -41,8 +42,8 @@ fn one_item_more_is_greater(rt: HostRuntime) -> Result<(), Fail> {
         let longer = counted(rt.alloc(), len + 1)?;
         assert!(rt; vec != longer && longer != vec, "at {len}");
         assert!(rt; vec < longer && longer > vec, "at {len}");
-        assert_eq!(rt; vec.cmp(&longer), Ordering::Less);
-        assert_eq!(rt; longer.cmp(&vec), Ordering::Greater);
+        assert_equal!(rt; vec.cmp(&longer), Ordering::Less);
+        assert_equal!(rt; longer.cmp(&vec), Ordering::Greater);
         assert!(rt; hash_of(&vec) != hash_of(&longer), "at {len}");
     }
     Ok(())
@@ -54,8 +55,8 @@ fn lists_that_differ_at_one_index(rt: HostRuntime) -> Result<(), Fail> {
     for index in [0, 31, 32, 95, 96, 223, 224, 299] {
         let other = exchanged(rt.alloc(), 300, index, 1000)?;
         assert!(rt; vec != other && other != vec, "at {index}");
-        assert_eq!(rt; vec.cmp(&other), Ordering::Less, "at {index}");
-        assert_eq!(rt; other.cmp(&vec), Ordering::Greater, "at {index}");
+        assert_equal!(rt; vec.cmp(&other), Ordering::Less, "at {index}");
+        assert_equal!(rt; other.cmp(&vec), Ordering::Greater, "at {index}");
         assert!(rt; hash_of(&vec) != hash_of(&other), "at {index}");
     }
     Ok(())
@@ -66,8 +67,8 @@ fn the_first_index_that_differs_decides(rt: HostRuntime) -> Result<(), Fail> {
     let longer = counted(rt.alloc(), 500)?;
     for index in [0, 31, 32, 95, 96, 223, 224, 299] {
         let other = exchanged(rt.alloc(), 300, index, 1000)?;
-        assert_eq!(rt; longer.cmp(&other), Ordering::Less, "at {index}");
-        assert_eq!(rt; other.partial_cmp(&longer), Some(Ordering::Greater));
+        assert_equal!(rt; longer.cmp(&other), Ordering::Less, "at {index}");
+        assert_equal!(rt; other.partial_cmp(&longer), Some(Ordering::Greater));
     }
     Ok(())
 }
@@ -84,9 +85,9 @@ fn ord_is_lexicographic(rt: HostRuntime) -> Result<(), Fail> {
     ];
     for (i, left) in ascending.iter().enumerate() {
         for (k, right) in ascending.iter().enumerate() {
-            assert_eq!(rt; left.cmp(right), i.cmp(&k));
-            assert_eq!(rt; left.partial_cmp(right), Some(i.cmp(&k)));
-            assert_eq!(rt; left == right, i == k);
+            assert_equal!(rt; left.cmp(right), i.cmp(&k));
+            assert_equal!(rt; left.partial_cmp(right), Some(i.cmp(&k)));
+            assert_equal!(rt; left == right, i == k);
         }
     }
     Ok(())
@@ -97,9 +98,9 @@ fn items_without_an_order(rt: HostRuntime) -> Result<(), Fail> {
     let nan = StableVec::from_iter(rt.alloc(), [1.0, f64::NAN])?;
     let other = StableVec::from_iter(rt.alloc(), [1.0, f64::NAN, 2.0])?;
     assert!(rt; nan != nan);
-    assert_eq!(rt; nan.partial_cmp(&other), None);
+    assert_equal!(rt; nan.partial_cmp(&other), None);
     let below = StableVec::from_iter(rt.alloc(), [0.5, f64::NAN])?;
-    assert_eq!(rt; below.partial_cmp(&nan), Some(Ordering::Less));
+    assert_equal!(rt; below.partial_cmp(&nan), Some(Ordering::Less));
     Ok(())
 }
 
@@ -115,19 +116,19 @@ fn items_without_size_are_counted(rt: HostRuntime) -> Result<(), Fail> {
 #[test]
 fn debug_texts_of_vectors(rt: HostRuntime) -> Result<(), Fail> {
     let vec = StableVec::from_iter(rt.alloc(), [1, 2, 3])?;
-    assert_eq!(rt; format!(in rt.alloc(); "{vec:?}")?.as_str(), "[1, 2, 3]");
+    assert_equal!(rt; format!(in rt.alloc(); "{vec:?}")?.as_str(), "[1, 2, 3]");
     let none = StableVec::<u8>::new(rt.alloc());
-    assert_eq!(rt; format!(in rt.alloc(); "{none:?}")?.as_str(), "[]");
+    assert_equal!(rt; format!(in rt.alloc(); "{none:?}")?.as_str(), "[]");
     Ok(())
 }
 
 #[test]
 fn debug_texts_of_arenas(rt: HostRuntime) -> Result<(), Fail> {
     let mut arena: StableArena<u32, bool> = StableArena::new(rt.alloc());
-    assert_eq!(rt; format!(in rt.alloc(); "{arena:?}")?.as_str(), "{}");
+    assert_equal!(rt; format!(in rt.alloc(); "{arena:?}")?.as_str(), "{}");
     arena.alloc(true)?;
     arena.alloc(false)?;
-    assert_eq!(rt;
+    assert_equal!(rt;
         format!(in rt.alloc(); "{arena:?}")?.as_str(),
         "{0: true, 1: false}"
     );
@@ -137,7 +138,7 @@ fn debug_texts_of_arenas(rt: HostRuntime) -> Result<(), Fail> {
 #[test]
 fn an_arena_prints_its_keys(rt: HostRuntime) -> Result<(), Fail> {
     let keyed: StableArena<NonZero<u32>, u8> = StableArena::from_iter(rt.alloc(), 7..9)?;
-    assert_eq!(rt;
+    assert_equal!(rt;
         format!(in rt.alloc(); "{keyed:?}")?.as_str(),
         "{1: 7, 2: 8}"
     );
@@ -148,13 +149,13 @@ fn an_arena_prints_its_keys(rt: HostRuntime) -> Result<(), Fail> {
 fn equal_arenas(rt: HostRuntime) -> Result<(), Fail> {
     let mut left: StableArena<NonZero<u32>, u8> = StableArena::new(rt.alloc());
     let mut right = StableArena::new(rt.alloc());
-    assert!(rt; left == right);
+    assert_equal!(rt; &left, &right);
     left.alloc(7)?;
     assert!(rt; left != right);
     let first = right.alloc(8)?;
     assert!(rt; left != right);
     right.put(first, 7)?;
-    assert!(rt; left == right);
+    assert_equal!(rt; &left, &right);
     Ok(())
 }
 
@@ -165,7 +166,7 @@ fn debug_texts_of_several_buckets(rt: HostRuntime) -> Result<(), Fail> {
         let items: Vec<u32> = (0..len).collect(rt.alloc())?;
         let text = format!(in rt.alloc(); "{vec:?}")?;
         let wanted = format!(in rt.alloc(); "{items:?}")?;
-        assert_eq!(rt; text.as_str(), wanted.as_str(), "at {len}");
+        assert_equal!(rt; text.as_str(), wanted.as_str(), "at {len}");
     }
     Ok(())
 }

@@ -3,6 +3,7 @@ use super::counted;
 use std::cell::Cell;
 use std::test::Fail;
 use wasmi_arena::{StableArena, StableVec};
+use wasmi_asserts::assert_equal;
 
 #[test]
 fn each_item_is_written_in_place(rt: HostRuntime) -> Result<(), Fail> {
@@ -14,8 +15,8 @@ fn each_item_is_written_in_place(rt: HostRuntime) -> Result<(), Fail> {
         }
         let doubles: Vec<u32> = (0..len).map(|n| n.wrapping_mul(2)).collect(rt.alloc())?;
         let forward: Vec<u32> = vec.iter().copied().collect(rt.alloc())?;
-        assert_eq!(rt; forward, doubles, "at {len}");
-        assert_eq!(rt;
+        assert_equal!(rt; forward, doubles, "at {len}");
+        assert_equal!(rt;
             (vec.open_buckets(), vec.slots()),
             (open_buckets, slots),
             "at {len}"
@@ -28,7 +29,7 @@ fn each_item_is_written_in_place(rt: HostRuntime) -> Result<(), Fail> {
             .map(|n| n.wrapping_mul(2).wrapping_add(1))
             .collect(rt.alloc())?;
         let forward: Vec<u32> = vec.iter().copied().collect(rt.alloc())?;
-        assert_eq!(rt; forward, odd, "at {len}");
+        assert_equal!(rt; forward, odd, "at {len}");
     }
     Ok(())
 }
@@ -41,9 +42,9 @@ fn an_iterator_that_is_left_early(rt: HostRuntime) -> Result<(), Fail> {
         *items.next().ok_or("first")? = 1000;
         *items.next_back().ok_or("last")? = 2000;
         *items.next_back().ok_or("last but one")? = 3000;
-        assert_eq!(rt; items.len(), 297);
+        assert_equal!(rt; items.len(), 297);
     }
-    assert_eq!(rt; (vec.len(), vec.open_buckets(), vec.slots()), (300, 4, 480));
+    assert_equal!(rt; (vec.len(), vec.open_buckets(), vec.slots()), (300, 4, 480));
     for (index, item) in (0..300u32).zip(vec.iter()) {
         let wanted = match index {
             0 => 1000,
@@ -51,9 +52,9 @@ fn an_iterator_that_is_left_early(rt: HostRuntime) -> Result<(), Fail> {
             299 => 2000,
             _ => index,
         };
-        assert_eq!(rt; *item, wanted, "at {index}");
+        assert_equal!(rt; *item, wanted, "at {index}");
     }
-    assert_eq!(rt; vec.push(5)?, 300);
+    assert_equal!(rt; vec.push(5)?, 300);
     Ok(())
 }
 
@@ -80,12 +81,12 @@ fn both_ends_meet(rt: HostRuntime) -> Result<(), Fail> {
         }
         assert!(rt; items.next().is_none());
         assert!(rt; items.next_back().is_none());
-        assert_eq!(rt; items.len(), 0);
+        assert_equal!(rt; items.len(), 0);
     }
-    assert_eq!(rt; taken.get(), 225);
+    assert_equal!(rt; taken.get(), 225);
     for (index, item) in vec.iter().enumerate() {
         let added = if index < 114 { 1000 } else { 2000 };
-        assert_eq!(rt; *item as usize, index.wrapping_add(added));
+        assert_equal!(rt; *item as usize, index.wrapping_add(added));
     }
     Ok(())
 }
@@ -98,7 +99,7 @@ fn slices_are_written(rt: HostRuntime) -> Result<(), Fail> {
         lens.push(part.len())?;
         part.fill(7);
     }
-    assert_eq!(rt; format!(in rt.alloc(); "{lens:?}")?.as_str(), "[32, 64, 4]");
+    assert_equal!(rt; format!(in rt.alloc(); "{lens:?}")?.as_str(), "[32, 64, 4]");
     assert!(rt; vec.iter().all(|item| *item == 7));
     Ok(())
 }
@@ -107,7 +108,7 @@ fn slices_are_written(rt: HostRuntime) -> Result<(), Fail> {
 fn slices_are_written_from_both_ends(rt: HostRuntime) -> Result<(), Fail> {
     let mut vec = counted(rt.alloc(), 100)?;
     let mut slices = vec.slices_mut();
-    assert_eq!(rt; slices.len(), 3);
+    assert_equal!(rt; slices.len(), 3);
     slices.next_back().ok_or("last")?.fill(9);
     slices.next().ok_or("first")?.fill(8);
     drop(slices);
@@ -119,11 +120,8 @@ fn slices_are_written_from_both_ends(rt: HostRuntime) -> Result<(), Fail> {
         vec.get(96),
         vec.get(99),
     ];
-    assert_eq!(rt;
-        read,
-        [Some(&8), Some(&8), Some(&32), Some(&95), Some(&9), Some(&9)]
-    );
-    assert_eq!(rt; vec.len(), 100);
+    assert!(rt; read == [Some(&8), Some(&8), Some(&32), Some(&95), Some(&9), Some(&9)]);
+    assert_equal!(rt; vec.len(), 100);
     Ok(())
 }
 
@@ -137,17 +135,17 @@ fn each_item_of_an_arena_is_written(rt: HostRuntime) -> Result<(), Fail> {
         *item = item.wrapping_add(key);
     }
     for (key, item) in &arena {
-        assert_eq!(rt; *item, key.wrapping_mul(11));
+        assert_equal!(rt; *item, key.wrapping_mul(11));
     }
     let mut entries = arena.iter_mut();
-    assert_eq!(rt; entries.len(), 100);
+    assert_equal!(rt; entries.len(), 100);
     let (first, item) = entries.next().ok_or("first")?;
     *item = 1;
     let (last, item) = entries.next_back().ok_or("last")?;
     *item = 2;
-    assert_eq!(rt; (first, last, entries.len()), (0, 99, 98));
+    assert_equal!(rt; (first, last, entries.len()), (0, 99, 98));
     drop(entries);
-    assert_eq!(rt;
+    assert_equal!(rt;
         (arena.get(0), arena.get(99), arena.len()),
         (Ok(&1), Ok(&2), 100)
     );
@@ -166,7 +164,7 @@ fn an_iterator_of_an_arena_that_is_left_early(rt: HostRuntime) -> Result<(), Fai
         *first = 1000;
         let (_, last) = entries.next_back().ok_or("last")?;
         *last = 2000;
-        assert_eq!(rt; entries.len(), 298);
+        assert_equal!(rt; entries.len(), 298);
     }
     for (key, item) in &arena {
         let wanted = match key {
@@ -174,7 +172,7 @@ fn an_iterator_of_an_arena_that_is_left_early(rt: HostRuntime) -> Result<(), Fai
             299 => 2000,
             _ => key,
         };
-        assert_eq!(rt; *item, wanted, "at {key}");
+        assert_equal!(rt; *item, wanted, "at {key}");
     }
     Ok(())
 }
@@ -190,6 +188,6 @@ fn items_without_size_are_written(rt: HostRuntime) -> Result<(), Fail> {
         *item = ();
         count = 1u32.wrapping_add(count);
     }
-    assert_eq!(rt; (count, vec.len()), (100, 100));
+    assert_equal!(rt; (count, vec.len()), (100, 100));
     Ok(())
 }

@@ -2,6 +2,7 @@
 use super::counted;
 use std::test::Fail;
 use wasmi_arena::{ArenaError, StableArena, StableVec};
+use wasmi_asserts::assert_equal;
 
 // Pairs in one bucket, in two that lie side by side or far apart, and at the ends of buckets.
 const PAIRS: [(u32, u32); 9] = [
@@ -22,10 +23,10 @@ fn two_items_are_written_and_no_other(rt: HostRuntime) -> Result<(), Fail> {
         for (first, second) in [(low, high), (high, low)] {
             let mut vec = counted(rt.alloc(), 300)?;
             let (one, other) = vec.get_disjoint_mut([first as usize, second as usize])?;
-            assert_eq!(rt; (*one, *other), (first, second));
+            assert_equal!(rt; (*one, *other), (first, second));
             *one = 1000;
             *other = 2000;
-            assert_eq!(rt; (vec.len(), vec.open_buckets(), vec.slots()), (300, 4, 480));
+            assert_equal!(rt; (vec.len(), vec.open_buckets(), vec.slots()), (300, 4, 480));
             for (index, item) in (0..300u32).zip(&vec) {
                 let wanted = if index == first {
                     1000
@@ -34,7 +35,7 @@ fn two_items_are_written_and_no_other(rt: HostRuntime) -> Result<(), Fail> {
                 } else {
                     index
                 };
-                assert_eq!(rt; *item, wanted, "at {index} of {first}, {second}");
+                assert_equal!(rt; *item, wanted, "at {index} of {first}, {second}");
             }
         }
     }
@@ -50,10 +51,10 @@ fn two_items_of_an_arena_are_written_and_no_other(rt: HostRuntime) -> Result<(),
                 arena.alloc(item)?;
             }
             let (one, other) = arena.get_disjoint_mut([first, second])?;
-            assert_eq!(rt; (*one, *other), (first, second));
+            assert_equal!(rt; (*one, *other), (first, second));
             *one = 1000;
             *other = 2000;
-            assert_eq!(rt; (arena.len(), arena.items().open_buckets()), (300, 4));
+            assert_equal!(rt; (arena.len(), arena.items().open_buckets()), (300, 4));
             for (key, item) in &arena {
                 let wanted = if key == first {
                     1000
@@ -62,7 +63,7 @@ fn two_items_of_an_arena_are_written_and_no_other(rt: HostRuntime) -> Result<(),
                 } else {
                     key
                 };
-                assert_eq!(rt; *item, wanted, "at {key} of {first}, {second}");
+                assert_equal!(rt; *item, wanted, "at {key} of {first}, {second}");
             }
         }
     }
@@ -98,7 +99,7 @@ fn equal_indices_are_refused_before_those_out_of_bounds(rt: HostRuntime) -> Resu
         ([3, 4], Some(ArenaError::KeyOutOfBounds)),
         ([2, 0], None),
     ] {
-        assert_eq!(rt; errors(&mut vec, &mut arena, indices), (error, error));
+        assert_equal!(rt; errors(&mut vec, &mut arena, indices), (error, error));
         assert!(rt; vec.iter().eq([0, 1, 2].iter()));
         assert!(rt; arena.items().iter().eq([0, 1, 2].iter()));
     }
@@ -119,12 +120,12 @@ fn a_refused_pair_changes_no_item(rt: HostRuntime) -> Result<(), Fail> {
             ([index, 300], ArenaError::KeyOutOfBounds),
             ([300, index], ArenaError::KeyOutOfBounds),
         ] {
-            assert_eq!(rt;
+            assert_equal!(rt;
                 errors(&mut vec, &mut arena, indices),
                 (Some(error), Some(error))
             );
             for (number, (one, other)) in (0..300u32).zip(vec.iter().zip(arena.items())) {
-                assert_eq!(rt; (*one, *other), (number, number), "after {indices:?}");
+                assert_equal!(rt; (*one, *other), (number, number), "after {indices:?}");
             }
         }
     }
@@ -137,12 +138,12 @@ fn two_items_without_size(rt: HostRuntime) -> Result<(), Fail> {
     for _ in 0..40 {
         vec.push(())?;
     }
-    assert_eq!(rt; vec.get_disjoint_mut([39, 0])?, (&mut (), &mut ()));
-    assert_eq!(rt;
+    assert_equal!(rt; vec.get_disjoint_mut([39, 0])?, (&mut (), &mut ()));
+    assert_equal!(rt;
         vec.get_disjoint_mut([40, 0]),
         Err(ArenaError::KeyOutOfBounds)
     );
-    assert_eq!(rt; vec.len(), 40);
+    assert_equal!(rt; vec.len(), 40);
     Ok(())
 }
 
@@ -152,12 +153,12 @@ fn items_change_places(rt: HostRuntime) -> Result<(), Fail> {
     // In one bucket, in two, in either order.
     for (first, second) in [(0, 31), (31, 32), (96, 5), (99, 98)] {
         vec.swap(first, second)?;
-        assert_eq!(rt;
+        assert_equal!(rt;
             (vec.get(first), vec.get(second)),
             (Some(&second), Some(&first))
         );
         vec.swap(second, first)?;
-        assert_eq!(rt;
+        assert_equal!(rt;
             (vec.get(first), vec.get(second)),
             (Some(&first), Some(&second))
         );
@@ -169,12 +170,12 @@ fn items_change_places(rt: HostRuntime) -> Result<(), Fail> {
 fn a_refused_exchange_changes_nothing(rt: HostRuntime) -> Result<(), Fail> {
     let mut vec: StableVec<usize> = StableVec::from_iter(rt.alloc(), 0..100)?;
     for index in [5, 100] {
-        assert_eq!(rt; vec.swap(index, index), Err(ArenaError::AliasingPairAccess));
-        assert_eq!(rt; vec.swap(index, 101), Err(ArenaError::KeyOutOfBounds));
-        assert_eq!(rt; vec.swap(101, index), Err(ArenaError::KeyOutOfBounds));
+        assert_equal!(rt; vec.swap(index, index), Err(ArenaError::AliasingPairAccess));
+        assert_equal!(rt; vec.swap(index, 101), Err(ArenaError::KeyOutOfBounds));
+        assert_equal!(rt; vec.swap(101, index), Err(ArenaError::KeyOutOfBounds));
     }
     for (index, item) in (0..100).zip(vec.iter()) {
-        assert_eq!(rt; &index, item);
+        assert_equal!(rt; &index, item);
     }
     Ok(())
 }

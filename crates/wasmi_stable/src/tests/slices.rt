@@ -2,6 +2,7 @@
 use super::counted;
 use std::test::Fail;
 use wasmi_arena::StableVec;
+use wasmi_asserts::assert_equal;
 
 #[test]
 fn slices_hold_the_items(rt: HostRuntime) -> Result<(), Fail> {
@@ -20,14 +21,14 @@ fn slices_hold_the_items(rt: HostRuntime) -> Result<(), Fail> {
             items.extend_from_slice(part)?;
             found.push(part.len())?;
         }
-        assert_eq!(rt;
+        assert_equal!(rt;
             format!(in rt.alloc(); "{found:?}")?.as_str(),
             lens,
             "at {len}"
         );
         let all: Vec<u32> = (0..len).collect(rt.alloc())?;
-        assert_eq!(rt; items, all, "at {len}");
-        assert_eq!(rt; vec.slices().len(), vec.open_buckets(), "at {len}");
+        assert_equal!(rt; items, all, "at {len}");
+        assert_equal!(rt; vec.slices().len(), vec.open_buckets(), "at {len}");
     }
     Ok(())
 }
@@ -43,7 +44,7 @@ fn slices_from_the_back_hold_the_items(rt: HostRuntime) -> Result<(), Fail> {
             }
         }
         let all: Vec<u32> = (0..len).rev().collect(rt.alloc())?;
-        assert_eq!(rt; items, all, "at {len}");
+        assert_equal!(rt; items, all, "at {len}");
     }
     Ok(())
 }
@@ -52,16 +53,16 @@ fn slices_from_the_back_hold_the_items(rt: HostRuntime) -> Result<(), Fail> {
 fn slices_from_both_ends(rt: HostRuntime) -> Result<(), Fail> {
     let vec = counted(rt.alloc(), 300)?;
     let mut slices = vec.slices();
-    assert_eq!(rt; slices.next().ok_or("first")?.first(), Some(&0));
-    assert_eq!(rt; slices.next_back().ok_or("last")?.first(), Some(&224));
-    assert_eq!(rt; slices.len(), 2);
-    assert_eq!(rt; slices.next_back().ok_or("third")?.first(), Some(&96));
-    assert_eq!(rt; slices.next().ok_or("second")?.first(), Some(&32));
-    assert_eq!(rt;
+    assert_equal!(rt; slices.next().ok_or("first")?.first(), Some(&0));
+    assert_equal!(rt; slices.next_back().ok_or("last")?.first(), Some(&224));
+    assert_equal!(rt; slices.len(), 2);
+    assert_equal!(rt; slices.next_back().ok_or("third")?.first(), Some(&96));
+    assert_equal!(rt; slices.next().ok_or("second")?.first(), Some(&32));
+    assert_equal!(rt;
         (slices.len(), slices.next(), slices.next_back()),
         (0, None, None)
     );
-    assert_eq!(rt; slices.next(), None);
+    assert_equal!(rt; slices.next(), None);
     Ok(())
 }
 
@@ -75,6 +76,6 @@ fn slices_of_items_without_size(rt: HostRuntime) -> Result<(), Fail> {
     for part in vec.slices() {
         found.push(part.len())?;
     }
-    assert_eq!(rt; found.as_slice(), [32, 64, 4].as_slice());
+    assert_equal!(rt; found.as_slice(), [32, 64, 4].as_slice());
     Ok(())
 }
