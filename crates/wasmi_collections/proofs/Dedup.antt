@@ -8,7 +8,7 @@ use Rattle.std.proofs.lemmas.List.Sorted.{length_permutation, list_any-IsPermuta
 use Rattle.std.proofs.lemmas.List.Elements.{All-nil, All-cons, All-head, All-tail}
 use Rattle.std.proofs.lemmas.Map.Keys.{IsDistinct-cons, IsDistinct-head, IsDistinct-tail}
 use Rattle.wasmi_arena.specs.Keys.{Keys, KeyLaw}
-use Rattle.wasmi_finite.specs.Maps.{value_at, ChangesAt}
+use Rattle.wasmi_map_specs.specs.Maps.{value_at, ChangesAt}
 use Rattle.wasmi_collections.specs.Dedup.{keyed_from, keyed, value_numbered, in_order, IsIndex, DedupState, AllocatesValue, AllocatesEach}
 
 -- a value behind a list is found there where none before it is

@@ -1,7 +1,7 @@
 -- What a map replies, and what it becomes, follows from what it reads and how many entries it has.
 use Rattle.std.proofs.Common.{◌≡◌, ℕ, ◌+◌, ◌-◌, Bool, true, false, cond, List, length, Option, Some, None, refl, sym, ap, ◌∙◌, arith, is_some}
 use Rattle.std.specs.Map.{update}
-use Rattle.wasmi_finite.specs.Maps.{value_at}
+use Rattle.wasmi_map_specs.specs.Maps.{value_at}
 use Rattle.wasmi_collections.specs.MapCalls.{one_if}
 use Rattle.wasmi_collections.specs.MapSteps.{MapStep, SameEntries, AcceptsMapCommand}
 use Rattle.wasmi_collections.specs.declared.run.map.MapCommand.{MapCommand}

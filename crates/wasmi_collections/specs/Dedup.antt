@@ -5,7 +5,7 @@ use Rattle.std.specs.Iterator.{Drains, YieldsThen}
 use Rattle.wasmi_arena.specs.Keys.{Keys}
 use Rattle.wasmi_arena.specs.declared.error.ArenaError.{ArenaError}
 use Rattle.wasmi_arena.specs.declared.error.ArenaError.TheVariants.{OutOfSystemMemory, KeyOutOfBounds, NotEnoughKeys, AliasingPairAccess}
-use Rattle.wasmi_finite.specs.Maps.{value_at}
+use Rattle.wasmi_map_specs.specs.Maps.{value_at}
 
 -- the values as they were handed in, and the items that stand there now
 pub record DedupState (T : Type 0) : Type 0 where

@@ -2,7 +2,7 @@
 use Rattle.std.specs.Prelude.{◌≡◌, ℕ, ◌+◌, Bool, true, false, List, length, Option, Some, None, is_some}
 use Rattle.wasmi_arena.specs.declared.error.ArenaError.{ArenaError}
 use Rattle.wasmi_arena.specs.declared.error.ArenaError.TheVariants.{OutOfSystemMemory}
-use Rattle.wasmi_finite.specs.Maps.{value_at, ChangesAt}
+use Rattle.wasmi_map_specs.specs.Maps.{value_at, ChangesAt}
 
 -- how many entries go in or out for this answer: one where there is a value, and else none
 abbrev pub one_if : Bool → ℕ

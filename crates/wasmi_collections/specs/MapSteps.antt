@@ -1,6 +1,6 @@
 -- The steps of a map, what each command may be replied to, and what it leaves.
 use Rattle.std.specs.Prelude.{◌≡◌, Bool, List, [], length, is_some}
-use Rattle.wasmi_finite.specs.Maps.{value_at}
+use Rattle.wasmi_map_specs.specs.Maps.{value_at}
 use Rattle.wasmi_collections.specs.MapCalls.{PutsValue, TakesValue, AddsValue, RefusesKey}
 use Rattle.wasmi_collections.specs.declared.run.map.MapCommand.{MapCommand}
 use Rattle.wasmi_collections.specs.declared.run.map.MapCommand.TheVariants.{Insert, Remove, Has, OrInsert, Len, Clear}

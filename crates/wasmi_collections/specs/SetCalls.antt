@@ -4,7 +4,7 @@ use Rattle.std.specs.Set.{is_member}
 use Rattle.wasmi_arena.specs.declared.error.ArenaError.{ArenaError}
 use Rattle.wasmi_arena.specs.declared.error.ArenaError.TheVariants.{OutOfSystemMemory}
 use Rattle.wasmi_collections.specs.MapCalls.{one_if}
-use Rattle.wasmi_finite.specs.Sets.{ChangesAt}
+use Rattle.wasmi_map_specs.specs.Sets.{ChangesAt}
 
 module _ {T : Type 0} (eq : T → T → Bool) where
   -- an element is in afterwards, and it is told whether it is new

@@ -16,7 +16,7 @@ use Rattle.std.specs.HashMap.Lent.{HashMembers}
 use Rattle.std.specs.List.Sorted.{IsPermutation}
 use Rattle.std.specs.Map.{remove_entry, set_value}
 use Rattle.std.specs.Prelude.{◌≡◌, Bool, true, ◌∷◌, Result, Ok, Err, OnErr, None, IsSome, MatchOption}
-use Rattle.wasmi_finite.specs.Maps.{value_at}
+use Rattle.wasmi_map_specs.specs.Maps.{value_at}
 use Rattle.wasmi_hashed.specs.Entries.{Entries}
 use Rattle.wasmi_hashed.specs.contracts.map.Map.{the_row as MapRow}
 use Rattle.wasmi_arena.specs.declared.error.ArenaError.{ArenaError}

@@ -7,7 +7,7 @@ ghost use Rattle.std.specs.List.Sorted.{IsPermutation};
 ghost use Rattle.std.specs.Map.{keys_of, lookup_key, remove_entry, set_value, values_of};
 ghost use Rattle.std.specs.Map.Calls.{CalledAtPair, TakesPair, CallableOnEachPair, RetainsPairs};
 ghost use Rattle.std.specs.Option.{option_copied_mut};
-ghost use Rattle.wasmi_finite.specs.Maps.{value_at, ChangesAt};
+ghost use Rattle.wasmi_map_specs.specs.Maps.{value_at, ChangesAt};
 
 mod compared;
 mod entry;
@@ -224,7 +224,7 @@ impl<K: Eq + Hash, V, S: BuildHasher, A: Allocator> Map<K, V, S, A> {
 /// `map[&key]` is the value under the key, which is there.
 impl<K: Eq + Hash, V, S: BuildHasher, A: Allocator> Index<&K> for Map<K, V, S, A> {
     ghost use Rattle.std.specs.Prelude.{◌≡◌, IsSome, Some};
-    ghost use Rattle.wasmi_finite.specs.Maps.{value_at};
+    ghost use Rattle.wasmi_map_specs.specs.Maps.{value_at};
 
     type Output = V;
 

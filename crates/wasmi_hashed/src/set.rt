@@ -7,7 +7,7 @@ ghost use Rattle.std.specs.List.Retain.{IsFiltered};
 ghost use Rattle.std.specs.List.{IsDistinct};
 ghost use Rattle.std.specs.List.Sorted.{IsPermutation};
 ghost use Rattle.std.specs.Set.{is_member, remove_key, swap_key};
-ghost use Rattle.wasmi_finite.specs.Sets.{ChangesAt};
+ghost use Rattle.wasmi_map_specs.specs.Sets.{ChangesAt};
 
 mod algebra;
 mod compared;

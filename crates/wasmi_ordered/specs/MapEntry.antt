@@ -13,7 +13,7 @@ use Rattle.std.specs.BTreeMap.{BTreeMap, insert_entry, IsUnchanged}
 use Rattle.std.specs.BTreeMap.Entry.{entry_map_ref, entry_key, entry_value, map_with_value, map_without_entry, MatchEntry}
 use Rattle.std.specs.Map.{remove_entry}
 use Rattle.std.specs.Ordering.{eq_by_cmp}
-use Rattle.wasmi_finite.specs.Maps.{value_at}
+use Rattle.wasmi_map_specs.specs.Maps.{value_at}
 use Rattle.std.specs.BTreeMap.Lent.{OrdMembers}
 use Rattle.std.specs.Prelude.{◌≡◌, List, Result, Ok, Err, None, IsSome}
 use Rattle.std.specs.Borrow.{Fml, RattleType, MutBor, RestsIfErr, Lends, follows_if, follows_so, name_if_ok}

@@ -8,7 +8,7 @@ ghost use Rattle.std.specs.Map.Calls.{CalledAtPair, TakesPair, CallableOnEachPai
 ghost use Rattle.std.specs.Map.Iter.{ShowsInOrder, GivesInOrder, deref, deref_pair};
 ghost use Rattle.std.specs.Option.{option_copied_mut};
 ghost use Rattle.std.specs.Ordering.{eq_by_cmp};
-ghost use Rattle.wasmi_finite.specs.Maps.{value_at, ChangesAt};
+ghost use Rattle.wasmi_map_specs.specs.Maps.{value_at, ChangesAt};
 
 mod compared;
 mod entry;
@@ -275,7 +275,7 @@ impl<K: Hash + Ord, V, A: Allocator> Map<K, V, A> {
 impl<K: Hash + Ord, V, A: Allocator> Index<&K> for Map<K, V, A> {
     ghost use Rattle.std.specs.Prelude.{◌≡◌, IsSome, Some};
     ghost use Rattle.std.specs.Ordering.{eq_by_cmp};
-    ghost use Rattle.wasmi_finite.specs.Maps.{value_at};
+    ghost use Rattle.wasmi_map_specs.specs.Maps.{value_at};
 
     type Output = V;
 

@@ -7,7 +7,6 @@ mod call;
 mod component_vec;
 mod counted;
 mod dedup_arena;
-mod few_keys;
 mod hashed_map;
 mod hashed_set;
 mod head_vec;

@@ -1,6 +1,6 @@
 //! Two items of an arena at once.
 
-use crate::few_keys::FewKeys;
+use wasmi_vectors::few_keys::FewKeys;
 use std::mem;
 use std::num::NonZero;
 use wasmi_arena::{ArenaError, ArenaKey};

@@ -4,7 +4,7 @@ use crate::answers::{bad, value};
 use crate::arena::ArenaReplay;
 use crate::component_vec::ComponentReplay;
 use crate::dedup_arena::DedupReplay;
-use crate::few_keys::FewKeys;
+use wasmi_vectors::few_keys::FewKeys;
 use crate::hashed_map::HashedMapReplay;
 use crate::hashed_set::HashedSetReplay;
 use crate::head_vec::HeadReplay;

@@ -1,6 +1,6 @@
 //! Names that are defined once, in a map of any kind.
 ghost use Rattle.std.specs.Prelude.{◌≡◌, length, IfOk, OnOk, OnErr, IsSome, Some, None};
-ghost use Rattle.wasmi_finite.specs.Maps.{value_at, ChangesAt};
+ghost use Rattle.wasmi_map_specs.specs.Maps.{value_at, ChangesAt};
 
 use wasmi_arena::ArenaError;
 use wasmi_collections::run::AnyMap;

@@ -2,7 +2,7 @@
 ghost use Rattle.std.specs.Prelude.{◌≡◌, true, false, not, is_some, IfOk, OnErr, IfSome, IfNone, Some};
 ghost use Rattle.std.specs.Map.{set_value};
 ghost use Rattle.std.specs.Ordering.{eq_by_cmp};
-ghost use Rattle.wasmi_finite.specs.Maps.{value_at, ChangesAt};
+ghost use Rattle.wasmi_map_specs.specs.Maps.{value_at, ChangesAt};
 
 use std::alloc::Allocator;
 use std::hash::Hash;

@@ -12,7 +12,7 @@ use crate::tables::{add_once, reset};
 use crate::write::put_or_alloc;
 use std::test::Fail;
 use wasmi_arena::{StableArena, StableVec};
-use wasmi_asserts::assert_equal;
+use wasmi_vectors::assert_equal;
 use wasmi_collections::string_interner::Sym;
 use wasmi_collections::{HeadVec, StringInterner, hashed, ordered};
 use wasmi_dense::{Arena, ComponentVec};

@@ -1,22 +1,10 @@
-//! Tests of vectors, arenas, components and head vectors that need a heap of fixed size, or an allocator that counts and refuses.
+//! What the tests stand on: `assert_equal!`, an allocator that counts and refuses, types of few keys,
+//! and items that count what happens to them.
 #![tactic(auto)]
 
-#[cfg(test)]
-mod clones;
-#[cfg(test)]
-mod components;
+pub mod asserts;
 pub mod counted;
-#[cfg(test)]
-mod dense;
-#[cfg(test)]
-mod dense_memory;
-#[cfg(test)]
-mod growth;
-#[cfg(test)]
-mod head_vec;
-#[cfg(test)]
-mod heap;
-#[cfg(test)]
-mod memory;
+pub mod few_keys;
+pub mod noted;
 pub mod observed;
 pub mod tiny;

@@ -7,7 +7,7 @@ ghost use Rattle.std.specs.Iterator.{IsFiniteIterable};
 ghost use Rattle.wasmi_arena.specs.Entries.{entries};
 ghost use Rattle.wasmi_collections.specs.Dedup.{keyed, AllocatesValue, RefusesValue, TakesAll, TakesUntilRefused};
 ghost use Rattle.wasmi_dense.specs.ArenaLoan.{left_entries, IsKeyed};
-ghost use Rattle.wasmi_finite.specs.Maps.{value_at};
+ghost use Rattle.wasmi_map_specs.specs.Maps.{value_at};
 
 use std::alloc::{Allocator, Global};
 use std::fmt::{self, Debug, Formatter, Write};

@@ -1,6 +1,6 @@
 //! Equality of maps, and their text.
 ghost use Rattle.std.specs.Cmp.{on_per, on_equiv};
-ghost use Rattle.wasmi_finite.specs.Same.{same_map, same_map-per, same_map-equiv};
+ghost use Rattle.wasmi_map_specs.specs.Same.{same_map, same_map-per, same_map-equiv};
 
 use super::Map;
 use std::alloc::Allocator;

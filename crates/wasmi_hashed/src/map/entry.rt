@@ -8,7 +8,7 @@ ghost use Rattle.std.specs.List.Sorted.{IsPermutation};
 ghost use Rattle.std.specs.Map.{remove_entry, set_value};
 ghost use Rattle.std.specs.Map.Calls.{ModifiesValue};
 ghost use Rattle.std.specs.Option.{UnwrapsOrElse};
-ghost use Rattle.wasmi_finite.specs.Maps.{value_at};
+ghost use Rattle.wasmi_map_specs.specs.Maps.{value_at};
 ghost use Rattle.wasmi_hashed.specs.MapEntry.{place, map_of, IsPlaceOf, IsOfTable, lends_place, table_rests};
 
 mod occupied;

@@ -3,7 +3,7 @@ ghost use Rattle.std.specs.Prelude.{◌≡◌, [], List, map, IfOk, OnOk, OnErr,
 ghost use Rattle.std.specs.Iterator.{IsFiniteIterable};
 ghost use Rattle.std.specs.List.{AllZip};
 ghost use Rattle.std.specs.Map.Iter.{deref_pair};
-ghost use Rattle.wasmi_finite.specs.Maps.{TakesAll, TakesUntilRefused};
+ghost use Rattle.wasmi_map_specs.specs.Maps.{TakesAll, TakesUntilRefused};
 
 use super::Map;
 use crate::hash::FixedState;

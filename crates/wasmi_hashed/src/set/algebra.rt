@@ -3,7 +3,7 @@ ghost use Rattle.std.specs.Prelude.{◌<◌, ◌^◌, ◌↔◌, length, IfOk, I
 ghost use Rattle.std.specs.List.{IsDistinct};
 ghost use Rattle.std.specs.Map.Iter.{ShowsInOrder, deref};
 ghost use Rattle.std.specs.Set.{IsUnion, IsIntersection, IsDifference, IsSymmetricDifference};
-ghost use Rattle.wasmi_finite.specs.Sets.{IsSubset, IsDisjoint, HoldsClones};
+ghost use Rattle.wasmi_map_specs.specs.Sets.{IsSubset, IsDisjoint, HoldsClones};
 
 use super::Set;
 use crate::hash::FixedState;

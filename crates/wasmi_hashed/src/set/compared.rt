@@ -1,6 +1,6 @@
 //! Equality of sets, and their text.
 ghost use Rattle.std.specs.Cmp.{partial_equiv_from_equiv, on_per, on_equiv};
-ghost use Rattle.wasmi_finite.specs.Same.{same_set, same_set-equiv};
+ghost use Rattle.wasmi_map_specs.specs.Same.{same_set, same_set-equiv};
 
 use super::Set;
 use std::alloc::Allocator;

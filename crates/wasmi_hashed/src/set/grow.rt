@@ -3,7 +3,7 @@ ghost use Rattle.std.specs.Prelude.{◌≡◌, [], List, map, IfOk, OnOk, OnErr,
 ghost use Rattle.std.specs.Iterator.{IsFiniteIterable};
 ghost use Rattle.std.specs.List.{AllZip};
 ghost use Rattle.std.specs.Map.Iter.{deref};
-ghost use Rattle.wasmi_finite.specs.Sets.{TakesAll, TakesUntilRefused};
+ghost use Rattle.wasmi_map_specs.specs.Sets.{TakesAll, TakesUntilRefused};
 
 use super::Set;
 use crate::hash::FixedState;

@@ -9,7 +9,7 @@ ghost use Rattle.std.specs.Map.Calls.{ModifiesValue};
 ghost use Rattle.std.specs.Option.{UnwrapsOrElse};
 ghost use Rattle.std.specs.Ordering.{eq_by_cmp};
 ghost use Rattle.std.specs.declared.cmp.Ordering.TheVariants.{Equal};
-ghost use Rattle.wasmi_finite.specs.Maps.{value_at};
+ghost use Rattle.wasmi_map_specs.specs.Maps.{value_at};
 ghost use Rattle.wasmi_ordered.specs.MapEntry.{place, IsPlaceOf, IsOfTree, lends_place, tree_rests};
 
 mod occupied;

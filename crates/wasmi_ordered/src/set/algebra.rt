@@ -4,7 +4,7 @@ ghost use Rattle.std.specs.List.Sorted.{IsStrictlySortedBy};
 ghost use Rattle.std.specs.Map.Iter.{ShowsInOrder, deref};
 ghost use Rattle.std.specs.Ordering.{eq_by_cmp};
 ghost use Rattle.std.specs.Set.{IsUnion, IsIntersection, IsDifference, IsSymmetricDifference};
-ghost use Rattle.wasmi_finite.specs.Sets.{IsSubset, IsDisjoint, HoldsClones};
+ghost use Rattle.wasmi_map_specs.specs.Sets.{IsSubset, IsDisjoint, HoldsClones};
 
 use super::Set;
 use std::alloc::Allocator;

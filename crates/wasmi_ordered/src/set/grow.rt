@@ -4,7 +4,7 @@ ghost use Rattle.std.specs.Iterator.{IsFiniteIterable};
 ghost use Rattle.std.specs.List.{AllZip};
 ghost use Rattle.std.specs.Map.Iter.{deref};
 ghost use Rattle.std.specs.Ordering.{eq_by_cmp};
-ghost use Rattle.wasmi_finite.specs.Sets.{TakesAll, TakesUntilRefused};
+ghost use Rattle.wasmi_map_specs.specs.Sets.{TakesAll, TakesUntilRefused};
 
 use super::Set;
 use std::alloc::Allocator;

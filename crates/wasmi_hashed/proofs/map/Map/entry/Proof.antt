@@ -14,7 +14,7 @@ use Rattle.std.proofs.alloc.AllocFailed.TheLaws as FailedLaws
 use Rattle.std.proofs.result.Result.TheLaws as ResultLaws
 use Rattle.std.specs.contracts.result.Result as ResultType
 use Rattle.std.proofs.mem.Param.{El, lawful, one}
-use Rattle.wasmi_finite.specs.Maps.{value_at}
+use Rattle.wasmi_map_specs.specs.Maps.{value_at}
 use base.Logic.{ent, id⊢, emp}
 use base.Fml.{ftrue, flft}
 use contract.BorrowLft.{◌⊑◌}
@@ -42,7 +42,7 @@ use denote.Triple.Clauses.{lasts, Lasts}
 use denote.Triple.Spec.{triple_of}
 use denote.Triple.Table.{framed}
 use denote.Triple.Walked.{Stays, walk_of, stay_dropped, Goes-spent_ref, Goes-dropped, ends_at}
-use Rattle.wasmi_finite.proofs.Handed.{each_ok}
+use Rattle.wasmi_map_specs.proofs.Handed.{each_ok}
 use Rattle.wasmi_hashed.specs.MapEntry.{place, IsPlaceOf, IsOfTable, table_rests, map_of}
 use Rattle.wasmi_arena.specs.declared.error.ArenaError.TheVariants.{OutOfSystemMemory}
 use Rattle.wasmi_arena.specs.contracts.error.ArenaError as ErrorType

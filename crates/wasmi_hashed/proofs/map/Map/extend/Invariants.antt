@@ -1,5 +1,5 @@
 use Rattle.std.proofs.Common.{◌≡◌}
-use Rattle.wasmi_finite.specs.Maps.{InsertsAll}
+use Rattle.wasmi_map_specs.specs.Maps.{InsertsAll}
 use Rattle.wasmi_hashed.proofs.map.Map.extend.Given as goal
 
 -- what came so far is in, and keys are hashed as before

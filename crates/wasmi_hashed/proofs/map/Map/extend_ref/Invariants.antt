@@ -1,6 +1,6 @@
 use Rattle.std.proofs.Common.{◌≡◌, map}
 use Rattle.std.specs.Map.Iter.{deref_pair}
-use Rattle.wasmi_finite.specs.Maps.{InsertsAll}
+use Rattle.wasmi_map_specs.specs.Maps.{InsertsAll}
 use Rattle.wasmi_hashed.proofs.map.Map.extend_ref.Given as goal
 
 -- copies of what came so far are in, and keys are hashed as before

@@ -15,7 +15,7 @@ use Rattle.std.proofs.alloc.AllocFailed.TheLaws as FailedLaws
 use Rattle.std.proofs.result.Result.TheLaws as ResultLaws
 use Rattle.std.specs.contracts.result.Result as ResultType
 use Rattle.std.proofs.mem.Param.{El, lawful, one}
-use Rattle.wasmi_finite.specs.Maps.{value_at}
+use Rattle.wasmi_map_specs.specs.Maps.{value_at}
 use base.Logic.{ent, id⊢, emp}
 use base.Fml.{ftrue, flft}
 use contract.BorrowLft.{◌⊑◌}
@@ -60,7 +60,7 @@ use Rattle.wasmi_ordered.proofs.map.entry.of_tree.Met as Made
 use Rattle.wasmi_ordered.proofs.map.Map.entry.Statement.{statement}
 use Rattle.wasmi_ordered.proofs.map.Map.entry.Code as code
 use Rattle.wasmi_arena.proofs.Frame.{let_go, gone}
-use Rattle.wasmi_finite.proofs.Handed.{lent_on, each_ok}
+use Rattle.wasmi_map_specs.proofs.Handed.{lent_on, each_ok}
 use Rattle.wasmi_ordered.proofs.Places.{of_place, of_absence, of_failure, of_names}
 
 pub entry_spec : {M : Type 1} → statement M

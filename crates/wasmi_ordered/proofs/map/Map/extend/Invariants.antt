@@ -1,5 +1,5 @@
 use Rattle.std.specs.Ordering.{eq_by_cmp}
-use Rattle.wasmi_finite.specs.Maps.{InsertsAll}
+use Rattle.wasmi_map_specs.specs.Maps.{InsertsAll}
 use Rattle.wasmi_ordered.proofs.map.Map.extend.Given as goal
 
 -- what came so far is in

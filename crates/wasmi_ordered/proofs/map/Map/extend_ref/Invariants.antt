@@ -1,7 +1,7 @@
 use Rattle.std.proofs.Common.{map}
 use Rattle.std.specs.Map.Iter.{deref_pair}
 use Rattle.std.specs.Ordering.{eq_by_cmp}
-use Rattle.wasmi_finite.specs.Maps.{InsertsAll}
+use Rattle.wasmi_map_specs.specs.Maps.{InsertsAll}
 use Rattle.wasmi_ordered.proofs.map.Map.extend_ref.Given as goal
 
 -- copies of what came so far are in

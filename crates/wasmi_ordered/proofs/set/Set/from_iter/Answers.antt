@@ -1,7 +1,7 @@
 use Rattle.std.proofs.Common.{List, subst}
 use Rattle.std.proofs.lemmas.Result.{err_from_is_err_and}
 use Rattle.std.specs.Ordering.{eq_by_cmp}
-use Rattle.wasmi_finite.specs.Sets.{TakesUntilRefused}
+use Rattle.wasmi_map_specs.specs.Sets.{TakesUntilRefused}
 use Rattle.wasmi_ordered.proofs.set.Set.from_iter.Goals as goal
 
 pub returns-in_err-extend-clause-err : goal.returns-in_err-extend-clause-err

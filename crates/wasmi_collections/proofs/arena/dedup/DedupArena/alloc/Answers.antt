@@ -1,6 +1,6 @@
 use Rattle.std.proofs.Common.{◌≡◌, ◌++◌, ◌∷◌, [], length, Option, Result, Ok, Err, IsOk, OnOk, None, Some, is_some, true≢false, MatchOption, sym, ap, ◌∙◌, length-append, position, inr, arith}
 use Rattle.std.proofs.lemmas.Result.{IfOk-weaker}
-use Rattle.wasmi_finite.specs.Maps.{value_at}
+use Rattle.wasmi_map_specs.specs.Maps.{value_at}
 use Rattle.wasmi_collections.specs.Dedup.{IsIndex, in_order}
 use Rattle.wasmi_collections.proofs.Dedup.{IsIndex-push, in_order-keyed, position-absent}
 use Rattle.wasmi_collections.proofs.arena.dedup.DedupArena.alloc.Goals as goal

@@ -48,7 +48,7 @@ use Rattle.wasmi_hashed.specs.contracts.map.entry.Entry as EntryType
 use Rattle.wasmi_hashed.specs.contracts.map.entry.Entry.into_table as Opens
 use Rattle.wasmi_hashed.specs.contracts.map.entry.Entry.or_insert_with_key as F
 use Rattle.wasmi_arena.proofs.Frame.{let_go, gone}
-use Rattle.wasmi_finite.proofs.Handed.{sole, ok_of, lent_there}
+use Rattle.wasmi_map_specs.proofs.Handed.{sole, ok_of, lent_there}
 use Rattle.wasmi_hashed.proofs.Gone.{entry_goes}
 use Rattle.wasmi_hashed.proofs.map.entry.Entry.TheLaws as EntryLaws
 use Rattle.wasmi_hashed.proofs.map.entry.Entry.into_table.Met as Opened

@@ -39,7 +39,7 @@ use Rattle.wasmi_hashed.specs.contracts.map.entry.OccupiedEntry as EntryType
 use Rattle.wasmi_hashed.specs.contracts.map.entry.OccupiedEntry.into_table as Opens
 use Rattle.wasmi_hashed.specs.contracts.map.entry.OccupiedEntry.remove_entry as F
 use Rattle.wasmi_arena.proofs.Frame.{let_go, gone}
-use Rattle.wasmi_finite.proofs.Handed.{sole}
+use Rattle.wasmi_map_specs.proofs.Handed.{sole}
 use Rattle.wasmi_hashed.proofs.Gone.{occupied_goes}
 use Rattle.wasmi_hashed.proofs.Ended.{goes_without}
 use Rattle.wasmi_hashed.specs.MapEntry.{table_without}

@@ -45,7 +45,7 @@ use Rattle.wasmi_hashed.specs.contracts.map.entry.VacantEntry as EntryType
 use Rattle.wasmi_hashed.specs.contracts.map.entry.VacantEntry.into_table as Opens
 use Rattle.wasmi_hashed.specs.contracts.map.entry.VacantEntry.insert as F
 use Rattle.wasmi_arena.proofs.Frame.{let_go, gone}
-use Rattle.wasmi_finite.proofs.Handed.{sole, ok_of, lent_there}
+use Rattle.wasmi_map_specs.proofs.Handed.{sole, ok_of, lent_there}
 use Rattle.wasmi_hashed.proofs.Gone.{vacant_goes}
 use Rattle.wasmi_hashed.proofs.map.entry.VacantEntry.TheLaws as EntryLaws
 use Rattle.wasmi_hashed.proofs.map.entry.VacantEntry.into_table.Met as Opened

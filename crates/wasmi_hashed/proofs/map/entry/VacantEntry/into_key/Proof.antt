@@ -36,7 +36,7 @@ use Rattle.wasmi_hashed.specs.contracts.map.entry.VacantEntry as EntryType
 use Rattle.wasmi_hashed.specs.contracts.map.entry.VacantEntry.into_table as Opens
 use Rattle.wasmi_hashed.specs.contracts.map.entry.VacantEntry.into_key as F
 use Rattle.wasmi_arena.proofs.Frame.{let_go, gone}
-use Rattle.wasmi_finite.proofs.Handed.{sole}
+use Rattle.wasmi_map_specs.proofs.Handed.{sole}
 use Rattle.wasmi_hashed.proofs.Gone.{vacant_goes}
 use Rattle.wasmi_hashed.proofs.Ended.{comes_back}
 use Rattle.wasmi_hashed.specs.MapEntry.{table_stays}

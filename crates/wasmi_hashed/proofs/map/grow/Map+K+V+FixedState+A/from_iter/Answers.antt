@@ -1,6 +1,6 @@
 use Rattle.std.proofs.Common.{List, subst}
 use Rattle.std.proofs.lemmas.Result.{err_from_is_err_and}
-use Rattle.wasmi_finite.specs.Maps.{TakesUntilRefused}
+use Rattle.wasmi_map_specs.specs.Maps.{TakesUntilRefused}
 use Rattle.wasmi_hashed.proofs.map.grow.Map+K+V+FixedState+A.from_iter.Goals as goal
 
 pub returns-in_err-extend-clause-err : goal.returns-in_err-extend-clause-err

@@ -46,7 +46,7 @@ use Rattle.wasmi_ordered.specs.contracts.map.entry.Entry as EntryType
 use Rattle.wasmi_ordered.specs.contracts.map.entry.Entry.into_tree as Opens
 use Rattle.wasmi_ordered.specs.contracts.map.entry.Entry.or_insert_with as F
 use Rattle.wasmi_arena.proofs.Frame.{let_go, gone}
-use Rattle.wasmi_finite.proofs.Handed.{sole, ok_of, lent_there}
+use Rattle.wasmi_map_specs.proofs.Handed.{sole, ok_of, lent_there}
 use Rattle.wasmi_ordered.proofs.Gone.{entry_goes}
 use Rattle.wasmi_ordered.proofs.map.entry.Entry.TheLaws as EntryLaws
 use Rattle.wasmi_ordered.proofs.map.entry.Entry.into_tree.Met as Opened

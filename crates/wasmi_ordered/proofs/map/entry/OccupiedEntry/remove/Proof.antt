@@ -38,7 +38,7 @@ use Rattle.wasmi_ordered.specs.contracts.map.entry.OccupiedEntry as EntryType
 use Rattle.wasmi_ordered.specs.contracts.map.entry.OccupiedEntry.into_tree as Opens
 use Rattle.wasmi_ordered.specs.contracts.map.entry.OccupiedEntry.remove as F
 use Rattle.wasmi_arena.proofs.Frame.{let_go, gone}
-use Rattle.wasmi_finite.proofs.Handed.{sole}
+use Rattle.wasmi_map_specs.proofs.Handed.{sole}
 use Rattle.wasmi_ordered.proofs.Gone.{occupied_goes}
 use Rattle.wasmi_ordered.proofs.Ended.{goes_without}
 use Rattle.wasmi_ordered.specs.MapEntry.{tree_without}

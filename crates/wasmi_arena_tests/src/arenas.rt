@@ -1,0 +1,161 @@
+//! What no clause says of arenas and their runs: that calls succeed, at several types of keys, and texts.
+use std::alloc::Global;
+use std::num::NonZero;
+use std::test::Fail;
+use wasmi_arena::{ArenaCommand, ArenaError, ArenaKey, ArenaReply, StableArena, run_arena};
+use wasmi_vectors::assert_equal;
+
+#[test]
+fn debug_texts_of_commands_and_replies(rt: HostRuntime) -> Result<(), Fail> {
+    for (command, text) in [
+        (ArenaCommand::<u32, u8>::Alloc(7), "Alloc(7)"),
+        (ArenaCommand::Has(1), "Has(1)"),
+        (ArenaCommand::Put(1, 9), "Put(1, 9)"),
+        (ArenaCommand::Swap(0, 1), "Swap(0, 1)"),
+    ] {
+        let shown = format!(in rt.alloc(); "{command:?}")?;
+        assert_equal!(rt; shown.as_str(), text);
+    }
+    for (reply, text) in [
+        (ArenaReply::<u32, u8>::Key(0), "Key(0)"),
+        (ArenaReply::Has(true), "Has(true)"),
+        (ArenaReply::Old(7), "Old(7)"),
+        (ArenaReply::Done, "Done"),
+        (
+            ArenaReply::Refused(ArenaError::NotEnoughKeys),
+            "Refused(NotEnoughKeys)",
+        ),
+    ] {
+        let shown = format!(in rt.alloc(); "{reply:?}")?;
+        assert_equal!(rt; shown.as_str(), text);
+    }
+    Ok(())
+}
+
+// Whether an arena gives the first keys of a type to its first items.
+fn fills<Key: ArenaKey + PartialEq>(alloc: Global, first: Key, second: Key) -> bool {
+    let mut arena: StableArena<Key, u8> = StableArena::new(alloc);
+    let starts = arena.is_empty() && arena.next_key() == Ok(first) && arena.room() == 0;
+    let keys = arena.alloc(7) == Ok(first) && arena.alloc(8) == Ok(second);
+    let reads = arena.get(first) == Ok(&7) && arena.get(second) == Ok(&8);
+    let mut entries = arena.iter();
+    let walks = entries.len() == 2 && entries.next() == Some((first, &7)) && entries.len() == 1;
+    starts
+        && keys
+        && reads
+        && walks
+        && arena.len() == 2
+        && arena.room() == 30
+        && arena.items().len() == 2
+}
+
+#[test]
+fn arenas_under_two_keys(rt: HostRuntime) -> Result<(), Fail> {
+    assert!(rt; fills(rt.alloc(), 0usize, 1));
+    assert!(rt; fills(rt.alloc(), 0u32, 1));
+    let one = NonZero::<u32>::new(1).ok_or("one")?;
+    let two = NonZero::<u32>::new(2).ok_or("two")?;
+    assert!(rt; fills(rt.alloc(), one, two));
+    let arena: StableArena<usize, u8> = StableArena::new(rt.alloc());
+    assert_equal!(rt; arena.get(0), Err(ArenaError::KeyOutOfBounds));
+    Ok(())
+}
+
+#[test]
+fn items_are_exchanged(rt: HostRuntime) -> Result<(), Fail> {
+    let mut arena: StableArena<u32, u32> = StableArena::from_iter(rt.alloc(), 0..100)?;
+    for key in 0..100 {
+        assert_equal!(rt; arena.put(key, 1000)?, key);
+        *arena.get_mut(key)? = 99 - key;
+    }
+    for key in 0..100 {
+        assert_equal!(rt; arena.get(key), Ok(&(99 - key)));
+    }
+    assert_equal!(rt; (arena.len(), arena.items().open_buckets()), (100, 3));
+    Ok(())
+}
+
+#[test]
+fn walks_give_what_was_written(rt: HostRuntime) -> Result<(), Fail> {
+    let mut arena: StableArena<u32, u32> = StableArena::from_iter(rt.alloc(), 0..100)?;
+    for key in 0..100 {
+        *arena.get_mut(key)? = 99 - key;
+    }
+    for (key, item) in &arena {
+        assert_equal!(rt; key.wrapping_add(*item), 99);
+    }
+    for item in arena.items() {
+        assert!(rt; *item < 100);
+    }
+    Ok(())
+}
+
+#[test]
+fn a_walk_goes_from_both_ends(rt: HostRuntime) -> Result<(), Fail> {
+    let mut arena: StableArena<u32, u8> = StableArena::new(rt.alloc());
+    for item in 0..100 {
+        arena.alloc(item)?;
+    }
+    let mut entries = arena.iter();
+    assert_equal!(rt; entries.next_back(), Some((99, &99)));
+    assert_equal!(rt; entries.next(), Some((0, &0)));
+    assert_equal!(rt; entries.next_back(), Some((98, &98)));
+    assert_equal!(rt; entries.len(), 97);
+    Ok(())
+}
+
+#[test]
+fn no_item_at_the_next_key(rt: HostRuntime) -> Result<(), Fail> {
+    let mut arena: StableArena<u32, u32> = StableArena::from_iter(rt.alloc(), 0..100)?;
+    assert_equal!(rt; arena.put(100, 7), Err(ArenaError::KeyOutOfBounds));
+    assert!(rt; arena.get_mut(100).is_err());
+    assert!(rt; arena.has(99) && !arena.has(100));
+    Ok(())
+}
+
+#[test]
+fn items_by_index(rt: HostRuntime) -> Result<(), Fail> {
+    let mut arena: StableArena<u32, u8> = StableArena::new(rt.alloc());
+    let first = arena.alloc(7)?;
+    let second = arena.alloc(8)?;
+    assert_equal!(rt; (arena[first], arena[second]), (7, 8));
+    arena[second] = 9;
+    assert_equal!(rt; (arena[first], arena[second]), (7, 9));
+    Ok(())
+}
+
+#[test]
+fn a_run_of_commands(rt: HostRuntime) -> Result<(), Fail> {
+    let mut arena: StableArena<u32, u8> = StableArena::new(rt.alloc());
+    let commands = vec![in rt.alloc();
+        ArenaCommand::Alloc(7),
+        ArenaCommand::Alloc(8),
+        ArenaCommand::Swap(0, 1),
+        ArenaCommand::Put(0, 9),
+        ArenaCommand::Has(1),
+        ArenaCommand::Has(2),
+        ArenaCommand::Put(2, 5),
+        ArenaCommand::Swap(1, 1),
+        ArenaCommand::Swap(5, 5),
+        ArenaCommand::Swap(1, 2),
+    ]?;
+    let replies = run_arena(rt.alloc(), &mut arena, commands)?;
+    assert_equal!(rt;
+        replies.as_slice(),
+        [
+            ArenaReply::Key(0),
+            ArenaReply::Key(1),
+            ArenaReply::Done,
+            ArenaReply::Old(8),
+            ArenaReply::Has(true),
+            ArenaReply::Has(false),
+            ArenaReply::Refused(ArenaError::KeyOutOfBounds),
+            ArenaReply::Refused(ArenaError::AliasingPairAccess),
+            ArenaReply::Refused(ArenaError::AliasingPairAccess),
+            ArenaReply::Refused(ArenaError::KeyOutOfBounds)
+        ]
+        .as_slice()
+    );
+    assert_equal!(rt; (arena.len(), arena.get(0)?, arena.get(1)?), (2, &9, &7));
+    Ok(())
+}

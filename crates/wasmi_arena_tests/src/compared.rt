@@ -1,0 +1,172 @@
+//! Equality, order, hash and text of vectors and arenas.
+use crate::vectors::counted;
+use std::alloc::Global;
+use std::cmp::Ordering;
+use std::hash::{DefaultHasher, Hash, Hasher};
+use std::num::NonZero;
+use std::test::Fail;
+use wasmi_arena::{ArenaError, StableArena, StableVec};
+use wasmi_vectors::assert_equal;
+
+// A vector of 0, 1 and so on, with another item at one index.
+fn exchanged(alloc: Global, len: u32, index: u32, item: u32) -> Result<StableVec<u32>, ArenaError> {
+    let mut vec = StableVec::new(alloc);
+    for i in 0..len {
+        vec.push(if i == index { item } else { i })?;
+    }
+    Ok(vec)
+}
+
+fn hash_of(vec: &StableVec<u32>) -> u64 {
+    let mut hasher = DefaultHasher::new();
+    vec.hash(&mut hasher);
+    hasher.finish()
+}
+
+#[test]
+fn equal_lists_are_equal(rt: HostRuntime) -> Result<(), Fail> {
+    for len in [0, 1, 31, 32, 33, 95, 96, 97, 100, 300] {
+        let (vec, same) = (counted(rt.alloc(), len)?, counted(rt.alloc(), len)?);
+        assert_equal!(rt; &vec, &same);
+        assert_equal!(rt; vec.cmp(&same), Ordering::Equal);
+        assert_equal!(rt; vec.partial_cmp(&same), Some(Ordering::Equal));
+        assert_equal!(rt; hash_of(&vec), hash_of(&same), "at {len}");
+    }
+    Ok(())
+}
+
+#[test]
+fn one_item_more_is_greater(rt: HostRuntime) -> Result<(), Fail> {
+    for len in [0, 1, 31, 32, 33, 95, 96, 97, 100, 300] {
+        let vec = counted(rt.alloc(), len)?;
+        let longer = counted(rt.alloc(), len + 1)?;
+        assert!(rt; vec != longer && longer != vec, "at {len}");
+        assert!(rt; vec < longer && longer > vec, "at {len}");
+        assert_equal!(rt; vec.cmp(&longer), Ordering::Less);
+        assert_equal!(rt; longer.cmp(&vec), Ordering::Greater);
+        assert!(rt; hash_of(&vec) != hash_of(&longer), "at {len}");
+    }
+    Ok(())
+}
+
+#[test]
+fn lists_that_differ_at_one_index(rt: HostRuntime) -> Result<(), Fail> {
+    let vec = counted(rt.alloc(), 300)?;
+    for index in [0, 31, 32, 95, 96, 223, 224, 299] {
+        let other = exchanged(rt.alloc(), 300, index, 1000)?;
+        assert!(rt; vec != other && other != vec, "at {index}");
+        assert_equal!(rt; vec.cmp(&other), Ordering::Less, "at {index}");
+        assert_equal!(rt; other.cmp(&vec), Ordering::Greater, "at {index}");
+        assert!(rt; hash_of(&vec) != hash_of(&other), "at {index}");
+    }
+    Ok(())
+}
+
+#[test]
+fn the_first_index_that_differs_decides(rt: HostRuntime) -> Result<(), Fail> {
+    let longer = counted(rt.alloc(), 500)?;
+    for index in [0, 31, 32, 95, 96, 223, 224, 299] {
+        let other = exchanged(rt.alloc(), 300, index, 1000)?;
+        assert_equal!(rt; longer.cmp(&other), Ordering::Less, "at {index}");
+        assert_equal!(rt; other.partial_cmp(&longer), Some(Ordering::Greater));
+    }
+    Ok(())
+}
+
+#[test]
+fn ord_is_lexicographic(rt: HostRuntime) -> Result<(), Fail> {
+    let ascending = [
+        StableVec::new(rt.alloc()),
+        StableVec::from_iter(rt.alloc(), [1])?,
+        StableVec::from_iter(rt.alloc(), [1, 2])?,
+        StableVec::from_iter(rt.alloc(), [1, 2, 3])?,
+        StableVec::from_iter(rt.alloc(), [1, 3])?,
+        StableVec::from_iter(rt.alloc(), [2u8])?,
+    ];
+    for (i, left) in ascending.iter().enumerate() {
+        for (k, right) in ascending.iter().enumerate() {
+            assert_equal!(rt; left.cmp(right), i.cmp(&k));
+            assert_equal!(rt; left.partial_cmp(right), Some(i.cmp(&k)));
+            assert_equal!(rt; left == right, i == k);
+        }
+    }
+    Ok(())
+}
+
+#[test]
+fn items_without_an_order(rt: HostRuntime) -> Result<(), Fail> {
+    let nan = StableVec::from_iter(rt.alloc(), [1.0, f64::NAN])?;
+    let other = StableVec::from_iter(rt.alloc(), [1.0, f64::NAN, 2.0])?;
+    assert!(rt; nan != nan);
+    assert_equal!(rt; nan.partial_cmp(&other), None);
+    let below = StableVec::from_iter(rt.alloc(), [0.5, f64::NAN])?;
+    assert_equal!(rt; below.partial_cmp(&nan), Some(Ordering::Less));
+    Ok(())
+}
+
+#[test]
+fn items_without_size_are_counted(rt: HostRuntime) -> Result<(), Fail> {
+    let three = StableVec::from_iter(rt.alloc(), [(), (), ()])?;
+    let same = StableVec::from_iter(rt.alloc(), [(), (), ()])?;
+    let two = StableVec::from_iter(rt.alloc(), [(), ()])?;
+    assert!(rt; three == same && three != two && three > two);
+    Ok(())
+}
+
+#[test]
+fn debug_texts_of_vectors(rt: HostRuntime) -> Result<(), Fail> {
+    let vec = StableVec::from_iter(rt.alloc(), [1, 2, 3])?;
+    assert_equal!(rt; format!(in rt.alloc(); "{vec:?}")?.as_str(), "[1, 2, 3]");
+    let none = StableVec::<u8>::new(rt.alloc());
+    assert_equal!(rt; format!(in rt.alloc(); "{none:?}")?.as_str(), "[]");
+    Ok(())
+}
+
+#[test]
+fn debug_texts_of_arenas(rt: HostRuntime) -> Result<(), Fail> {
+    let mut arena: StableArena<u32, bool> = StableArena::new(rt.alloc());
+    assert_equal!(rt; format!(in rt.alloc(); "{arena:?}")?.as_str(), "{}");
+    arena.alloc(true)?;
+    arena.alloc(false)?;
+    assert_equal!(rt;
+        format!(in rt.alloc(); "{arena:?}")?.as_str(),
+        "{0: true, 1: false}"
+    );
+    Ok(())
+}
+
+#[test]
+fn an_arena_prints_its_keys(rt: HostRuntime) -> Result<(), Fail> {
+    let keyed: StableArena<NonZero<u32>, u8> = StableArena::from_iter(rt.alloc(), 7..9)?;
+    assert_equal!(rt;
+        format!(in rt.alloc(); "{keyed:?}")?.as_str(),
+        "{1: 7, 2: 8}"
+    );
+    Ok(())
+}
+
+#[test]
+fn equal_arenas(rt: HostRuntime) -> Result<(), Fail> {
+    let mut left: StableArena<NonZero<u32>, u8> = StableArena::new(rt.alloc());
+    let mut right = StableArena::new(rt.alloc());
+    assert_equal!(rt; &left, &right);
+    left.alloc(7)?;
+    assert!(rt; left != right);
+    let first = right.alloc(8)?;
+    assert!(rt; left != right);
+    right.put(first, 7)?;
+    assert_equal!(rt; &left, &right);
+    Ok(())
+}
+
+#[test]
+fn debug_texts_of_several_buckets(rt: HostRuntime) -> Result<(), Fail> {
+    for len in [32u32, 33, 100] {
+        let vec = counted(rt.alloc(), len)?;
+        let items: Vec<u32> = (0..len).collect(rt.alloc())?;
+        let text = format!(in rt.alloc(); "{vec:?}")?;
+        let wanted = format!(in rt.alloc(); "{items:?}")?;
+        assert_equal!(rt; text.as_str(), wanted.as_str(), "at {len}");
+    }
+    Ok(())
+}

@@ -1,0 +1,193 @@
+//! Items that are written one after another.
+use crate::vectors::counted;
+use std::cell::Cell;
+use std::test::Fail;
+use wasmi_arena::{StableArena, StableVec};
+use wasmi_vectors::assert_equal;
+
+#[test]
+fn each_item_is_written_in_place(rt: HostRuntime) -> Result<(), Fail> {
+    for len in [0, 1, 2, 32, 33, 34, 98, 100, 300] {
+        let mut vec = counted(rt.alloc(), len)?;
+        let (open_buckets, slots) = (vec.open_buckets(), vec.slots());
+        for item in &mut vec {
+            *item = item.wrapping_mul(2);
+        }
+        let doubles: Vec<u32> = (0..len).map(|n| n.wrapping_mul(2)).collect(rt.alloc())?;
+        let forward: Vec<u32> = vec.iter().copied().collect(rt.alloc())?;
+        assert_equal!(rt; forward, doubles, "at {len}");
+        assert_equal!(rt;
+            (vec.open_buckets(), vec.slots()),
+            (open_buckets, slots),
+            "at {len}"
+        );
+        // From the back.
+        for item in vec.iter_mut().rev() {
+            *item = item.wrapping_add(1);
+        }
+        let odd: Vec<u32> = (0..len)
+            .map(|n| n.wrapping_mul(2).wrapping_add(1))
+            .collect(rt.alloc())?;
+        let forward: Vec<u32> = vec.iter().copied().collect(rt.alloc())?;
+        assert_equal!(rt; forward, odd, "at {len}");
+    }
+    Ok(())
+}
+
+#[test]
+fn an_iterator_that_is_left_early(rt: HostRuntime) -> Result<(), Fail> {
+    let mut vec = counted(rt.alloc(), 300)?;
+    {
+        let mut items = vec.iter_mut();
+        *items.next().ok_or("first")? = 1000;
+        *items.next_back().ok_or("last")? = 2000;
+        *items.next_back().ok_or("last but one")? = 3000;
+        assert_equal!(rt; items.len(), 297);
+    }
+    assert_equal!(rt; (vec.len(), vec.open_buckets(), vec.slots()), (300, 4, 480));
+    for (index, item) in (0..300u32).zip(vec.iter()) {
+        let wanted = match index {
+            0 => 1000,
+            298 => 3000,
+            299 => 2000,
+            _ => index,
+        };
+        assert_equal!(rt; *item, wanted, "at {index}");
+    }
+    assert_equal!(rt; vec.push(5)?, 300);
+    Ok(())
+}
+
+#[test]
+fn both_ends_meet(rt: HostRuntime) -> Result<(), Fail> {
+    // Each end takes three at a time, over all buckets.
+    let mut vec = counted(rt.alloc(), 225)?;
+    let taken = Cell::new(0u32);
+    {
+        let mut items = vec.iter_mut();
+        for _ in 0..38 {
+            for _ in 0..3 {
+                if let Some(item) = items.next() {
+                    *item = item.wrapping_add(1000);
+                    taken.set(taken.get().wrapping_add(1));
+                }
+            }
+            for _ in 0..3 {
+                if let Some(item) = items.next_back() {
+                    *item = item.wrapping_add(2000);
+                    taken.set(taken.get().wrapping_add(1));
+                }
+            }
+        }
+        assert!(rt; items.next().is_none());
+        assert!(rt; items.next_back().is_none());
+        assert_equal!(rt; items.len(), 0);
+    }
+    assert_equal!(rt; taken.get(), 225);
+    for (index, item) in vec.iter().enumerate() {
+        let added = if index < 114 { 1000 } else { 2000 };
+        assert_equal!(rt; *item as usize, index.wrapping_add(added));
+    }
+    Ok(())
+}
+
+#[test]
+fn slices_are_written(rt: HostRuntime) -> Result<(), Fail> {
+    let mut vec = counted(rt.alloc(), 100)?;
+    let mut lens = Vec::new(rt.alloc());
+    for part in vec.slices_mut() {
+        lens.push(part.len())?;
+        part.fill(7);
+    }
+    assert_equal!(rt; format!(in rt.alloc(); "{lens:?}")?.as_str(), "[32, 64, 4]");
+    assert!(rt; vec.iter().all(|item| *item == 7));
+    Ok(())
+}
+
+#[test]
+fn slices_are_written_from_both_ends(rt: HostRuntime) -> Result<(), Fail> {
+    let mut vec = counted(rt.alloc(), 100)?;
+    let mut slices = vec.slices_mut();
+    assert_equal!(rt; slices.len(), 3);
+    slices.next_back().ok_or("last")?.fill(9);
+    slices.next().ok_or("first")?.fill(8);
+    drop(slices);
+    let read = [
+        vec.get(0),
+        vec.get(31),
+        vec.get(32),
+        vec.get(95),
+        vec.get(96),
+        vec.get(99),
+    ];
+    assert!(rt; read == [Some(&8), Some(&8), Some(&32), Some(&95), Some(&9), Some(&9)]);
+    assert_equal!(rt; vec.len(), 100);
+    Ok(())
+}
+
+#[test]
+fn each_item_of_an_arena_is_written(rt: HostRuntime) -> Result<(), Fail> {
+    let mut arena: StableArena<u32, u32> = StableArena::new(rt.alloc());
+    for item in 0..100u32 {
+        arena.alloc(item.wrapping_mul(10))?;
+    }
+    for (key, item) in &mut arena {
+        *item = item.wrapping_add(key);
+    }
+    for (key, item) in &arena {
+        assert_equal!(rt; *item, key.wrapping_mul(11));
+    }
+    let mut entries = arena.iter_mut();
+    assert_equal!(rt; entries.len(), 100);
+    let (first, item) = entries.next().ok_or("first")?;
+    *item = 1;
+    let (last, item) = entries.next_back().ok_or("last")?;
+    *item = 2;
+    assert_equal!(rt; (first, last, entries.len()), (0, 99, 98));
+    drop(entries);
+    assert_equal!(rt;
+        (arena.get(0), arena.get(99), arena.len()),
+        (Ok(&1), Ok(&2), 100)
+    );
+    Ok(())
+}
+
+#[test]
+fn an_iterator_of_an_arena_that_is_left_early(rt: HostRuntime) -> Result<(), Fail> {
+    let mut arena: StableArena<u32, u32> = StableArena::new(rt.alloc());
+    for item in 0..300 {
+        arena.alloc(item)?;
+    }
+    {
+        let mut entries = arena.iter_mut();
+        let (_, first) = entries.next().ok_or("first")?;
+        *first = 1000;
+        let (_, last) = entries.next_back().ok_or("last")?;
+        *last = 2000;
+        assert_equal!(rt; entries.len(), 298);
+    }
+    for (key, item) in &arena {
+        let wanted = match key {
+            0 => 1000,
+            299 => 2000,
+            _ => key,
+        };
+        assert_equal!(rt; *item, wanted, "at {key}");
+    }
+    Ok(())
+}
+
+#[test]
+fn items_without_size_are_written(rt: HostRuntime) -> Result<(), Fail> {
+    let mut vec = StableVec::new(rt.alloc());
+    for _ in 0..100 {
+        vec.push(())?;
+    }
+    let mut count = 0;
+    for item in vec.iter_mut() {
+        *item = ();
+        count = 1u32.wrapping_add(count);
+    }
+    assert_equal!(rt; (count, vec.len()), (100, 100));
+    Ok(())
+}

@@ -1,0 +1,31 @@
+//! Tests of keys, stable vectors, stable arenas and their runs, and of what all tests stand on.
+#![tactic(auto)]
+
+#[cfg(test)]
+mod arenas;
+#[cfg(test)]
+mod asserts;
+#[cfg(test)]
+mod callers;
+#[cfg(test)]
+mod clones;
+#[cfg(test)]
+mod compared;
+#[cfg(test)]
+mod growth;
+#[cfg(test)]
+mod heap;
+#[cfg(test)]
+mod iter_mut;
+#[cfg(test)]
+mod keys;
+#[cfg(test)]
+mod memory;
+#[cfg(test)]
+mod observed;
+#[cfg(test)]
+mod pairs;
+#[cfg(test)]
+mod slices;
+#[cfg(test)]
+mod vectors;

@@ -1,0 +1,81 @@
+//! The slices of a vector's buckets.
+use crate::vectors::counted;
+use std::test::Fail;
+use wasmi_arena::StableVec;
+use wasmi_vectors::assert_equal;
+
+#[test]
+fn slices_hold_the_items(rt: HostRuntime) -> Result<(), Fail> {
+    for (len, lens) in [
+        (0, "[]"),
+        (1, "[1]"),
+        (32, "[32]"),
+        (33, "[32, 1]"),
+        (100, "[32, 64, 4]"),
+        (300, "[32, 64, 128, 76]"),
+    ] {
+        let vec = counted(rt.alloc(), len)?;
+        let mut items = Vec::new(rt.alloc());
+        let mut found = Vec::new(rt.alloc());
+        for part in vec.slices() {
+            items.extend_from_slice(part)?;
+            found.push(part.len())?;
+        }
+        assert_equal!(rt;
+            format!(in rt.alloc(); "{found:?}")?.as_str(),
+            lens,
+            "at {len}"
+        );
+        let all: Vec<u32> = (0..len).collect(rt.alloc())?;
+        assert_equal!(rt; items, all, "at {len}");
+        assert_equal!(rt; vec.slices().len(), vec.open_buckets(), "at {len}");
+    }
+    Ok(())
+}
+
+#[test]
+fn slices_from_the_back_hold_the_items(rt: HostRuntime) -> Result<(), Fail> {
+    for len in [0, 1, 32, 33, 100, 300] {
+        let vec = counted(rt.alloc(), len)?;
+        let mut items = Vec::new(rt.alloc());
+        for part in vec.slices().rev() {
+            for item in part.iter().rev() {
+                items.push(*item)?;
+            }
+        }
+        let all: Vec<u32> = (0..len).rev().collect(rt.alloc())?;
+        assert_equal!(rt; items, all, "at {len}");
+    }
+    Ok(())
+}
+
+#[test]
+fn slices_from_both_ends(rt: HostRuntime) -> Result<(), Fail> {
+    let vec = counted(rt.alloc(), 300)?;
+    let mut slices = vec.slices();
+    assert_equal!(rt; slices.next().ok_or("first")?.first(), Some(&0));
+    assert_equal!(rt; slices.next_back().ok_or("last")?.first(), Some(&224));
+    assert_equal!(rt; slices.len(), 2);
+    assert_equal!(rt; slices.next_back().ok_or("third")?.first(), Some(&96));
+    assert_equal!(rt; slices.next().ok_or("second")?.first(), Some(&32));
+    assert_equal!(rt;
+        (slices.len(), slices.next(), slices.next_back()),
+        (0, None, None)
+    );
+    assert_equal!(rt; slices.next(), None);
+    Ok(())
+}
+
+#[test]
+fn slices_of_items_without_size(rt: HostRuntime) -> Result<(), Fail> {
+    let mut vec = StableVec::new(rt.alloc());
+    for _ in 0..100 {
+        vec.push(())?;
+    }
+    let mut found = Vec::new(rt.alloc());
+    for part in vec.slices() {
+        found.push(part.len())?;
+    }
+    assert_equal!(rt; found.as_slice(), [32, 64, 4].as_slice());
+    Ok(())
+}

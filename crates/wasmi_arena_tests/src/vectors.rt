@@ -1,0 +1,250 @@
+//! What no clause says of vectors: the worked places and lengths, drops and clones, and that calls succeed.
+ghost use Rattle.std.specs.Prelude.{◌≡◌, ◌<◌, ⊤};
+ghost use Rattle.wasmi_arena.specs.Geometry.{max_len, IsPlace};
+
+use std::alloc::{AllocError, Global};
+use std::cell::Cell;
+use std::test::Fail;
+use wasmi_arena::{ArenaError, StableVec};
+use wasmi_vectors::assert_equal;
+
+/// A vector of 0, 1 and so on.
+pub fn counted(alloc: Global, len: u32) -> Result<StableVec<u32>, ArenaError> {
+    let mut vec = StableVec::new(alloc);
+    for i in 0..len {
+        vec.push(i)?;
+    }
+    Ok(vec)
+}
+
+// The place of an index, by a walk over the starts of the buckets.
+fn place_by_walk(index: usize) -> (usize, usize)
+    requires { index < max_len }
+    ensures { IsPlace index result.0 result.1 }
+{
+    let (mut bucket, mut start, mut size) = (0, 0, 32);
+    while start + size <= index {
+        start += size;
+        size *= 2;
+        bucket += 1;
+    }
+    (bucket, index - start)
+}
+
+#[test]
+fn places_are_those_of_the_table(rt: HostRuntime) {
+    for (index, place) in [
+        (0, (0, 0)),
+        (31, (0, 31)),
+        (32, (1, 0)),
+        (95, (1, 63)),
+        (96, (2, 0)),
+        (223, (2, 127)),
+        (2147483615, (25, 1073741823)),
+        (2147483616, (26, 0)),
+        (4294967263, (26, 2147483647)),
+    ] {
+        if index < 4294967264 {
+            assert_equal!(rt; StableVec::<u8>::place(index), place, "at {index}");
+            assert_equal!(rt; place_by_walk(index), place, "at {index}");
+        }
+    }
+    for (bucket, size) in [(0, 32), (1, 64), (2, 128), (26, 2147483648)] {
+        if bucket < 27 {
+            assert_equal!(rt;
+                StableVec::<u8>::size_of_bucket_at(bucket),
+                size,
+                "at {bucket}"
+            );
+        }
+    }
+}
+
+#[test]
+fn buckets_are_the_fewest(rt: HostRuntime) -> Result<(), Fail> {
+    for (len, open, slots) in [
+        (0, 0, 0),
+        (1, 1, 32),
+        (32, 1, 32),
+        (33, 2, 96),
+        (96, 2, 96),
+        (97, 3, 224),
+    ] {
+        let vec = counted(rt.alloc(), len)?;
+        assert_equal!(rt; vec.open_buckets(), open, "at {len}");
+        assert_equal!(rt; vec.slots(), slots, "at {len}");
+        assert_equal!(rt; vec.room() + vec.len(), slots, "at {len}");
+    }
+    Ok(())
+}
+
+#[test]
+fn two_hundred_pushes(rt: HostRuntime) -> Result<(), Fail> {
+    let mut vec = StableVec::new(rt.alloc());
+    assert!(rt; vec.is_empty());
+    for i in 0..200usize {
+        assert_equal!(rt; vec.push(i)?, i);
+    }
+    assert_equal!(rt; vec.len(), 200);
+    assert!(rt; !vec.is_empty());
+    for i in 0..200usize {
+        assert_equal!(rt; vec.get(i), Some(&i));
+    }
+    assert_equal!(rt; vec.get(200), None);
+    Ok(())
+}
+
+#[test]
+fn two_hundred_items_in_three_buckets(rt: HostRuntime) -> Result<(), Fail> {
+    let vec = counted(rt.alloc(), 200)?;
+    for (bucket, len, capacity) in [(0, 32, 32), (1, 64, 64), (2, 104, 128)] {
+        let open = vec.bucket(bucket).ok_or("not open")?;
+        assert_equal!(rt; open.slice().len(), len);
+        assert_equal!(rt; open.capacity(), capacity);
+    }
+    assert!(rt; vec.bucket(3).is_none());
+    assert!(rt; vec.bucket(27).is_none());
+    assert_equal!(rt; vec.room(), 24);
+    Ok(())
+}
+
+#[test]
+fn a_walk_knows_its_length(rt: HostRuntime) -> Result<(), Fail> {
+    let vec = counted(rt.alloc(), 200)?;
+    let mut items = vec.iter();
+    assert_equal!(rt; items.len(), 200);
+    assert_equal!(rt; items.next(), Some(&0));
+    assert_equal!(rt; items.len(), 199);
+    assert_equal!(rt; items.filter(|i| **i % 2 == 1).count(), 100);
+    Ok(())
+}
+
+#[test]
+fn writes_through_references(rt: HostRuntime) -> Result<(), Fail> {
+    let mut vec = counted(rt.alloc(), 200)?;
+    for i in 0..200 {
+        if let Some(item) = vec.get_mut(i) {
+            *item = item.wrapping_mul(2);
+        }
+    }
+    for i in 0..200u32 {
+        assert_equal!(rt; vec.get(i as usize), Some(&(2 * i)));
+    }
+    assert!(rt; vec.get_mut(200).is_none());
+    assert_equal!(rt; (vec.len(), vec.open_buckets(), vec.slots()), (200, 3, 224));
+    Ok(())
+}
+
+#[test]
+fn walks_from_both_ends(rt: HostRuntime) -> Result<(), Fail> {
+    let vec = counted(rt.alloc(), 200)?;
+    let mut items = vec.iter();
+    for (front, back) in [(0, 199), (1, 198)] {
+        assert_equal!(rt; items.next(), Some(&front));
+        assert_equal!(rt; items.next_back(), Some(&back));
+    }
+    assert_equal!(rt; items.len(), 196);
+    assert_equal!(rt; items.next_back(), Some(&197));
+    let mut backward = vec.iter().rev();
+    for wanted in 0..200u32 {
+        assert_equal!(rt; backward.next(), Some(&(199 - wanted)));
+    }
+    assert_equal!(rt; backward.next(), None);
+    // One end comes to the last item of the other's bucket.
+    let few = counted(rt.alloc(), 3)?;
+    let mut ends = few.iter();
+    assert_equal!(rt; (ends.next_back(), ends.next()), (Some(&2), Some(&0)));
+    assert_equal!(rt; (ends.next(), ends.next_back()), (Some(&1), None));
+    Ok(())
+}
+
+#[test]
+fn items_without_size(rt: HostRuntime) -> Result<(), Fail> {
+    let mut vec = StableVec::new(rt.alloc());
+    for _ in 0..40 {
+        vec.push(())?;
+    }
+    assert_equal!(rt; (vec.len(), vec.open_buckets(), vec.slots()), (40, 2, 96));
+    Ok(())
+}
+
+// Counts its drop: how many were dropped so far, and the sum of their numbers.
+struct DropCount<'a> {
+    drops: &'a Cell<(u32, u32)>,
+    number: u32,
+}
+
+impl Drop for DropCount<'_> {
+    fn drop(self) {
+        let DropCount { drops, number } = self;
+        let (count, sum) = drops.get();
+        drops.set((count.wrapping_add(1), sum.wrapping_add(number)));
+    }
+}
+
+#[test]
+fn each_item_is_dropped_once(rt: HostRuntime) -> Result<(), Fail> {
+    let drops = Cell::new((0, 0));
+    let mut vec = StableVec::new(rt.alloc());
+    for number in 0..100 {
+        vec.push(DropCount {
+            drops: &drops,
+            number,
+        })?;
+    }
+    assert_equal!(rt; vec.open_buckets(), 3);
+    assert_equal!(rt; drops.get(), (0, 0));
+    drop(vec);
+    assert_equal!(rt; drops.get(), (100, 4950));
+    Ok(())
+}
+
+// Counts its clones.
+#[derive(Drop)]
+struct CloneCount<'a> {
+    clones: &'a Cell<u32>,
+}
+
+impl Clone for CloneCount<'_> {
+    ghost is_clone = { λ item copy. copy ≡ item };
+
+    ghost is_infallible = { λ _. ⊤ };
+
+    fn clone(&self) -> Result<Self, AllocError> {
+        self.clones.set(self.clones.get().wrapping_add(1));
+        Ok(CloneCount {
+            clones: self.clones,
+        })
+    }
+}
+
+#[test]
+fn each_item_is_cloned_once(rt: HostRuntime) -> Result<(), Fail> {
+    let clones = Cell::new(0);
+    let mut vec = StableVec::new(rt.alloc());
+    for _ in 0..100 {
+        vec.push(CloneCount { clones: &clones })?;
+    }
+    assert_equal!(rt; clones.get(), 0);
+    let twin = vec.clone()?;
+    assert_equal!(rt; (twin.len(), clones.get()), (100, 100));
+    Ok(())
+}
+
+// A push may be refused for memory, once: then nothing has changed, and the next try goes on.
+#[test]
+fn refused_pushes_change_nothing(rt: HostRuntime) -> Result<(), Fail> {
+    let mut vec = StableVec::new(rt.alloc());
+    for i in 0..100usize {
+        let before = (vec.len(), vec.open_buckets(), vec.slots());
+        if let Err(error) = vec.push(i) {
+            assert_equal!(rt; error, ArenaError::OutOfSystemMemory);
+            assert_equal!(rt; vec.room(), 0);
+            assert_equal!(rt; (vec.len(), vec.open_buckets(), vec.slots()), before);
+            assert_equal!(rt; vec.push(i)?, before.0);
+        }
+        assert_equal!(rt; vec.get(i), Some(&i));
+    }
+    assert_equal!(rt; (vec.len(), vec.open_buckets(), vec.slots()), (100, 3, 224));
+    Ok(())
+}

@@ -1,0 +1,349 @@
+//! Deduplicating arenas: the worked rows, and an allocator that refuses requests.
+use std::alloc::{AllocError, Allocator, Global};
+use std::fmt::Write;
+use std::hash::{Hash, Hasher};
+use std::test::Fail;
+use wasmi_arena::ArenaKey;
+use wasmi_collections::arena::{Arena, ArenaError, DedupArena};
+use wasmi_collections::run::{DedupCommand, DedupReply, run_dedup};
+use wasmi_vectors::assert_equal;
+use wasmi_vectors::observed::{Log, Observed};
+use wasmi_vectors::tiny::Tiny;
+
+// An item whose clone fails where the number is odd.
+#[derive(Debug, PartialEq, Eq, Hash, Drop)]
+struct Even(u32);
+
+impl Clone for Even {
+    fn clone(&self) -> Result<Self, AllocError> {
+        if self.0 % 2 == 0 {
+            Ok(Even(self.0))
+        } else {
+            Err(AllocError)
+        }
+    }
+}
+
+#[test]
+fn equal_values_have_one_key(rt: HostRuntime) -> Result<(), Fail> {
+    let mut arena: DedupArena<usize, &str> = DedupArena::new(rt.alloc());
+    for _ in 0..2 {
+        for (nth, value) in ["a", "b", "c", "d"].iter().enumerate() {
+            assert_equal!(rt; arena.alloc(*value)?, nth);
+        }
+    }
+    assert_equal!(rt; arena.len(), 4);
+    Ok(())
+}
+
+// As a deduplicating arena would, if it always appended.
+#[test]
+fn a_plain_arena_keeps_equal_values(rt: HostRuntime) -> Result<(), Fail> {
+    let mut plain: Arena<usize, &str> = Arena::new(rt.alloc());
+    for first in [0usize, 4] {
+        for (nth, value) in ["a", "b", "c", "d"].iter().enumerate() {
+            assert_equal!(rt; plain.alloc(*value)?, nth.wrapping_add(first));
+        }
+    }
+    assert_equal!(rt; plain.len(), 8);
+    Ok(())
+}
+
+#[test]
+fn equal_values_of_an_iterator_have_one_key(rt: HostRuntime) -> Result<(), Fail> {
+    let mut made: DedupArena<usize, &str> = DedupArena::from_iter(rt.alloc(), ["a", "b", "a"])?;
+    assert_equal!(rt; made.len(), 2);
+    assert_equal!(rt; made.alloc("a")?, 0);
+    assert_equal!(rt; made.get(1), Ok(&"b"));
+    assert_equal!(rt; made.get(2), Err(ArenaError::KeyOutOfBounds));
+    Ok(())
+}
+
+// An arena that was handed "x" and "y". Its item under the key of "x" was written over by "y".
+fn written(alloc: Global) -> Result<DedupArena<usize, &'static str>, ArenaError> {
+    let mut arena = DedupArena::new(alloc);
+    let first = arena.alloc("x")?;
+    *arena.get_mut(first)? = "y";
+    let _second = arena.alloc("y")?;
+    Ok(arena)
+}
+
+#[test]
+fn writes_change_no_key(rt: HostRuntime) -> Result<(), Fail> {
+    let mut arena = written(rt.alloc())?;
+    assert_equal!(rt; (arena.alloc("x")?, arena.alloc("y")?), (0, 1));
+    assert_equal!(rt;
+        (arena.get(0), arena.get(1), arena.len()),
+        (Ok(&"y"), Ok(&"y"), 2)
+    );
+    Ok(())
+}
+
+#[test]
+fn writes_do_not_reach_the_index(rt: HostRuntime) -> Result<(), Fail> {
+    let arena = written(rt.alloc())?;
+    let index = arena.index();
+    assert_equal!(rt;
+        (index.len(), index.get(&"x"), index.get(&"y")),
+        (2, Some(&0), Some(&1))
+    );
+    Ok(())
+}
+
+#[test]
+fn writes_in_a_loop_change_no_key(rt: HostRuntime) -> Result<(), Fail> {
+    let mut arena = written(rt.alloc())?;
+    for (_, item) in &mut arena {
+        *item = "z";
+    }
+    for (key, value) in ["x", "y", "z"].iter().enumerate() {
+        assert_equal!(rt; arena.alloc(*value)?, key);
+    }
+    assert_equal!(rt; (arena.get(0), arena.get(1)), (Ok(&"z"), Ok(&"z")));
+    Ok(())
+}
+
+#[test]
+fn a_repeat_needs_no_key(rt: HostRuntime) -> Result<(), Fail> {
+    let mut arena: DedupArena<Tiny, &str> = DedupArena::from_iter(
+        rt.alloc(),
+        ["p", "q", "r", "s"],
+    )?;
+    assert_equal!(rt; arena.alloc("q").map(|key| key.into_usize()), Ok(1));
+    assert_equal!(rt; arena.alloc("t").err(), Some(ArenaError::NotEnoughKeys));
+    assert_equal!(rt; (arena.len(), arena.is_empty()), (4, false));
+    arena.clear();
+    assert_equal!(rt;
+        (
+            arena.alloc("t").map(|key| key.into_usize()),
+            arena.index().len()
+        ),
+        (Ok(0), 1)
+    );
+    let full: Result<DedupArena<Tiny, i32>, ArenaError> = DedupArena::from_iter(
+        rt.alloc(),
+        [0, 1, 0, 2, 3, 1, 4],
+    );
+    assert_equal!(rt; full.err(), Some(ArenaError::NotEnoughKeys));
+    Ok(())
+}
+
+#[test]
+fn commands_and_replies(rt: HostRuntime) -> Result<(), Fail> {
+    let mut arena: DedupArena<usize, &str> = DedupArena::new(rt.alloc());
+    let commands = vec![in rt.alloc();
+        DedupCommand::Alloc("x"),
+        DedupCommand::Alloc("y"),
+        DedupCommand::Put(0, "y"),
+        DedupCommand::Alloc("x"),
+        DedupCommand::Alloc("y"),
+        DedupCommand::Has(2),
+        DedupCommand::Put(2, "z"),
+        DedupCommand::Clear,
+        DedupCommand::Alloc("y"),
+    ]?;
+    let replies = run_dedup(rt.alloc(), &mut arena, commands)?;
+    assert_equal!(rt;
+        replies.as_slice(),
+        [
+            DedupReply::Key(0),
+            DedupReply::Key(1),
+            DedupReply::Old("x"),
+            DedupReply::Key(0),
+            DedupReply::Key(1),
+            DedupReply::Has(false),
+            DedupReply::Refused(ArenaError::KeyOutOfBounds),
+            DedupReply::Done,
+            DedupReply::Key(0)
+        ]
+        .as_slice()
+    );
+    Ok(())
+}
+
+#[test]
+fn items_alone_are_compared(rt: HostRuntime) -> Result<(), Fail> {
+    let mut one: DedupArena<usize, i32> = DedupArena::from_iter(rt.alloc(), [1, 2])?;
+    let other: DedupArena<usize, i32> = DedupArena::from_iter(rt.alloc(), [7, 2])?;
+    assert!(rt; one != other);
+    *one.get_mut(0)? = 7;
+    assert_equal!(rt; &one, &other);
+    let mut text = String::new(rt.alloc());
+    write!(text, "{one:?}")?;
+    assert_equal!(rt; text.as_str(), "{0: 7, 1: 2}");
+    Ok(())
+}
+
+// Whether the keys of 0, 1, .. are these numbers, and the items are those values.
+fn has_first<A: Allocator>(arena: &DedupArena<usize, u32, A>, len: u32) -> bool {
+    arena.len() == len as usize
+        && arena.index().len() == arena.len()
+        && (0..len).all(|value| {
+            let key = value as usize;
+            arena.index().get(&value) == Some(&key) && arena.get(key) == Ok(&value)
+        })
+}
+
+#[test]
+fn each_request_refused_in_turn(rt: HostRuntime) -> Result<(), Fail> {
+    for nth in 1..30 {
+        let log = Log::new();
+        {
+            let heap = Observed::new(rt.alloc(), &log);
+            let mut arena: DedupArena<usize, u32, &Observed<'_>> = DedupArena::new(&heap);
+            log.refuse_once(nth);
+            for value in 0..100u32 {
+                if let Err(error) = arena.alloc(value) {
+                    assert_equal!(rt; error, ArenaError::OutOfSystemMemory);
+                    assert!(rt; has_first(&arena, value), "at {nth}");
+                    assert_equal!(rt; arena.alloc(value)?, value as usize);
+                }
+            }
+            assert!(rt; has_first(&arena, 100), "at {nth}");
+        }
+        assert_equal!(rt; (log.returned(), log.misplaced()), (log.given(), 0));
+    }
+    Ok(())
+}
+
+// An arena of 0 to 99. A value that is refused is handed in again.
+fn hundred<'a, 'l>(
+    heap: &'a Observed<'l>,
+) -> Result<DedupArena<usize, u32, &'a Observed<'l>>, ArenaError> {
+    let mut arena = DedupArena::new(heap);
+    for value in 0..100u32 {
+        if arena.alloc(value).is_err() {
+            let _key = arena.alloc(value)?;
+        }
+    }
+    Ok(arena)
+}
+
+// What is there needs no memory, whichever request was refused before.
+#[test]
+fn a_value_that_is_there_needs_no_memory(rt: HostRuntime) -> Result<(), Fail> {
+    for nth in 1..30 {
+        let log = Log::new();
+        {
+            let heap = Observed::new(rt.alloc(), &log);
+            log.refuse_once(nth);
+            let mut arena = hundred(&heap)?;
+            log.refuse_from(1);
+            let asked = log.requests();
+            assert_equal!(rt; (arena.alloc(0), arena.alloc(99)), (Ok(0), Ok(99)));
+            arena.clear();
+            assert_equal!(rt; (arena.alloc(5), log.requests()), (Ok(0), asked));
+        }
+        assert_equal!(rt; (log.returned(), log.misplaced()), (log.given(), 0));
+    }
+    Ok(())
+}
+
+#[test]
+fn a_refused_clone_changes_nothing(rt: HostRuntime) -> Result<(), Fail> {
+    let mut arena: DedupArena<usize, Even> = DedupArena::from_iter(rt.alloc(), [Even(0), Even(2)])?;
+    assert_equal!(rt; arena.alloc(Even(1)), Err(ArenaError::OutOfSystemMemory));
+    assert_equal!(rt;
+        (
+            arena.len(),
+            arena.index().len(),
+            arena.index().get(&Even(1))
+        ),
+        (2, 2, None)
+    );
+    assert_equal!(rt; (arena.alloc(Even(2))?, arena.alloc(Even(4))?), (1, 2));
+    Ok(())
+}
+
+// Whether the values from 0 on were replied to by the keys in turn, or else refused, and have these keys.
+fn are_in_turn(
+    arena: &DedupArena<usize, u32, &Observed<'_>>,
+    replies: Vec<DedupReply<usize, u32>, &Observed<'_>>,
+) -> bool {
+    let mut next = 0usize;
+    for (value, reply) in (0u32..).zip(replies) {
+        let key = arena.index().get(&value).copied();
+        if reply == DedupReply::Key(next) && key == Some(next) {
+            next = next.wrapping_add(1);
+        } else if reply != DedupReply::Refused(ArenaError::OutOfSystemMemory) || key.is_some() {
+            return false;
+        }
+    }
+    arena.len() == next
+}
+
+// Each request of a run refused in turn. The first is for the replies.
+#[test]
+fn a_run_goes_on_after_a_refusal(rt: HostRuntime) -> Result<(), Fail> {
+    for nth in 1..20 {
+        let log = Log::new();
+        {
+            let heap = Observed::new(rt.alloc(), &log);
+            let mut arena: DedupArena<usize, u32, &Observed<'_>> = DedupArena::new(&heap);
+            let commands = (0..20u32)
+                .map(|value| DedupCommand::Alloc(value))
+                .collect(&heap)?;
+            log.refuse_once(nth);
+            match run_dedup(&heap, &mut arena, commands) {
+                Ok(replies) => assert!(rt; are_in_turn(&arena, replies), "at {nth}"),
+                Err(error) => assert_equal!(rt;
+                    (nth, error, arena.len()),
+                    (1, ArenaError::OutOfSystemMemory, 0)
+                ),
+            }
+            for value in 0..20u32 {
+                arena.alloc(value)?;
+            }
+            assert_equal!(rt; arena.len(), 20, "at {nth}");
+        }
+        assert_equal!(rt; (log.returned(), log.misplaced()), (log.given(), 0));
+    }
+    Ok(())
+}
+
+// An arena of "a" and "b". Each text is one request, and so is each clone of one.
+fn two_texts<'a, 'l>(
+    heap: &'a Observed<'l>,
+) -> Result<DedupArena<usize, String<&'a Observed<'l>>, &'a Observed<'l>>, ArenaError> {
+    let mut arena = DedupArena::new(heap);
+    for text in ["a", "b"] {
+        let _key = arena.alloc(String::from_str(heap, text)?)?;
+    }
+    Ok(arena)
+}
+
+#[test]
+fn a_new_value_is_cloned_once(rt: HostRuntime) -> Result<(), Fail> {
+    let log = Log::new();
+    {
+        let heap = Observed::new(rt.alloc(), &log);
+        let mut arena = two_texts(&heap)?;
+        let (asked, returned) = (log.requests(), log.returned());
+        assert_equal!(rt; arena.alloc(String::from_str(&heap, "a")?)?, 0);
+        assert_equal!(rt;
+            (log.requests(), log.returned()),
+            (asked.wrapping_add(1), returned.wrapping_add(1))
+        );
+        assert_equal!(rt; arena.alloc(String::from_str(&heap, "c")?)?, 2);
+        assert_equal!(rt; log.requests(), asked.wrapping_add(3));
+    }
+    assert_equal!(rt; (log.returned(), log.misplaced()), (log.given(), 0));
+    Ok(())
+}
+
+// The value is given memory, and its clone is refused.
+#[test]
+fn a_value_whose_clone_is_refused_is_dropped(rt: HostRuntime) -> Result<(), Fail> {
+    let log = Log::new();
+    {
+        let heap = Observed::new(rt.alloc(), &log);
+        let mut arena = two_texts(&heap)?;
+        log.refuse_once(2);
+        let refused = arena.alloc(String::from_str(&heap, "d")?);
+        assert_equal!(rt; refused, Err(ArenaError::OutOfSystemMemory));
+        arena.clear();
+        assert_equal!(rt; arena.alloc(String::from_str(&heap, "b")?)?, 0);
+    }
+    assert_equal!(rt; (log.returned(), log.misplaced()), (log.given(), 0));
+    Ok(())
+}

@@ -1,0 +1,13 @@
+//! Tests of head vectors, deduplicating arenas, interners, runs and searches.
+#![tactic(auto)]
+
+#[cfg(test)]
+mod dedup;
+#[cfg(test)]
+mod head_vec;
+#[cfg(test)]
+mod interner;
+#[cfg(test)]
+mod runs;
+#[cfg(test)]
+mod searches;

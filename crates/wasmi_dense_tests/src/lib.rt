@@ -1,0 +1,9 @@
+//! Tests of arenas in one vector and of component vectors.
+#![tactic(auto)]
+
+#[cfg(test)]
+mod arena_memory;
+#[cfg(test)]
+mod arenas;
+#[cfg(test)]
+mod components;

@@ -1,0 +1,199 @@
+//! What entries of both backings drop, how often they search, and when they ask for memory.
+use std::cell::Cell;
+use std::hash::{BuildHasher, Hasher};
+use std::rc::Rc;
+use std::test::Fail;
+use wasmi_hashed::hash::FixedState;
+use wasmi_hashed::map as hashed;
+use wasmi_ordered::map as ordered;
+use wasmi_vectors::assert_equal;
+use wasmi_vectors::counted::Counted;
+use wasmi_vectors::noted::{Noted, Notes};
+use wasmi_vectors::observed::{Log, Observed};
+
+type Tree<'a> = ordered::Map<Noted<'a>, u32, Observed<'a>>;
+
+type Table<'a> = hashed::Map<Noted<'a>, u32, FixedState, Observed<'a>>;
+
+#[test]
+fn an_ordered_entry_that_is_refused_drops_its_key(rt: HostRuntime) -> Result<(), Fail> {
+    let (notes, blocks) = (Notes::new(), Log::new());
+    blocks.refuse_from(1);
+    let mut map: Tree<'_> = ordered::Map::new(Observed::new(rt.alloc(), &blocks));
+    assert!(rt; map.entry(Noted::new(1, &notes)).is_err());
+    assert_equal!(rt; notes.dropped(), 1);
+    Ok(())
+}
+
+#[test]
+fn a_hashed_entry_that_is_refused_drops_its_key(rt: HostRuntime) -> Result<(), Fail> {
+    let (notes, blocks) = (Notes::new(), Log::new());
+    blocks.refuse_from(1);
+    let mut map: Table<'_> = hashed::Map::new(Observed::new(rt.alloc(), &blocks));
+    assert!(rt; map.entry(Noted::new(1, &notes)).is_err());
+    assert_equal!(rt; notes.dropped(), 1);
+    Ok(())
+}
+
+#[test]
+fn an_ordered_entry_drops_the_values_that_it_does_not_keep(rt: HostRuntime) -> Result<(), Fail> {
+    let drops = Cell::new(0);
+    let mut map: ordered::Map<u32, Counted<'_>> = ordered::Map::new(rt.alloc());
+    map.entry(1)?.or_insert(Counted::new(&drops))?;
+    assert_equal!(rt; drops.get(), 0);
+    map.entry(1)?.or_insert(Counted::new(&drops))?;
+    assert_equal!(rt; drops.get(), 1);
+    let held = Counted::new(&drops);
+    map.entry(1)?.or_insert_with(move || held)?;
+    assert_equal!(rt; drops.get(), 2);
+    let held = Counted::new(&drops);
+    map.entry(1)?.or_insert_with_key(move |_| held)?;
+    assert_equal!(rt; drops.get(), 3);
+    let held = Counted::new(&drops);
+    drop(map.entry(2)?.and_modify(move |value| *value = held));
+    assert_equal!(rt; drops.get(), 4);
+    drop(map);
+    assert_equal!(rt; drops.get(), 5);
+    Ok(())
+}
+
+#[test]
+fn a_hashed_entry_drops_the_values_that_it_does_not_keep(rt: HostRuntime) -> Result<(), Fail> {
+    let drops = Cell::new(0);
+    let mut map: hashed::Map<u32, Counted<'_>> = hashed::Map::new(rt.alloc());
+    map.entry(1)?.or_insert(Counted::new(&drops))?;
+    assert_equal!(rt; drops.get(), 0);
+    map.entry(1)?.or_insert(Counted::new(&drops))?;
+    assert_equal!(rt; drops.get(), 1);
+    let held = Counted::new(&drops);
+    map.entry(1)?.or_insert_with(move || held)?;
+    assert_equal!(rt; drops.get(), 2);
+    let held = Counted::new(&drops);
+    map.entry(1)?.or_insert_with_key(move |_| held)?;
+    assert_equal!(rt; drops.get(), 3);
+    let held = Counted::new(&drops);
+    drop(map.entry(2)?.and_modify(move |value| *value = held));
+    assert_equal!(rt; drops.get(), 4);
+    drop(map);
+    assert_equal!(rt; drops.get(), 5);
+    Ok(())
+}
+
+#[test]
+fn an_ordered_entry_that_is_removed_drops_its_key(rt: HostRuntime) -> Result<(), Fail> {
+    let seven = Rc::new(rt.alloc(), 7u32)?;
+    let mut map = ordered::Map::new(rt.alloc());
+    map.entry(seven.clone()?)?.or_insert(10)?;
+    assert_equal!(rt; Rc::strong_count(&seven), 2);
+    if let ordered::Entry::Occupied(occupied) = map.entry(seven.clone()?)? {
+        assert_equal!(rt; occupied.remove(), 10);
+    }
+    assert_equal!(rt; (map.len(), Rc::strong_count(&seven)), (0, 1));
+    Ok(())
+}
+
+#[test]
+fn a_hashed_entry_that_is_removed_drops_its_key(rt: HostRuntime) -> Result<(), Fail> {
+    let seven = Rc::new(rt.alloc(), 7u32)?;
+    let mut map = hashed::Map::new(rt.alloc());
+    map.entry(seven.clone()?)?.or_insert(10)?;
+    assert_equal!(rt; Rc::strong_count(&seven), 2);
+    if let hashed::Entry::Occupied(occupied) = map.entry(seven.clone()?)? {
+        assert_equal!(rt; occupied.remove(), 10);
+    }
+    assert_equal!(rt; (map.len(), Rc::strong_count(&seven)), (0, 1));
+    Ok(())
+}
+
+// An entry of a key that isn't there is refused only where a request is.
+#[test]
+fn a_thousand_keys_come_through_entries(rt: HostRuntime) -> Result<(), Fail> {
+    let mut tree: ordered::Map<u32, u32> = ordered::Map::new(rt.alloc());
+    let mut table: hashed::Map<u32, u32> = hashed::Map::new(rt.alloc());
+    for key in 0..1000 {
+        tree.entry(key)?.or_insert(key)?;
+        table.entry(key)?.or_insert(key)?;
+    }
+    assert_equal!(rt; (tree.len(), table.len()), (1000, 1000));
+    Ok(())
+}
+
+#[test]
+fn an_entry_of_a_key_that_is_there_asks_for_nothing(rt: HostRuntime) -> Result<(), Fail> {
+    let (heap, blocks) = (rt.alloc(), Log::new());
+    let mut tree: ordered::Map<u32, u32, Observed<'_>> = ordered::Map::new(Observed::new(
+        heap, &blocks,
+    ));
+    let mut table: hashed::Map<u32, u32, FixedState, Observed<'_>> = hashed::Map::new(Observed::new(
+        heap, &blocks,
+    ));
+    for key in 0..100 {
+        tree.entry(key)?.or_insert(key)?;
+        table.entry(key)?.or_insert(key)?;
+        let asked = blocks.requests();
+        tree.entry(key)?.or_insert(0)?;
+        table.entry(key)?.or_insert(0)?;
+        assert_equal!(rt; blocks.requests(), asked, "at {key}");
+    }
+    Ok(())
+}
+
+#[test]
+fn an_ordered_entry_compares_as_a_read_does(rt: HostRuntime) -> Result<(), Fail> {
+    let notes = Notes::new();
+    let mut map: ordered::Map<Noted<'_>, u32> = ordered::Map::new(rt.alloc());
+    for number in 0..100 {
+        for kept in [false, true] {
+            let key = Noted::new(number, &notes);
+            assert_equal!(rt; map.contains_key(&key), kept);
+            let read = notes.compared();
+            map.entry(key)?.or_insert(number)?;
+            assert_equal!(rt; notes.compared(), read, "at {number}");
+        }
+    }
+    Ok(())
+}
+
+// A state by which all keys have one hash, and which counts the hashes.
+#[derive(Clone, Copy)]
+struct Counts<'a> {
+    hashes: &'a Cell<u64>,
+}
+
+impl Hasher for Counts<'_> {
+    ghost write = { λ state _. state };
+
+    ghost finish = { λ _. 1 };
+
+    fn finish(&self) -> u64 {
+        1
+    }
+
+    fn write(&mut self, _bytes: &[u8]) {}
+}
+
+impl BuildHasher for Counts<'_> {
+    type Hasher = Self;
+
+    ghost build_hasher = { λ state. state };
+
+    fn build_hasher(&self) -> Self {
+        self.hashes.set(self.hashes.get().wrapping_add(1));
+        *self
+    }
+}
+
+#[test]
+fn a_hashed_entry_hashes_its_key_once(rt: HostRuntime) -> Result<(), Fail> {
+    let hashes = Cell::new(0);
+    let state = Counts { hashes: &hashes };
+    let mut map: hashed::Map<u32, u32, Counts<'_>> = hashed::Map::with_hasher(rt.alloc(), state);
+    for key in 0..50 {
+        for _kept in [false, true] {
+            hashes.set(0);
+            map.entry(key)?.or_insert(key)?;
+            assert_equal!(rt; hashes.get(), 1, "at {key}");
+        }
+    }
+    Ok(())
+}

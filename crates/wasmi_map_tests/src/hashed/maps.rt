@@ -1,0 +1,227 @@
+//! Maps from numbers to texts.
+use std::alloc::Global;
+use std::hash::{BuildHasher, Hasher};
+use std::test::Fail;
+use wasmi_arena::ArenaError;
+use wasmi_hashed::Map;
+use wasmi_hashed::hash::RandomState;
+use wasmi_vectors::assert_equal;
+
+// The keys 1 to 6, each under itself.
+fn six(alloc: Global) -> Result<Map<u32, u32>, ArenaError> {
+    let mut map = Map::new(alloc);
+    for key in [4, 2, 6, 1, 3, 5] {
+        map.insert(key, key)?;
+    }
+    Ok(map)
+}
+
+#[test]
+fn a_key_keeps_its_last_value(rt: HostRuntime) -> Result<(), Fail> {
+    let mut map: Map<u32, &'static str> = Map::new(rt.alloc());
+    assert!(rt; map.is_empty());
+    assert_equal!(rt; map.insert(1, "a"), Ok(None));
+    assert_equal!(rt; map.insert(1, "b"), Ok(Some("a")));
+    assert_equal!(rt; map.len(), 1);
+    assert_equal!(rt; map.remove(&2), None);
+    assert_equal!(rt; map.insert(2, "c"), Ok(None));
+    assert_equal!(rt; map.get(&1), Some(&"b"));
+    assert_equal!(rt; map.get(&3), None);
+    assert_equal!(rt; map.get_key_value(&2), Some((&2, &"c")));
+    assert!(rt; map.contains_key(&2) && !map.contains_key(&3));
+    if map.contains_key(&2) {
+        assert_equal!(rt; map[&2], "c");
+    }
+    let mut walk = map.iter();
+    assert_equal!(rt; walk.len(), 2);
+    // In an open order.
+    assert!(rt; walk.all(|(key, value)| (*key, *value) == (1, "b") || (*key, *value) == (2, "c")));
+    assert_equal!(rt; walk.next(), None);
+    assert_equal!(rt; map.remove(&1), Some("b"));
+    assert_equal!(rt; map.reserve(100), Ok(()));
+    assert_equal!(rt; map.len(), 1);
+    map.clear();
+    assert!(rt; map.is_empty());
+    Ok(())
+}
+
+#[test]
+fn a_later_pair_of_one_key_wins(rt: HostRuntime) -> Result<(), Fail> {
+    let mut map = Map::from_iter(rt.alloc(), [(1, "a"), (2, "b"), (1, "c")])?;
+    assert_equal!(rt; map.len(), 2);
+    assert_equal!(rt; map.get(&1), Some(&"c"));
+    map.extend([(2, "d"), (3, "e"), (3, "f")])?;
+    assert_equal!(rt; &map, &Map::from_iter(rt.alloc(), [(1, "c"), (2, "d"), (3, "f")])?);
+    let more = [(3, "g"), (4, "h")];
+    let mut other = Map::new(rt.alloc());
+    other.extend(more)?;
+    map.extend_ref(&other)?;
+    assert_equal!(rt; map.get(&3), Some(&"g"));
+    assert_equal!(rt; map.len(), 4);
+    assert_equal!(rt; map.remove_entry(&1), Some((1, "c")));
+    assert_equal!(rt; map.remove_entry(&1), None);
+    Ok(())
+}
+
+#[test]
+fn some_entries_are_kept(rt: HostRuntime) -> Result<(), Fail> {
+    let mut map = six(rt.alloc())?;
+    map.retain(|key, _| key % 2 == 0);
+    assert_equal!(rt; &map, &Map::from_iter(rt.alloc(), [(2, 2), (4, 4), (6, 6)])?);
+    map.retain(|_, value| {
+        *value /= 2;
+        true
+    });
+    assert_equal!(rt; &map, &Map::from_iter(rt.alloc(), [(2, 1), (4, 2), (6, 3)])?);
+    Ok(())
+}
+
+#[test]
+fn values_are_written(rt: HostRuntime) -> Result<(), Fail> {
+    let mut map = six(rt.alloc())?;
+    if let Some(value) = map.get_mut(&3) {
+        *value = 30;
+    }
+    assert_equal!(rt; map.get_mut(&7), None);
+    assert_equal!(rt; map.get(&3), Some(&30));
+    assert_equal!(rt; map.get(&4), Some(&4));
+    assert_equal!(rt; map.iter_mut().len(), 6);
+    for (key, value) in map.iter_mut() {
+        *value = 7 - *key % 7;
+    }
+    for (key, value) in &mut map {
+        *value = value.wrapping_add(*key);
+    }
+    for (_, value) in &map {
+        assert_equal!(rt; *value, 7);
+    }
+    assert_equal!(rt; map.values_mut().len(), 6);
+    for value in map.values_mut() {
+        *value = 8;
+    }
+    let mut values = map.values();
+    assert_equal!(rt; values.len(), 6);
+    assert_equal!(rt; values.next(), Some(&8));
+    assert_equal!(rt; values.next(), Some(&8));
+    Ok(())
+}
+
+#[test]
+fn walks_give_each_entry_once(rt: HostRuntime) -> Result<(), Fail> {
+    let map = six(rt.alloc())?;
+    let copy = map.clone()?;
+    assert_equal!(rt; &copy, &map);
+    let mut keys: Vec<u32> = map.keys().copied().collect(rt.alloc())?;
+    keys.sort_unstable();
+    assert!(rt; keys.iter().eq([1, 2, 3, 4, 5, 6].iter()));
+    let mut keys: Vec<u32> = map.into_keys().collect(rt.alloc())?;
+    keys.sort_unstable();
+    assert!(rt; keys.iter().eq([1, 2, 3, 4, 5, 6].iter()));
+    let mut values: Vec<u32> = copy.clone()?.into_values().collect(rt.alloc())?;
+    values.sort_unstable();
+    assert!(rt; values.iter().eq([1, 2, 3, 4, 5, 6].iter()));
+    let mut pairs = copy.into_iter();
+    assert_equal!(rt; pairs.len(), 6);
+    for _ in 0..6 {
+        let (key, value) = pairs.next().ok_or("a pair")?;
+        assert_equal!(rt; key, value);
+    }
+    assert_equal!(rt; pairs.next(), None);
+    Ok(())
+}
+
+#[test]
+fn equal_maps_have_equal_values(rt: HostRuntime) -> Result<(), Fail> {
+    let one = Map::from_iter(rt.alloc(), [(1, "a"), (2, "b")])?;
+    assert_equal!(rt; &one, &Map::from_iter(rt.alloc(), [(2, "b"), (1, "a")])?);
+    assert!(rt; one != Map::from_iter(rt.alloc(), [(1, "a"), (2, "c")])?);
+    assert!(rt; one != Map::from_iter(rt.alloc(), [(1, "a")])?);
+    assert!(rt; one != Map::from_iter(rt.alloc(), [(1, "a"), (2, "b"), (3, "c")])?);
+    assert!(rt; one != Map::from_iter(rt.alloc(), [(1, "a"), (3, "b")])?);
+    Ok(())
+}
+
+#[test]
+fn keys_are_hashed_by_the_state_handed_in(rt: HostRuntime) -> Result<(), Fail> {
+    let state = RandomState::new(&rt)?;
+    let mut map: Map<u32, u32, RandomState> = Map::with_hasher(rt.alloc(), state);
+    for key in 0..200u32 {
+        map.insert(key, key.wrapping_mul(3))?;
+    }
+    assert_equal!(rt; map.reserve(1000), Ok(()));
+    let copy = map.clone()?;
+    for key in 0..200u32 {
+        assert_equal!(rt; map.get(&key), Some(&key.wrapping_mul(3)));
+        assert_equal!(rt; copy.get(&key), Some(&key.wrapping_mul(3)));
+    }
+    assert_equal!(rt; &copy, &map);
+    assert_equal!(rt; map.remove(&7), Some(21));
+    assert!(rt; copy != map);
+    Ok(())
+}
+
+// A state by which all keys have one hash.
+#[derive(Clone, Copy)]
+struct OneHash;
+
+impl Hasher for OneHash {
+    ghost write = { λ state _. state };
+
+    ghost finish = { λ _. 1 };
+
+    fn finish(&self) -> u64 {
+        1
+    }
+
+    fn write(&mut self, _bytes: &[u8]) {}
+}
+
+impl BuildHasher for OneHash {
+    type Hasher = OneHash;
+
+    ghost build_hasher = { λ state. state };
+
+    fn build_hasher(&self) -> OneHash {
+        *self
+    }
+}
+
+#[test]
+fn keys_of_one_hash_are_told_apart(rt: HostRuntime) -> Result<(), Fail> {
+    let mut map: Map<u32, u32, OneHash> = Map::with_hasher(rt.alloc(), OneHash);
+    for key in 0..50u32 {
+        assert_equal!(rt; map.insert(key, key)?, None);
+    }
+    for key in (0..50u32).step_by(2) {
+        assert_equal!(rt; map.remove(&key), Some(key));
+    }
+    for key in 0..50u32 {
+        assert_equal!(rt; map.contains_key(&key), key % 2 == 1);
+    }
+    assert_equal!(rt; map.len(), 25);
+    Ok(())
+}
+
+#[test]
+fn a_map_prints_its_entries(rt: HostRuntime) -> Result<(), Fail> {
+    let map = Map::from_iter(rt.alloc(), [(2, true), (3, false)])?;
+    let text = format!(in rt.alloc(); "{map:?}")?;
+    assert!(rt; text.as_str() == "{2: true, 3: false}" || text.as_str() == "{3: false, 2: true}");
+    Ok(())
+}
+
+// Two texts without a letter are equal, and only one of them has room for some.
+#[test]
+fn a_key_that_is_there_is_kept(rt: HostRuntime) -> Result<(), Fail> {
+    let alloc = rt.alloc();
+    let roomy = String::with_capacity(alloc, 40)?;
+    let mut map = Map::from_iter(alloc, [(roomy, 1), (String::new(alloc), 2)])?;
+    assert_equal!(rt;
+        (map.len(), map.insert(String::new(alloc), 3)?),
+        (1, Some(2))
+    );
+    map.extend([(String::new(alloc), 4)])?;
+    let entry = map.get_key_value(&String::new(alloc));
+    assert!(rt; entry.is_some_and(|(key, value)| 40 <= key.capacity() && *value == 4));
+    Ok(())
+}

@@ -1,0 +1,9 @@
+//! Tests of maps and sets of both backings.
+#![tactic(auto)]
+
+#[cfg(test)]
+mod entries;
+#[cfg(test)]
+mod hashed;
+#[cfg(test)]
+mod ordered;

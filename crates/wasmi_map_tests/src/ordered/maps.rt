@@ -1,0 +1,160 @@
+//! Maps from numbers to texts.
+use std::alloc::Global;
+use std::test::Fail;
+use wasmi_arena::ArenaError;
+use wasmi_ordered::Map;
+use wasmi_vectors::assert_equal;
+
+// The keys 1 to 6, each under itself.
+fn six(alloc: Global) -> Result<Map<u32, u32>, ArenaError> {
+    let mut map = Map::new(alloc);
+    for key in [4, 2, 6, 1, 3, 5] {
+        map.insert(key, key)?;
+    }
+    Ok(map)
+}
+
+#[test]
+fn a_key_keeps_its_last_value(rt: HostRuntime) -> Result<(), Fail> {
+    let mut map: Map<u32, &'static str> = Map::new(rt.alloc());
+    assert!(rt; map.is_empty());
+    assert_equal!(rt; map.insert(1, "a"), Ok(None));
+    assert_equal!(rt; map.insert(1, "b"), Ok(Some("a")));
+    assert_equal!(rt; map.len(), 1);
+    assert_equal!(rt; map.remove(&2), None);
+    assert_equal!(rt; map.insert(2, "c"), Ok(None));
+    assert_equal!(rt; map.get(&1), Some(&"b"));
+    assert_equal!(rt; map.get(&3), None);
+    assert_equal!(rt; map.get_key_value(&2), Some((&2, &"c")));
+    assert!(rt; map.contains_key(&2) && !map.contains_key(&3));
+    if map.contains_key(&2) {
+        assert_equal!(rt; map[&2], "c");
+    }
+    let mut walk = map.iter();
+    assert_equal!(rt; walk.len(), 2);
+    assert_equal!(rt; walk.next(), Some((&1, &"b")));
+    assert_equal!(rt; walk.next(), Some((&2, &"c")));
+    assert_equal!(rt; walk.next(), None);
+    assert_equal!(rt; map.remove(&1), Some("b"));
+    assert_equal!(rt; map.reserve(100), Ok(()));
+    assert_equal!(rt; map.len(), 1);
+    map.clear();
+    assert!(rt; map.is_empty());
+    Ok(())
+}
+
+#[test]
+fn a_later_pair_of_one_key_wins(rt: HostRuntime) -> Result<(), Fail> {
+    let mut map = Map::from_iter(rt.alloc(), [(1, "a"), (2, "b"), (1, "c")])?;
+    assert_equal!(rt; map.len(), 2);
+    assert_equal!(rt; map.get(&1), Some(&"c"));
+    map.extend([(2, "d"), (3, "e"), (3, "f")])?;
+    assert_equal!(rt; &map, &Map::from_iter(rt.alloc(), [(1, "c"), (2, "d"), (3, "f")])?);
+    let more = [(3, "g"), (4, "h")];
+    let mut other = Map::new(rt.alloc());
+    other.extend(more)?;
+    map.extend_ref(&other)?;
+    assert_equal!(rt; map.get(&3), Some(&"g"));
+    assert_equal!(rt; map.len(), 4);
+    assert_equal!(rt; map.remove_entry(&1), Some((1, "c")));
+    assert_equal!(rt; map.remove_entry(&1), None);
+    Ok(())
+}
+
+#[test]
+fn some_entries_are_kept(rt: HostRuntime) -> Result<(), Fail> {
+    let mut map = six(rt.alloc())?;
+    map.retain(|key, _| key % 2 == 0);
+    assert_equal!(rt; &map, &Map::from_iter(rt.alloc(), [(2, 2), (4, 4), (6, 6)])?);
+    map.retain(|_, value| {
+        *value /= 2;
+        true
+    });
+    assert_equal!(rt; &map, &Map::from_iter(rt.alloc(), [(2, 1), (4, 2), (6, 3)])?);
+    Ok(())
+}
+
+#[test]
+fn values_are_written(rt: HostRuntime) -> Result<(), Fail> {
+    let mut map = six(rt.alloc())?;
+    if let Some(value) = map.get_mut(&3) {
+        *value = 30;
+    }
+    assert_equal!(rt; map.get_mut(&7), None);
+    assert_equal!(rt; map.get(&3), Some(&30));
+    assert_equal!(rt; map.get(&4), Some(&4));
+    assert_equal!(rt; map.iter_mut().len(), 6);
+    for (key, value) in map.iter_mut() {
+        *value = 7 - *key % 7;
+    }
+    for (key, value) in &mut map {
+        *value = value.wrapping_add(*key);
+    }
+    for (_, value) in &map {
+        assert_equal!(rt; *value, 7);
+    }
+    assert_equal!(rt; map.values_mut().len(), 6);
+    for value in map.values_mut() {
+        *value = 8;
+    }
+    let mut values = map.values();
+    assert_equal!(rt; values.len(), 6);
+    assert_equal!(rt; values.next(), Some(&8));
+    assert_equal!(rt; values.next(), Some(&8));
+    Ok(())
+}
+
+#[test]
+fn walks_ascend(rt: HostRuntime) -> Result<(), Fail> {
+    let map = six(rt.alloc())?;
+    let copy = map.clone()?;
+    assert_equal!(rt; &copy, &map);
+    let mut keys = map.keys();
+    assert_equal!(rt; keys.len(), 6);
+    for want in 1..7 {
+        assert_equal!(rt; keys.next(), Some(&want));
+    }
+    assert_equal!(rt; keys.next(), None);
+    let mut keys = map.into_keys();
+    assert_equal!(rt; keys.len(), 6);
+    assert_equal!(rt; keys.next(), Some(1));
+    assert_equal!(rt; keys.next(), Some(2));
+    let mut values = copy.clone()?.into_values();
+    assert_equal!(rt; values.len(), 6);
+    assert_equal!(rt; values.next(), Some(1));
+    let mut pairs = copy.into_iter();
+    assert_equal!(rt; pairs.len(), 6);
+    for want in 1..7 {
+        assert_equal!(rt; pairs.next(), Some((want, want)));
+    }
+    assert_equal!(rt; pairs.next(), None);
+    Ok(())
+}
+
+#[test]
+fn a_map_prints_in_order(rt: HostRuntime) -> Result<(), Fail> {
+    let mut map = Map::from_iter(rt.alloc(), [(2, true), (1, false), (4, true), (3, false)])?;
+    assert_equal!(rt;
+        format!(in rt.alloc(); "{map:?}")?.as_str(),
+        "{1: false, 2: true, 3: false, 4: true}"
+    );
+    map.clear();
+    assert_equal!(rt; format!(in rt.alloc(); "{map:?}")?.as_str(), "{}");
+    Ok(())
+}
+
+// Two texts without a letter are equal, and only one of them has room for some.
+#[test]
+fn a_key_that_is_there_is_kept(rt: HostRuntime) -> Result<(), Fail> {
+    let alloc = rt.alloc();
+    let roomy = String::with_capacity(alloc, 40)?;
+    let mut map = Map::from_iter(alloc, [(roomy, 1), (String::new(alloc), 2)])?;
+    assert_equal!(rt;
+        (map.len(), map.insert(String::new(alloc), 3)?),
+        (1, Some(2))
+    );
+    map.extend([(String::new(alloc), 4)])?;
+    let entry = map.get_key_value(&String::new(alloc));
+    assert!(rt; entry.is_some_and(|(key, value)| 40 <= key.capacity() && *value == 4));
+    Ok(())
+}

@@ -1,0 +1,122 @@
+//! Sets of numbers.
+use std::alloc::Global;
+use std::test::Fail;
+use wasmi_arena::ArenaError;
+use wasmi_ordered::Set;
+use wasmi_vectors::assert_equal;
+
+fn set(alloc: Global, items: [u32; 3]) -> Result<Set<u32>, ArenaError> {
+    Set::from_iter(alloc, items)
+}
+
+#[test]
+fn an_element_is_there_once(rt: HostRuntime) -> Result<(), Fail> {
+    let mut set: Set<u32> = Set::new(rt.alloc());
+    assert!(rt; set.is_empty());
+    assert_equal!(rt; set.insert(3), Ok(true));
+    assert_equal!(rt; set.insert(3), Ok(false));
+    assert!(rt; set.contains(&3) && !set.contains(&4));
+    assert_equal!(rt; set.get(&3), Some(&3));
+    assert_equal!(rt; set.get(&4), None);
+    assert_equal!(rt; set.len(), 1);
+    assert_equal!(rt; set.replace(3), Ok(Some(3)));
+    assert_equal!(rt; set.replace(4), Ok(None));
+    assert_equal!(rt; set.len(), 2);
+    assert!(rt; set.remove(&3));
+    assert!(rt; !set.remove(&3));
+    assert_equal!(rt; set.take(&4), Some(4));
+    assert_equal!(rt; set.take(&4), None);
+    assert_equal!(rt; set.len(), 0);
+    assert_equal!(rt; set.reserve(100), Ok(()));
+    set.extend([2, 1, 2])?;
+    let other = Set::from_iter(rt.alloc(), [3, 1])?;
+    set.extend_ref(&other)?;
+    assert_equal!(rt; &set, &Set::from_iter(rt.alloc(), [1, 2, 3])?);
+    set.retain(|element| *element != 2);
+    assert_equal!(rt; &set, &other);
+    assert_equal!(rt; &set, &set.clone()?);
+    set.clear();
+    assert!(rt; set.is_empty());
+    Ok(())
+}
+
+#[test]
+fn two_sets_make_others(rt: HostRuntime) -> Result<(), Fail> {
+    let one = set(rt.alloc(), [1, 2, 3])?;
+    let other = set(rt.alloc(), [2, 3, 4])?;
+    assert_equal!(rt; &one.bitand(&other)?, &Set::from_iter(rt.alloc(), [2, 3])?);
+    assert_equal!(rt; &one.bitor(&other)?, &Set::from_iter(rt.alloc(), [1, 2, 3, 4])?);
+    assert_equal!(rt; &one.bitxor(&other)?, &Set::from_iter(rt.alloc(), [1, 4])?);
+    assert_equal!(rt; &one.sub(&other)?, &Set::from_iter(rt.alloc(), [1])?);
+    assert!(rt; !one.is_disjoint(&other) && one.is_disjoint(&other.sub(&one)?));
+    assert!(rt; !one.is_subset(&other) && one.bitand(&other)?.is_subset(&one));
+    assert!(rt; !one.is_superset(&other) && one.is_superset(&one.sub(&other)?));
+    Ok(())
+}
+
+#[test]
+fn walks_over_two_sets_ascend(rt: HostRuntime) -> Result<(), Fail> {
+    let one = set(rt.alloc(), [3, 1, 2])?;
+    let other = set(rt.alloc(), [4, 2, 3])?;
+    let mut both = one.intersection(&other);
+    assert_equal!(rt; both.next(), Some(&2));
+    assert_equal!(rt; both.next(), Some(&3));
+    assert_equal!(rt; both.next(), None);
+    let mut either = one.union(&other);
+    for want in 1..5 {
+        assert_equal!(rt; either.next(), Some(&want));
+    }
+    assert_equal!(rt; either.next(), None);
+    let mut lacking = one.difference(&other);
+    assert_equal!(rt; lacking.next(), Some(&1));
+    assert_equal!(rt; lacking.next(), None);
+    let mut one_of_two = one.symmetric_difference(&other);
+    assert_equal!(rt; one_of_two.next(), Some(&1));
+    assert_equal!(rt; one_of_two.next(), Some(&4));
+    assert_equal!(rt; one_of_two.next(), None);
+    assert_equal!(rt; one.iter().len(), 3);
+    let mut visited: u32 = 0;
+    for element in &one {
+        visited = visited.wrapping_add(1);
+        assert_equal!(rt; *element, visited);
+    }
+    let mut elements = one.into_iter();
+    assert_equal!(rt; elements.len(), 3);
+    assert_equal!(rt; elements.next(), Some(1));
+    Ok(())
+}
+
+#[test]
+fn a_set_prints_in_order(rt: HostRuntime) -> Result<(), Fail> {
+    let mut one = Set::from_iter(rt.alloc(), [5, 3, 1, 4, 2])?;
+    assert_equal!(rt;
+        format!(in rt.alloc(); "{one:?}")?.as_str(),
+        "{1, 2, 3, 4, 5}"
+    );
+    one.clear();
+    assert_equal!(rt; format!(in rt.alloc(); "{one:?}")?.as_str(), "{}");
+    Ok(())
+}
+
+// Two texts without a letter are equal, and only one of them has room for some.
+#[test]
+fn an_element_that_is_there_is_kept(rt: HostRuntime) -> Result<(), Fail> {
+    let alloc = rt.alloc();
+    let roomy = String::with_capacity(alloc, 40)?;
+    let mut set = Set::from_iter(alloc, [roomy, String::new(alloc)])?;
+    assert_equal!(rt; (set.len(), set.insert(String::new(alloc))?), (1, false));
+    set.extend([String::new(alloc)])?;
+    assert!(rt;
+        set.get(&String::new(alloc))
+            .is_some_and(|text| 40 <= text.capacity())
+    );
+    assert!(rt;
+        set.replace(String::new(alloc))?
+            .is_some_and(|text| 40 <= text.capacity())
+    );
+    assert!(rt;
+        set.get(&String::new(alloc))
+            .is_some_and(|text| text.capacity() < 40)
+    );
+    Ok(())
+}
