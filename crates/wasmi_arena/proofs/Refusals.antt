@@ -1,8 +1,9 @@
--- What the walks of `two_mut` share. Assumes `Logic`.
---     Pair, PairOr      two `&mut T`, and these or an `ArenaError`.        pair_or_laws      their laws, which say that one is a single machine value
---     refused      an error as the result.        stays, keeps      the lender is as it was;  or it ends as itself, whatever that is
-use Rattle.std.proofs.Common.{◌≡◌, ◌≢◌, ℕ, List, [], ◌∷◌, refl, sym, subst, MutBor}
-use Rattle.std.specs.Prelude.{Result, Ok, Err, OnOk, OnErr, IsOk}
+-- What the proofs of `checked_pair` share. Assumes `Logic`.
+--     Pair, PairOr      two `&mut T`, and these or an `ArenaError`.        pair_told, pair_or_laws      which machine value a pair is; that the result is one
+--     error_made, refused      an error, of which one of its variants without fields is made of nothing, and it as the result
+--           stays, keeps      the lender is as it was;  or it ends as itself, whatever that is
+use Rattle.std.proofs.Common.{◌≡◌, ◌≢◌, ℕ, List, [], ◌∷◌, refl, ap, subst, MutBor}
+use Rattle.std.specs.Prelude.{Result, Ok, Err, OnOk, OnErr}
 use lib.Dec as dec
 use lib.Dec.{T_not, eqb, eqb_refl}
 use mathlib.Core.Bool.{not}
@@ -12,7 +13,7 @@ use mathlib.Core.Option.{none, some}
 use base.Fml.{Lft, Fml, GName, fex, feq, fsep, fres, fauth}
 use seplogic.Ra.Ura.{Ura}
 use mir.Syntax.{named}
-use mir.Val.{Val, of_list}
+use mir.Val.{Val, of_list, vptr, vstruct, vcons, vnil}
 use types.Logic.{Logic, sem}
 use types.Kit.{‵, ◌$◌, ◌∵◌, !, qed, done, each, assume, use0, use1, fjoin, fpack, feq_i}
 use types.Match.{live}
@@ -21,20 +22,23 @@ use denote.Enum.Row.{tagged_with}
 use denote.Enum.Enum.{form_of, in_a_row}
 use denote.Enum.Declared.{shape}
 use denote.Follow.{follows, follows_by, such_by}
+use denote.Laws.{Is}
 use denote.Param.Laws.{Laws, of_field, is_one}
 use denote.Param.Shared.{Sharable, mut_ref_shared}
-use denote.Ref.{MutRef, NamedLft}
-use denote.Steps.{nothing}
+use denote.Ref.{MutRef, NamedLft, mut_vals, mut_Tells}
+use denote.Steps.{nothing, only}
+use denote.Struct.Declared as Declared
 use denote.Struct.Field.{mut_ref_field, row_field}
 use denote.Struct.Laws.{mut_ref_laws}
-use denote.Struct.Tuple.{Tuple, tuple_laws}
+use denote.Struct.Struct.{Struct-Tells}
+use denote.Struct.Tuple.{Tuple, tuple_type, tuple_laws}
 use Rattle.core.proofs.once.Made.{err_of}
 use Rattle.core.proofs.result.Result.TheLaws as ResultLaws
 use Rattle.core.specs.contracts.result.Result as ResultType
 use Rattle.wasmi_arena.specs.contracts.error.ArenaError as ErrorType
 use Rattle.wasmi_arena.specs.declared.error.ArenaError.{ArenaError}
-use Rattle.wasmi_arena.specs.declared.error.ArenaError.TheVariants.{KeyOutOfBounds, AliasingPairAccess}
 use Rattle.wasmi_arena.proofs.error.ArenaError.TheLaws as ErrorLaws
+use Rattle.wasmi_arena.specs.declared.error.ArenaError.TheVariants.{OutOfSystemMemory, KeyOutOfBounds, NotEnoughKeys, AliasingPairAccess}
 
 module _ (κ : Lft) (T : RattleType) where
   abbrev pub Lent : RattleType
@@ -81,24 +85,48 @@ module _ {M : Type 1} {𝓤 : Ura M} (𝓛 : Logic 𝓤) (S : RattleType) (lende
       qed 𝓛 [] ∵ use0 𝓛 (‵ (follows S S lender.ghost_name lender.ghost_name (λ w. w))) (itself 𝓛 S lender.ghost_name) $
       fpack ! (Known (Ok x)) (λ s. follows_by S.Denot S.Denot S.coded.code S.coded.code lender.ghost_name (some lender.ghost_name) s.0.0 s.0.1) (((λ w. w), lender.now), (λ w. refl), tt) $ done !
 
--- the machine's value of an error, by its number
+-- the machine's value of an error, by the place of its variant
 abbrev pub error_val : ℕ → Val
 error_val n = live n (of_list [])
 
-module _ {M : Type 1} {𝓤 : Ura M} (𝓛 : Logic 𝓤) (κ : Lft) (T : RattleType) where
-  pub aliasing : ent 𝓤 (emp 𝓤) (sem 𝓛 ((PairOr κ T).own_val (Err AliasingPairAccess) (live 1 (of_list (error_val 3 ∷ [])) ∷ [])))
-  aliasing =
-      qed 𝓛 [] ∵ nothing ! $ feq_i ! (List Val) [] [] refl $ fjoin ! $ fpack ! (Valss []) (in_a_row [] (owns [] tt) []) tt $
-      feq_i ! (List Val) (error_val 3 ∷ []) (error_val 3 ∷ []) refl $ fjoin ! $
-      fpack ! (List Val) (tagged_with (form_of (shape ErrorType.the_type)) (form_of (shape ErrorType.the_type)).payload (ErrorType.the_type.to AliasingPairAccess) (error_val 3 ∷ [])) [] $
-      use1 𝓛 (‵ ((PairOr κ T).own_val (Err AliasingPairAccess) (live 1 (of_list (error_val 3 ∷ [])) ∷ []))) (err_of 𝓛 (Pair κ T) ErrorType.the_row AliasingPairAccess (error_val 3)) $ done !
+-- the variant's place among the errors
+abbrev pub place_of : ArenaError → ℕ
+place_of OutOfSystemMemory = 0
+place_of KeyOutOfBounds = 1
+place_of NotEnoughKeys = 2
+place_of AliasingPairAccess = 3
 
-  pub out_of_bounds : ent 𝓤 (emp 𝓤) (sem 𝓛 ((PairOr κ T).own_val (Err KeyOutOfBounds) (live 1 (of_list (error_val 1 ∷ [])) ∷ [])))
-  out_of_bounds =
-      qed 𝓛 [] ∵ nothing ! $ feq_i ! (List Val) [] [] refl $ fjoin ! $ fpack ! (Valss []) (in_a_row [] (owns [] tt) []) tt $
-      feq_i ! (List Val) (error_val 1 ∷ []) (error_val 1 ∷ []) refl $ fjoin ! $
-      fpack ! (List Val) (tagged_with (form_of (shape ErrorType.the_type)) (form_of (shape ErrorType.the_type)).payload (ErrorType.the_type.to KeyOutOfBounds) (error_val 1 ∷ [])) [] $
-      use1 𝓛 (‵ ((PairOr κ T).own_val (Err KeyOutOfBounds) (live 1 (of_list (error_val 1 ∷ [])) ∷ []))) (err_of 𝓛 (Pair κ T) ErrorType.the_row KeyOutOfBounds (error_val 1)) $ done !
+module _ {M : Type 1} {𝓤 : Ura M} (𝓛 : Logic 𝓤) where
+  pub error_made : (e : ArenaError) → ent 𝓤 (emp 𝓤) (sem 𝓛 (ErrorType.the_row.own_val e (error_val (place_of e) ∷ [])))
+  error_made OutOfSystemMemory =
+      qed 𝓛 [] ∵ nothing ! $ feq_i ! (List Val) [] [] refl $ fjoin ! $ fpack ! (Valss []) (in_a_row [] (owns [] tt) []) tt $ feq_i ! (List Val) (error_val 0 ∷ []) (error_val 0 ∷ []) refl $ fjoin ! $
+      fpack ! (List Val) (tagged_with (form_of (shape ErrorType.the_type)) (form_of (shape ErrorType.the_type)).payload (ErrorType.the_type.to OutOfSystemMemory) (error_val 0 ∷ [])) [] $ done !
+  error_made KeyOutOfBounds =
+      qed 𝓛 [] ∵ nothing ! $ feq_i ! (List Val) [] [] refl $ fjoin ! $ fpack ! (Valss []) (in_a_row [] (owns [] tt) []) tt $ feq_i ! (List Val) (error_val 1 ∷ []) (error_val 1 ∷ []) refl $ fjoin ! $
+      fpack ! (List Val) (tagged_with (form_of (shape ErrorType.the_type)) (form_of (shape ErrorType.the_type)).payload (ErrorType.the_type.to KeyOutOfBounds) (error_val 1 ∷ [])) [] $ done !
+  error_made NotEnoughKeys =
+      qed 𝓛 [] ∵ nothing ! $ feq_i ! (List Val) [] [] refl $ fjoin ! $ fpack ! (Valss []) (in_a_row [] (owns [] tt) []) tt $ feq_i ! (List Val) (error_val 2 ∷ []) (error_val 2 ∷ []) refl $ fjoin ! $
+      fpack ! (List Val) (tagged_with (form_of (shape ErrorType.the_type)) (form_of (shape ErrorType.the_type)).payload (ErrorType.the_type.to NotEnoughKeys) (error_val 2 ∷ [])) [] $ done !
+  error_made AliasingPairAccess =
+      qed 𝓛 [] ∵ nothing ! $ feq_i ! (List Val) [] [] refl $ fjoin ! $ fpack ! (Valss []) (in_a_row [] (owns [] tt) []) tt $ feq_i ! (List Val) (error_val 3 ∷ []) (error_val 3 ∷ []) refl $ fjoin ! $
+      fpack ! (List Val) (tagged_with (form_of (shape ErrorType.the_type)) (form_of (shape ErrorType.the_type)).payload (ErrorType.the_type.to AliasingPairAccess) (error_val 3 ∷ [])) [] $ done !
+
+module _ {M : Type 1} {𝓤 : Ura M} (𝓛 : Logic 𝓤) (κ : Lft) (T : RattleType) where
+  pub refused : (e : ArenaError) → ent 𝓤 (emp 𝓤) (sem 𝓛 ((PairOr κ T).own_val (Err e) (live 1 (of_list (error_val (place_of e) ∷ [])) ∷ [])))
+  refused e =
+      qed 𝓛 [] ∵ use0 𝓛 (‵ (ErrorType.the_row.own_val e (error_val (place_of e) ∷ []))) (error_made 𝓛 e) $
+      use1 𝓛 (‵ ((PairOr κ T).own_val (Err e) (live 1 (of_list (error_val (place_of e) ∷ [])) ∷ []))) (err_of 𝓛 (Pair κ T) ErrorType.the_row e (error_val (place_of e))) $ done !
+
+-- the machine's value of a pair of references
+abbrev pub pair_val : {X : Type 0} → MutBor X × MutBor X → Val
+pair_val r = vstruct (vcons (vptr r.0.ref_ptr.0 r.0.ref_ptr.1) (vcons (vptr r.1.ref_ptr.0 r.1.ref_ptr.1) vnil))
+
+module _ (κ : Lft) (T : RattleType) where
+  -- what a value that is such a pair is
+  pub pair_told : (r : MutBor T.Denot × MutBor T.Denot) (v : Val) → Is (Pair κ T) r (v ∷ []) → v ≡ pair_val r
+  pair_told r v seen =
+      let told = mut_Tells (named 0) κ T in
+      ap only (Struct-Tells (Declared.shape (tuple_type (Lent κ T ∷ Lent κ T ∷ []))) (mut_vals, (mut_vals, tt)) (told, (told, tt)) (r.0, (r.1, tt)) (v ∷ []) seen)
 
 module _ (κ : Lft) (T : RattleType) (L : Laws T) where
   lent_laws : Laws (Lent κ T)
@@ -113,8 +141,3 @@ module _ (κ : Lft) (T : RattleType) (L : Laws T) where
 -- what a test that failed says
 pub neqb→neq : (m n : ℕ) → dec.T (not (eqb m n)) → m ≢ n
 neqb→neq m n differ e = T_not (eqb m n) differ (subst (λ (k : ℕ). dec.T (eqb m k)) e (eqb_refl m))
-
--- a result that is no error is a value
-pub ok_is : {A B : Type 0} (r : Result A B) → IsOk r → (x : A) × (r ≡ Ok x)
-ok_is (Ok x) ok = (x, refl)
-ok_is (Err e) ok = absurd (subst dec.T (sym ok) tt)

@@ -1,7 +1,5 @@
 -- Two items that are lent together, or an error in their place. Assumes `Logic`.
 --     follows_through      what follows a part follows the two that the part is cut into, where it is cut
---     ok_made, err_made      a `Result` is made of what it holds
---     error_made      an error is made of nothing, where its variant has no field
 --     good      what is owned of the result is a machine value of its type
 --     Told      what the result says of the list and of two positions.        told_outside, told_alike, told_lent      of each result
 --     ToldKeys, told_keys      the same of two keys.        ends_both      the two writes under them
@@ -58,48 +56,6 @@ module _ {M : Type 1} {𝓤 : Ura M} (𝓛 : Logic 𝓤) (R S T U : RattleType) 
   unfolding both_if_by
   follows_through maybe.none v = followed 𝓛 R S F γ γ' v
   follows_through (maybe.some γs) v = follows_both_through γs.0 γs.1
-
-module _ {M : Type 1} {𝓤 : Ura M} (𝓛 : Logic 𝓤) (X Y : RattleType) where
-  abbrev Answer : RattleType
-  Answer = Res.the_row X Y
-
-  pub ok_made : (x : X.Denot) (v : Val) → ent 𝓤 (sem 𝓛 (X.own_val x (v ∷ []))) (sem 𝓛 (Answer.own_val (Ok x) (live 0 (of_list (v ∷ [])) ∷ [])))
-  ok_made x v =
-      let form = form_of (shape (Res.the_type X Y)) in
-      qed 𝓛 (‵ (X.own_val x (v ∷ [])) ∷ []) ∵ nothing ! $ move ! (1 ∷ 0 ∷ []) $ fjoin ! $ feq_i ! (List Val) (v ∷ []) (v ∷ []) refl $ fjoin ! $
-      fpack ! (Valss (X ∷ [])) (in_a_row (X ∷ []) (owns (X ∷ []) (x, tt)) (v ∷ [])) (v ∷ [], tt) $
-      feq_i ! (List Val) (live 0 (of_list (v ∷ [])) ∷ []) (live 0 (of_list (v ∷ [])) ∷ []) refl $ fjoin ! $
-      fpack ! (List Val) (tagged_with form form.payload ((Res.the_type X Y).to (Ok x)) (live 0 (of_list (v ∷ [])) ∷ [])) (v ∷ []) $ done !
-
-  pub err_made : (e : Y.Denot) (v : Val) → ent 𝓤 (sem 𝓛 (Y.own_val e (v ∷ []))) (sem 𝓛 (Answer.own_val (Err e) (live 1 (of_list (v ∷ [])) ∷ [])))
-  err_made e v =
-      let form = form_of (shape (Res.the_type X Y)) in
-      qed 𝓛 (‵ (Y.own_val e (v ∷ [])) ∷ []) ∵ nothing ! $ move ! (1 ∷ 0 ∷ []) $ fjoin ! $ feq_i ! (List Val) (v ∷ []) (v ∷ []) refl $ fjoin ! $
-      fpack ! (Valss (Y ∷ [])) (in_a_row (Y ∷ []) (owns (Y ∷ []) (e, tt)) (v ∷ [])) (v ∷ [], tt) $
-      feq_i ! (List Val) (live 1 (of_list (v ∷ [])) ∷ []) (live 1 (of_list (v ∷ [])) ∷ []) refl $ fjoin ! $
-      fpack ! (List Val) (tagged_with form form.payload ((Res.the_type X Y).to (Err e)) (live 1 (of_list (v ∷ [])) ∷ [])) (v ∷ []) $ done !
-
--- the variant's place among the errors
-abbrev pub place_of : ArenaError → ℕ
-place_of ArenaError.OutOfSystemMemory = 0
-place_of ArenaError.KeyOutOfBounds = 1
-place_of ArenaError.NotEnoughKeys = 2
-place_of ArenaError.AliasingPairAccess = 3
-
-module _ {M : Type 1} {𝓤 : Ura M} (𝓛 : Logic 𝓤) where
-  pub error_made : (e : ArenaError) → ent 𝓤 (emp 𝓤) (sem 𝓛 (Error.the_row.own_val e (live (place_of e) (of_list []) ∷ [])))
-  error_made ArenaError.OutOfSystemMemory =
-      qed 𝓛 [] ∵ nothing ! $ feq_i ! (List Val) [] [] refl $ fjoin ! $ fpack ! (Valss []) (in_a_row [] (owns [] tt) []) tt $ feq_i ! (List Val) (live 0 (of_list []) ∷ []) (live 0 (of_list []) ∷ []) refl $ fjoin ! $
-      fpack ! (List Val) (tagged_with (form_of (shape Error.the_type)) (form_of (shape Error.the_type)).payload ((Error.the_type).to ArenaError.OutOfSystemMemory) (live 0 (of_list []) ∷ [])) [] $ done !
-  error_made ArenaError.KeyOutOfBounds =
-      qed 𝓛 [] ∵ nothing ! $ feq_i ! (List Val) [] [] refl $ fjoin ! $ fpack ! (Valss []) (in_a_row [] (owns [] tt) []) tt $ feq_i ! (List Val) (live 1 (of_list []) ∷ []) (live 1 (of_list []) ∷ []) refl $ fjoin ! $
-      fpack ! (List Val) (tagged_with (form_of (shape Error.the_type)) (form_of (shape Error.the_type)).payload ((Error.the_type).to ArenaError.KeyOutOfBounds) (live 1 (of_list []) ∷ [])) [] $ done !
-  error_made ArenaError.NotEnoughKeys =
-      qed 𝓛 [] ∵ nothing ! $ feq_i ! (List Val) [] [] refl $ fjoin ! $ fpack ! (Valss []) (in_a_row [] (owns [] tt) []) tt $ feq_i ! (List Val) (live 2 (of_list []) ∷ []) (live 2 (of_list []) ∷ []) refl $ fjoin ! $
-      fpack ! (List Val) (tagged_with (form_of (shape Error.the_type)) (form_of (shape Error.the_type)).payload ((Error.the_type).to ArenaError.NotEnoughKeys) (live 2 (of_list []) ∷ [])) [] $ done !
-  error_made ArenaError.AliasingPairAccess =
-      qed 𝓛 [] ∵ nothing ! $ feq_i ! (List Val) [] [] refl $ fjoin ! $ fpack ! (Valss []) (in_a_row [] (owns [] tt) []) tt $ feq_i ! (List Val) (live 3 (of_list []) ∷ []) (live 3 (of_list []) ∷ []) refl $ fjoin ! $
-      fpack ! (List Val) (tagged_with (form_of (shape Error.the_type)) (form_of (shape Error.the_type)).payload ((Error.the_type).to ArenaError.AliasingPairAccess) (live 3 (of_list []) ∷ [])) [] $ done !
 
 module _ {M : Type 1} {𝓤 : Ura M} (𝓛 : Logic 𝓤) (κ : Lft) (Z : RattleType) where
   abbrev pub Pair : RattleType

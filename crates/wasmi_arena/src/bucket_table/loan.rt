@@ -4,7 +4,7 @@ ghost use base.Fml.{GName, ftrue};
 ghost use Rattle.wasmi_arena.specs.Bucket.{Bucket};
 ghost use Rattle.wasmi_arena.specs.Loan.{loan_owns};
 
-mod pair;
+mod pairs;
 mod parts;
 
 use crate::Bucket;

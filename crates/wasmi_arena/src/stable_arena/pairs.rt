@@ -10,20 +10,19 @@ use std::alloc::Allocator;
 
 impl<Key: ArenaKey, T, A: Allocator> StableArena<Key, T, A> {
     // The items at two positions that have one each.
-    fn two_of(&mut self, first: usize, second: usize) -> Result<(&mut T, &mut T), ArenaError>
+    fn pair(&mut self, first: usize, second: usize) -> (&mut T, &mut T)
         requires disjoint { first ≢ second }
         requires first { first < length self.old }
         requires second { second < length self.old }
-        ensures items { IfOk result (λ pair. (slice_get self.old first ≡ Some pair.0.now)
-            × (slice_get self.old second ≡ Some pair.1.now)) }
-        ensures ok { IsOk result }
+        ensures first { slice_get self.old first ≡ Some result.0.now }
+        ensures second { slice_get self.old second ≡ Some result.1.now }
     {
         let all = self.lend();
-        all.disjoint(first, second)
+        all.pair(first, second)
     }
 
     // The items at two positions, of an arena of this length.
-    fn two_mut(
+    fn checked_pair(
         &mut self,
         len: usize,
         first: usize,
@@ -42,7 +41,7 @@ impl<Key: ArenaKey, T, A: Allocator> StableArena<Key, T, A> {
         if len <= second {
             return Err(ArenaError::KeyOutOfBounds);
         }
-        self.two_of(first, second)
+        Ok(self.pair(first, second))
     }
 
     // The arena itself, with its length and the numbers of the two keys.
@@ -77,6 +76,6 @@ impl<Key: ArenaKey, T, A: Allocator> StableArena<Key, T, A> {
             ⊎ (error ≡ ArenaError.KeyOutOfBounds)) }
     {
         let (arena, len, first, second) = self.asked(keys);
-        arena.two_mut(len, first, second)
+        arena.checked_pair(len, first, second)
     }
 }

@@ -109,20 +109,19 @@ impl<T, A: Allocator> StableVec<T, A> {
     }
 
     // The items at two indices that have one each.
-    fn two_of(&mut self, first: usize, second: usize) -> Result<(&mut T, &mut T), ArenaError>
+    fn pair(&mut self, first: usize, second: usize) -> (&mut T, &mut T)
         requires disjoint { first ≢ second }
         requires first { first < length self.old }
         requires second { second < length self.old }
-        ensures items { IfOk result (λ pair. (slice_get self.old first ≡ Some pair.0.now)
-            × (slice_get self.old second ≡ Some pair.1.now)) }
-        ensures ok { IsOk result }
+        ensures first { slice_get self.old first ≡ Some result.0.now }
+        ensures second { slice_get self.old second ≡ Some result.1.now }
     {
         let all = self.lend();
-        all.disjoint(first, second)
+        all.pair(first, second)
     }
 
     // The items at two indices, of a vector of this length.
-    fn two_mut(
+    fn checked_pair(
         &mut self,
         len: usize,
         first: usize,
@@ -141,7 +140,7 @@ impl<T, A: Allocator> StableVec<T, A> {
         if len <= second {
             return Err(ArenaError::KeyOutOfBounds);
         }
-        self.two_of(first, second)
+        Ok(self.pair(first, second))
     }
 
     // The vector itself, with its length and the two indices.
@@ -174,6 +173,6 @@ impl<T, A: Allocator> StableVec<T, A> {
             ⊎ (error ≡ ArenaError.KeyOutOfBounds)) }
     {
         let (vec, len, first, second) = self.asked(indices);
-        vec.two_mut(len, first, second)
+        vec.checked_pair(len, first, second)
     }
 }

@@ -9,7 +9,7 @@ use std::alloc::Allocator;
 use wasmi_arena::{ArenaError, ArenaKey};
 
 // Two items of a slice, of which the first lies before the second.
-fn in_order<T>(items: &mut [T], low: usize, high: usize) -> (&mut T, &mut T)
+fn pair_in_order<T>(items: &mut [T], low: usize, high: usize) -> (&mut T, &mut T)
     requires order { low < high }
     requires in_bounds { high < length items.old }
     ensures* writes_back { sem 𝓛 (LendsBoth (Array T.row 0) T.row T.row items.entry result
@@ -22,7 +22,7 @@ fn in_order<T>(items: &mut [T], low: usize, high: usize) -> (&mut T, &mut T)
 }
 
 // Two items of a slice.
-fn two_of<T>(items: &mut [T], one: usize, other: usize) -> (&mut T, &mut T)
+fn pair<T>(items: &mut [T], one: usize, other: usize) -> (&mut T, &mut T)
     requires one { one < length items.old }
     requires other { other < length items.old }
     requires apart { one ≢ other }
@@ -32,15 +32,15 @@ fn two_of<T>(items: &mut [T], one: usize, other: usize) -> (&mut T, &mut T)
     ensures second { slice_get items.old other ≡ Some result.1.now }
 {
     if one < other {
-        in_order(items, one, other)
+        pair_in_order(items, one, other)
     } else {
-        let (low, high) = in_order(items, other, one);
+        let (low, high) = pair_in_order(items, other, one);
         (high, low)
     }
 }
 
 // Two items of a slice, or why it has no two such items.
-fn two_or<T>(items: &mut [T], one: usize, other: usize) -> Result<(&mut T, &mut T), ArenaError>
+fn checked_pair<T>(items: &mut [T], one: usize, other: usize) -> Result<(&mut T, &mut T), ArenaError>
     ensures* writes_back { sem 𝓛 (LendsBothIfOk (Array T.row 0) T.row T.row items.entry result
         (λ x y. slice_set (slice_set items.old one x) other y) items.old) }
     ensures items { IfOk result (λ pair. (slice_get items.old one ≡ Some pair.0.now)
@@ -62,11 +62,11 @@ fn two_or<T>(items: &mut [T], one: usize, other: usize) -> Result<(&mut T, &mut 
     if one == other {
         return Err(ArenaError::AliasingPairAccess);
     }
-    Ok(two_of(items, one, other))
+    Ok(pair(items, one, other))
 }
 
 // The numbers of two keys.
-fn numbers<Key: ArenaKey>(keys: [Key; 2]) -> (usize, usize)
+fn asked<Key: ArenaKey>(keys: [Key; 2]) -> (usize, usize)
     ensures { (first second : Key) → keys ≡ first ∷ second ∷ []
         → (result.0 ≡ Key.keys.number first) × (result.1 ≡ Key.keys.number second) }
 {
@@ -103,7 +103,7 @@ impl<Key: ArenaKey, T, A: Allocator> Arena<Key, T, A> {
         ensures errors { IfErr result (λ error. (error ≡ ArenaError.KeyOutOfBounds)
             ⊎ (error ≡ ArenaError.AliasingPairAccess)) }
     {
-        let (one, other) = numbers(keys);
-        two_or(self.items_mut(), one, other)
+        let (one, other) = asked(keys);
+        checked_pair(self.items_mut(), one, other)
     }
 }

@@ -1,4 +1,4 @@
--- `get_disjoint_mut` hands on what `two_mut` lends. Assumes `Logic`.
+-- `get_disjoint_mut` hands on what `checked_pair` lends. Assumes `Logic`.
 use Rattle.std.proofs.Common.{◌≡◌, ◌<◌, ◌^◌, List, [], ◌∷◌, length, Result, refl, sym, ap, ◌∙◌, subst, MutBor}
 use Rattle.std.proofs.raw_atomic.Walks.{proved}
 use base.Logic.{id⊢, emp}
@@ -33,8 +33,8 @@ use Rattle.core.proofs.mem.Param.{El, R}
 use Rattle.wasmi_arena.specs.Pairs.{PairAnswer, AreNumbers}
 use Rattle.wasmi_arena.specs.declared.error.ArenaError.{ArenaError}
 use Rattle.wasmi_arena.specs.contracts.stable_vec.StableVec.get_disjoint_mut as F
-use Rattle.wasmi_arena.specs.contracts.stable_vec.StableVec.two_mut as Call
-use Rattle.wasmi_arena.proofs.stable_vec.StableVec.two_mut.Met as Lends
+use Rattle.wasmi_arena.specs.contracts.stable_vec.StableVec.checked_pair as Call
+use Rattle.wasmi_arena.proofs.stable_vec.StableVec.checked_pair.Met as Lends
 use Rattle.wasmi_arena.proofs.stable_vec.StableVec.get_disjoint_mut.Statement.{statement}
 use Rattle.wasmi_arena.proofs.stable_vec.StableVec.get_disjoint_mut.Code as code
 use Rattle.wasmi_arena.proofs.Frame.{let_go, gone}
@@ -111,7 +111,7 @@ get_disjoint_mut_spec 𝓤 𝓛 𝓜 𝓡 wired X Y LX LY g d dd met md =
     use0 𝓛 (raw (fact 𝓤 (size (layout Self) < 2 ^ 63))) (fact_i 𝓤 _ (emp 𝓤) small) $ join ! $
     use0 𝓛 (raw (fact 𝓤 (κs.1.1.0 ⊑ Y.lives))) (fact_i 𝓤 _ (emp 𝓤) in_A) $ join ! $ use0 𝓛 (raw (fact 𝓤 (κs.1.0 ⊑ X.lives))) (fact_i 𝓤 _ (emp 𝓤) in_T) $ join ! $
     move ! (1 ∷ 0 ∷ []) $ use2 𝓛 (raw (G₂.pre z₂)) (id⊢ 𝓤 _) $
-    calls_at ! (framed 𝓤 𝓛.H 𝓜 𝓣) G₂ (Lends.met 𝓤 𝓛 𝓜 𝓡 (code.calls-wasmi_arena::stable_vec::StableVec::two_mut 𝓡.env wired) X Y LX LY g d dd met md) z₂
+    calls_at ! (framed 𝓤 𝓛.H 𝓜 𝓣) G₂ (Lends.met 𝓤 𝓛 𝓜 𝓡 (code.calls-wasmi_arena::stable_vec::StableVec::checked_pair 𝓡.env wired) X Y LX LY g d dd met md) z₂
     (and_then ! (get ! refl) (and_then ! (get ! refl) (and_then ! (get ! refl) (and_then ! (get ! refl) (no_more !))))) (λ v.
     use1 𝓛 (later (some (λ (res : Result Two ArenaError). (alive ⊛ ‵ ((PairOr κ T).own_val res (v ∷ []))) ⊛
     some (λ (ws : Unit {0} × (Unit {0} × (Unit {0} × (Unit {0} × Unit {0})))). ‵ (lasts (Call.ended X Y g d dd) κs (r, (len, (i, (j, tt)))) ws)

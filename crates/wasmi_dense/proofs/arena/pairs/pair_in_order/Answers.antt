@@ -1,6 +1,6 @@
 use Rattle.std.proofs.Common.{◌<◌, length, refl, arith}
 use Rattle.wasmi_dense.proofs.ArenaPairs.{slice_set-both, slice_get-front, slice_get-back}
-use Rattle.wasmi_dense.proofs.arena.pairs.in_order.Goals as goal
+use Rattle.wasmi_dense.proofs.arena.pairs.pair_in_order.Goals as goal
 
 pub returns : goal.returns
 returns g c =

@@ -1,9 +1,11 @@
--- `two_mut` lends two items, or leaves the arena as it is. Assumes `Logic`.
+-- `checked_pair` lends two items, or leaves the vector as it is. Assumes `Logic`.
 use Rattle.std.proofs.Common.{◌≡◌, ◌≢◌, ℕ, ◌<◌, ◌≤◌, ◌^◌, List, [], ◌∷◌, length, Result, Ok, Err, Some, refl, subst, inl, inr, lit<, MutBor}
 use lib.Dec.{eqb→eq, leb→le, nleb→lt}
 use Rattle.std_alloc.proofs.VecSteps.Shapes.{after as rest_of}
 use Rattle.std.proofs.raw_atomic.Walks.{proved}
-use Rattle.std.specs.Prelude.{IsOk, IfOk, slice_get}
+use Rattle.std.specs.Prelude.{slice_get}
+use Rattle.core.proofs.once.Made.{ok_of}
+use Rattle.wasmi_arena.specs.contracts.error.ArenaError as ErrorType
 use base.Logic.{ent, id⊢, emp}
 use types.Logic.{sem}
 use base.Fml.{ftrue, flft, fres}
@@ -22,7 +24,7 @@ use types.Part.{agg}
 use types.Run.{enter, addr, stop, bin, lit, and_then, no_more, first, branches, skips, exec, returns, returns_within}
 use denote.Builtin.{usize}
 use denote.Exit.{no, yes}
-use denote.Param.{layout, param, bounded}
+use denote.Param.{layout, bounded}
 use denote.Param.Laws.{param_laws}
 use denote.Plain.{uint_vals, uint_Tells, uint_Makes}
 use denote.RattleType.{RattleType, Valss, owns}
@@ -36,30 +38,30 @@ use denote.Triple.Spec.{triple_of}
 use denote.Triple.Table.{framed}
 use denote.Triple.Walked.{Stays, walk_of, says, stay_dropped, Goes-spent_ref, Goes-dropped, ends_at}
 use Rattle.core.proofs.alloc.Calls.{Al}
-use Rattle.core.proofs.mem.Param.{El}
+use Rattle.core.proofs.mem.Param.{El, R}
 use Rattle.wasmi_arena.specs.Pairs.{PairAnswer}
 use Rattle.wasmi_arena.specs.declared.error.ArenaError.{ArenaError}
 use Rattle.wasmi_arena.specs.declared.error.ArenaError.TheVariants.{KeyOutOfBounds, AliasingPairAccess}
-use Rattle.wasmi_arena.specs.contracts.stable_arena.StableArena.two_mut as F
-use Rattle.wasmi_arena.specs.contracts.stable_arena.StableArena.two_of as Call
-use Rattle.wasmi_arena.proofs.stable_arena.StableArena.two_of.Met as Lends
-use Rattle.wasmi_arena.proofs.stable_arena.StableArena.two_mut.Statement.{statement}
-use Rattle.wasmi_arena.proofs.stable_arena.StableArena.two_mut.Code as code
+use Rattle.wasmi_arena.specs.contracts.stable_vec.StableVec.checked_pair as F
+use Rattle.wasmi_arena.specs.contracts.stable_vec.StableVec.pair as Call
+use Rattle.wasmi_arena.proofs.stable_vec.StableVec.pair.Met as Lends
+use Rattle.wasmi_arena.proofs.stable_vec.StableVec.checked_pair.Statement.{statement}
+use Rattle.wasmi_arena.proofs.stable_vec.StableVec.checked_pair.Code as code
 use Rattle.wasmi_arena.proofs.Frame.{let_go, gone}
-use Rattle.wasmi_arena.proofs.Refusals.{PairOr, pair_or_laws, error_val, aliasing, out_of_bounds, Rests, stays, ends, neqb→neq, ok_is}
-use Rattle.wasmi_arena.proofs.ArenaMemory.{ArenaRow}
+use Rattle.wasmi_arena.proofs.Refusals.{Pair, PairOr, pair_val, pair_told, error_val, place_of, refused, Rests, stays, ends, neqb→neq}
+use Rattle.wasmi_arena.proofs.VecMemory.{VecRow}
 
-pub two_mut_spec : {M : Type 1} → statement M
-two_mut_spec 𝓤 𝓛 𝓜 𝓡 wired K X Y LK LX LY copy keys kd clone cd g d dd k_met c_met met md =
+pub checked_pair_spec : {M : Type 1} → statement M
+checked_pair_spec 𝓤 𝓛 𝓜 𝓡 wired X Y LX LY g d dd met md =
     let E : El = record { row = X; laws = LX } in let Z : Al = record { row = Y; laws = LY; g = g; d = d; drops = dd } in
-    let args : Args = bounded (a_type ∷ a_type ∷ a_type ∷ []) (K, (X, (Y, tt))) (dcons kd (dcons cd (dcons d (dcons dd dnil)))) in
-    let call = F.ended K X Y keys kd clone cd g d dd in let c = F.clauses K X Y keys kd clone cd g d dd 𝓛 𝓜.mem 𝓡.returns in
-    let T = param 1 X in let Self = ArenaRow K E Z keys in let function = inst_fn args code.function in
+    let args : Args = bounded (a_type ∷ a_type ∷ []) (X, (Y, tt)) (dcons d (dcons dd dnil)) in
+    let call = F.ended X Y g d dd in let c = F.clauses X Y g d dd 𝓛 𝓜.mem 𝓡.returns in
+    let T = R E in let Self = VecRow E Z in let function = inst_fn args code.function in
     let stayed : Stays call.signature.params call.kept = (stay_dropped _ no, (stay_dropped _ yes, (stay_dropped _ yes, (stay_dropped _ yes, tt)))) in
     let W = walk_of 𝓛 call stayed c in let 𝓣 = tables 𝓤 𝓛.H 𝓜 𝓡 𝓡.env in
-    let number = Goes-dropped 𝓛 4 (plain (λ _. usize)) yes (λ κs x w. refl) in
-    proved 𝓛 call stayed c 𝓜 𝓡 (Goes-spent_ref 𝓛 4 (0 ∷ []) tt (plain (λ _. Self)), (number, (number, (number, tt))))
-    (F.Key.name args) function (code.unfolded 𝓤 𝓛.H 𝓜 𝓡 wired (K, (X, (Y, tt))) kd cd d dd)
+    let number = Goes-dropped 𝓛 3 (plain (λ _. usize)) yes (λ κs x w. refl) in
+    proved 𝓛 call stayed c 𝓜 𝓡 (Goes-spent_ref 𝓛 3 (0 ∷ []) tt (plain (λ _. Self)), (number, (number, (number, tt))))
+    (F.Key.name args) function (code.unfolded 𝓤 𝓛.H 𝓜 𝓡 wired (X, (Y, tt)) d dd)
     (λ κs. (mut_vals, (uint_vals w64, (uint_vals w64, (uint_vals w64, tt))))) (λ κs. (mut_Tells (named 0) κs.0 Self, (uint_Tells w64, (uint_Tells w64, (uint_Tells w64, tt)))))
     (λ κs qs bounds a _ are.
     let items = a.0.now in let b = a.0.ref_ptr.0 in let o = a.0.ref_ptr.1 in let κ = κs.0 in let q = qs.0 in let γ = a.0.ghost_name in
@@ -67,7 +69,7 @@ two_mut_spec 𝓤 𝓛 𝓜 𝓡 wired K X Y LK LX LY copy keys kd clone cd g d 
     let Taken : List RattleType = MutRef (named 0) κ Self ∷ usize ∷ usize ∷ usize ∷ [] in
     let vals : Valss Taken = (mut_vals a.0, (uint_vals w64 len, (uint_vals w64 i, (uint_vals w64 j, tt)))) in
     let y : W.Ghost = ((κs, qs, bounds, a, vals), tt) in
-    let others_alive = ‵ (flft κs.1.0 qs.1.0) ⊛ ‵ (flft κs.1.1.0 qs.1.1.0) ⊛ ‵ (flft κs.1.1.1.0 qs.1.1.1.0) ⊛ ‵ ftrue in
+    let others_alive = ‵ (flft κs.1.0 qs.1.0) ⊛ ‵ (flft κs.1.1.0 qs.1.1.0) ⊛ ‵ ftrue in
     let alive = ‵ (flft κ q) ⊛ others_alive in let Two : Type 0 = MutBor X.Denot × MutBor X.Denot in
     let refuses : (e : ArenaError) (v : Val) → ent 𝓤 (emp 𝓤) (sem 𝓛 ((PairOr κ T).own_val (Err e) (v ∷ []))) → PairAnswer items i j (Err e)
     → Sq 𝓛 (‵ ((MutRef (named 0) κ Self).own_val a.0 (mut_vals a.0)) ∷ alive ∷ []) (prop (W.post y v)) = λ e v made says_so.
@@ -76,51 +78,49 @@ two_mut_spec 𝓤 𝓛 𝓜 𝓡 wired K X Y LK LX LY copy keys kd clone cd g d 
     use1 𝓛 (‵ (Rests 𝓛 Self a.0 Two (Err e))) (stays 𝓛 Self a.0 Two e) $ use0 𝓛 (‵ ((PairOr κ T).own_val (Err e) (v ∷ []))) made $
     use0 𝓛 (‵ (let_go 4)) (gone 𝓛 4) $ move ! (3 ∷ 0 ∷ 1 ∷ 2 ∷ []) $ group ! 3 $ frame ! $ says ! says_so $ done ! in
     qed 𝓛 ((alive ⊛ ‵ (owns Taken a vals))
-    ∷ (raw (fact 𝓤 (κs.1.0 ⊑ K.lives)) ⊛ raw (fact 𝓤 (κs.1.1.0 ⊑ X.lives)) ⊛ raw (fact 𝓤 (κs.1.1.1.0 ⊑ Y.lives)) ⊛ raw (fact 𝓤 (size (layout Self) < 2 ^ 63)) ⊛ raw (fact 𝓤 (len ≡ length items))) ∷ []) ∵
-    move ! (1 ∷ []) $ split ! $ heard ! _ (λ in_K. split ! $ heard ! _ (λ in_T. split ! $ heard ! _ (λ in_A. split ! $ heard ! _ (λ small. heard ! _ (λ counted.
+    ∷ (raw (fact 𝓤 (κs.1.0 ⊑ X.lives)) ⊛ raw (fact 𝓤 (κs.1.1.0 ⊑ Y.lives)) ⊛ raw (fact 𝓤 (size (layout Self) < 2 ^ 63)) ⊛ raw (fact 𝓤 (len ≡ length items))) ∷ []) ∵
+    move ! (1 ∷ []) $ split ! $ heard ! _ (λ in_T. split ! $ heard ! _ (λ in_A. split ! $ heard ! _ (λ small. heard ! _ (λ counted.
     split ! $ move ! (1 ∷ []) $ fsplit ! $ keep ! (0 ∷ 2 ∷ []) $
     -- [the reference; the tokens]
     enter ! _ _ _ _ _ $ alloc_all ! (λ l. let here = env function.locals l in pass_all ! refl ((tt, tt), ((tt, record { fits = are.1.0.1 }), ((tt, record { fits = are.1.1.0.1 }), ((tt, record { fits = are.1.1.1.0.1 }), tt)))) $
     sets ! (bin ! (get ! refl) (get ! refl) tt) refl (tt, tt) $ first ! $ branches ! (get ! refl)
     (λ same. sets ! (agg ! (and_then ! (lit ! tt) (no_more !))) refl (tt, (record { fits = lit< tt }, tt)) $
     sets ! (agg ! (and_then ! (lit ! tt) (and_then ! (get ! refl) (no_more !)))) refl (tt, (record { fits = lit< tt }, ((record { fits = lit< tt }, tt), tt))) $
-    returns_within ! (W.post y) refl (look_at ! 0 refl) $ free_all ! refl $ refuses AliasingPairAccess (live 1 (of_list (error_val 3 ∷ []))) (aliasing 𝓛 κ T) (eqb→eq i j same))
+    returns_within ! (W.post y) refl (look_at ! 0 refl) $ free_all ! refl $ refuses AliasingPairAccess (live 1 (of_list (error_val (place_of AliasingPairAccess) ∷ []))) (refused 𝓛 κ T AliasingPairAccess) (eqb→eq i j same))
     (λ differ. let distinct : i ≢ j = neqb→neq i j differ in
     skips ! $ exec ! 𝓣.C 𝓣.Λ here (rest_of 2 function.body) (at_ret here (W.post y)) $
     sets ! (bin ! (get ! refl) (get ! refl) tt) refl (tt, tt) $ first ! $ branches ! (get ! refl)
     (λ out. sets ! (agg ! (and_then ! (lit ! tt) (no_more !))) refl (tt, (record { fits = lit< tt }, tt)) $
     sets ! (agg ! (and_then ! (lit ! tt) (and_then ! (get ! refl) (no_more !)))) refl (tt, (record { fits = lit< tt }, ((record { fits = lit< tt }, tt), tt))) $
-    returns_within ! (W.post y) refl (look_at ! 0 refl) $ free_all ! refl $ refuses KeyOutOfBounds (live 1 (of_list (error_val 1 ∷ []))) (out_of_bounds 𝓛 κ T) (distinct, inl (subst (λ (n : ℕ). n ≤ i) counted (leb→le len i out))))
+    returns_within ! (W.post y) refl (look_at ! 0 refl) $ free_all ! refl $ refuses KeyOutOfBounds (live 1 (of_list (error_val (place_of KeyOutOfBounds) ∷ []))) (refused 𝓛 κ T KeyOutOfBounds) (distinct, inl (subst (λ (n : ℕ). n ≤ i) counted (leb→le len i out))))
     (λ within_i. skips ! $ exec ! 𝓣.C 𝓣.Λ here (rest_of 4 function.body) (at_ret here (W.post y)) $
     sets ! (bin ! (get ! refl) (get ! refl) tt) refl (tt, tt) $ first ! $ branches ! (get ! refl)
     (λ out. sets ! (agg ! (and_then ! (lit ! tt) (no_more !))) refl (tt, (record { fits = lit< tt }, tt)) $
     sets ! (agg ! (and_then ! (lit ! tt) (and_then ! (get ! refl) (no_more !)))) refl (tt, (record { fits = lit< tt }, ((record { fits = lit< tt }, tt), tt))) $
-    returns_within ! (W.post y) refl (look_at ! 0 refl) $ free_all ! refl $ refuses KeyOutOfBounds (live 1 (of_list (error_val 1 ∷ []))) (out_of_bounds 𝓛 κ T) (distinct, inr (subst (λ (n : ℕ). n ≤ j) counted (leb→le len j out))))
+    returns_within ! (W.post y) refl (look_at ! 0 refl) $ free_all ! refl $ refuses KeyOutOfBounds (live 1 (of_list (error_val (place_of KeyOutOfBounds) ∷ []))) (refused 𝓛 κ T KeyOutOfBounds) (distinct, inr (subst (λ (n : ℕ). n ≤ j) counted (leb→le len j out))))
     (λ within_j. skips ! $ exec ! 𝓣.C 𝓣.Λ here (rest_of 6 function.body) (at_ret here (W.post y)) $
     let low : i < length items = subst (λ (n : ℕ). i < n) counted (nleb→lt len i within_i) in let high : j < length items = subst (λ (n : ℕ). j < n) counted (nleb→lt len j within_j) in
     sets ! (addr ! (through ! refl (stop !))) refl (tt, tt) $
-    let G = triple_of 𝓛 (Call.signature K X Y keys kd clone cd g d dd) (Call.spec K X Y keys kd clone cd g d dd 𝓛 𝓜.mem 𝓡.returns) in
+    let G = triple_of 𝓛 (Call.signature X Y g d dd) (Call.spec X Y g d dd 𝓛 𝓜.mem 𝓡.returns) in
     let z : G.Ghost = ((κs, qs, bounds, (a.0, (i, (j, tt))), (mut_vals a.0, (uint_vals w64 i, (uint_vals w64 j, tt)))), tt) in
     nothing ! $ owned ! usize _ (uint_Makes 𝓛 w64) j _ (refl, are.1.1.1.0.1) $ fjoin ! $ owned ! usize _ (uint_Makes 𝓛 w64) i _ (refl, are.1.1.0.1) $ fjoin ! $
     move ! (1 ∷ 0 ∷ []) $ fjoin ! $ move ! (1 ∷ 0 ∷ []) $ join ! $
     use0 𝓛 (raw (fact 𝓤 (j < length items))) (fact_i 𝓤 _ (emp 𝓤) high) $ use0 𝓛 (raw (fact 𝓤 (i < length items))) (fact_i 𝓤 _ (emp 𝓤) low) $ join ! $
     use0 𝓛 (raw (fact 𝓤 (i ≢ j))) (fact_i 𝓤 _ (emp 𝓤) distinct) $ join ! $ use0 𝓛 (raw (fact 𝓤 (size (layout Self) < 2 ^ 63))) (fact_i 𝓤 _ (emp 𝓤) small) $ join ! $
-    use0 𝓛 (raw (fact 𝓤 (κs.1.1.1.0 ⊑ Y.lives))) (fact_i 𝓤 _ (emp 𝓤) in_A) $ join ! $ use0 𝓛 (raw (fact 𝓤 (κs.1.1.0 ⊑ X.lives))) (fact_i 𝓤 _ (emp 𝓤) in_T) $ join ! $
-    use0 𝓛 (raw (fact 𝓤 (κs.1.0 ⊑ K.lives))) (fact_i 𝓤 _ (emp 𝓤) in_K) $ join ! $
+    use0 𝓛 (raw (fact 𝓤 (κs.1.1.0 ⊑ Y.lives))) (fact_i 𝓤 _ (emp 𝓤) in_A) $ join ! $ use0 𝓛 (raw (fact 𝓤 (κs.1.0 ⊑ X.lives))) (fact_i 𝓤 _ (emp 𝓤) in_T) $ join ! $
     move ! (1 ∷ 0 ∷ []) $ use2 𝓛 (raw (G.pre z)) (id⊢ 𝓤 _) $
-    calls_at ! (framed 𝓤 𝓛.H 𝓜 𝓣) G (Lends.met 𝓤 𝓛 𝓜 𝓡 (code.calls-wasmi_arena::stable_arena::StableArena::two_of 𝓡.env wired) K X Y LK LX LY copy keys kd clone cd g d dd k_met c_met met md) z
+    calls_at ! (framed 𝓤 𝓛.H 𝓜 𝓣) G (Lends.met 𝓤 𝓛 𝓜 𝓡 (code.calls-wasmi_arena::stable_vec::StableVec::pair 𝓡.env wired) X Y LX LY g d dd met md) z
     (and_then ! (get ! refl) (and_then ! (get ! refl) (and_then ! (get ! refl) (no_more !)))) (λ v.
-    use1 𝓛 (later (some (λ (r : Result Two ArenaError). (alive ⊛ ‵ ((PairOr κ T).own_val r (v ∷ []))) ⊛
-    some (λ (ws : Unit {0} × (Unit {0} × (Unit {0} × Unit {0}))). ‵ (lasts (Call.ended K X Y keys kd clone cd g d dd) κs (a.0, (i, (j, tt))) ws)
-    ⊛ raw (fact 𝓤 (IfOk r (λ pair. (slice_get items i ≡ Some pair.0.now) × (slice_get items j ≡ Some pair.1.now)))) ⊛ raw (fact 𝓤 (IsOk r)))))) (id⊢ 𝓤 _) $
-    await ! tt $ pick ! (λ r. split ! $ split ! $ move ! (2 ∷ []) $ pick ! (λ ws. split ! $ drop ! $ split ! $ heard ! _ (λ there. heard ! _ (λ ok.
-    let found = ok_is r ok in let pair : Two = found.0 in
-    move ! (1 ∷ []) $ peeks ! (PairOr κ T) _ (shows 𝓛 (PairOr κ T)) r (v ∷ []) (λ seen.
-    lands_as ! refl refl (((pair_or_laws κ T (param_laws 1 X LX)).lawful 𝓛).typed r (v ∷ []) seen).0 $
+    use1 𝓛 (later (some (λ (r : Two). (alive ⊛ ‵ ((Pair κ T).own_val r (v ∷ []))) ⊛
+    some (λ (ws : Unit {0} × (Unit {0} × (Unit {0} × Unit {0}))). ‵ (lasts (Call.ended X Y g d dd) κs (a.0, (i, (j, tt))) ws)
+    ⊛ raw (fact 𝓤 (slice_get items i ≡ Some r.0.now)) ⊛ raw (fact 𝓤 (slice_get items j ≡ Some r.1.now)))))) (id⊢ 𝓤 _) $
+    await ! tt $ pick ! (λ r. split ! $ split ! $ move ! (2 ∷ []) $ pick ! (λ ws. split ! $ drop ! $ split ! $ heard ! _ (λ at_i. heard ! _ (λ at_j.
+    move ! (1 ∷ []) $ peeks ! (Pair κ T) _ (shows 𝓛 (Pair κ T)) r (v ∷ []) (λ seen.
+    let told = pair_told κ T r v seen in let both = pair_val r in
+    lands_as ! told refl (tt, (tt, (tt, tt))) $ rewrite ! 0 (λ (w : Val). ‵ ((Pair κ T).own_val r (w ∷ []))) told refl $
+    sets ! (agg ! (and_then ! (lit ! tt) (and_then ! (get ! refl) (no_more !)))) refl (tt, (record { fits = lit< tt }, ((tt, (tt, tt)), tt))) $
     returns ! (look_at ! 0 refl) $ free_all ! refl $
-    rewrite ! 0 (λ (s : Result Two ArenaError). ‵ ((PairOr κ T).own_val s (v ∷ []))) found.1 refl $
-    suffices ! _ (ends_at 𝓛 call stayed c y v (Ok pair) (tt, (tt, (tt, (tt, tt)))) (tt, (tt, (tt, (tt, tt))))) $
-    use0 𝓛 (‵ (Rests 𝓛 Self a.0 Two (Ok pair))) (ends 𝓛 Self a.0 Two pair) $ use0 𝓛 (‵ (let_go 4)) (gone 𝓛 4) $
-    move ! (3 ∷ 0 ∷ 2 ∷ 1 ∷ []) $ group ! 3 $ frame ! $
-    let at = subst (λ (s : Result Two ArenaError). IfOk s (λ both. (slice_get items i ≡ Some both.0.now) × (slice_get items j ≡ Some both.1.now))) found.1 there in
-    says ! (distinct, at.0, at.1) $ done !))))))))))))))))
+    use1 𝓛 (‵ ((PairOr κ T).own_val (Ok r) (live 0 (of_list (both ∷ [])) ∷ []))) (ok_of 𝓛 (Pair κ T) ErrorType.the_row r both) $
+    suffices ! _ (ends_at 𝓛 call stayed c y (live 0 (of_list (both ∷ []))) (Ok r) (tt, (tt, (tt, (tt, tt)))) (tt, (tt, (tt, (tt, tt))))) $
+    use0 𝓛 (‵ (Rests 𝓛 Self a.0 Two (Ok r))) (ends 𝓛 Self a.0 Two r) $ use0 𝓛 (‵ (let_go 4)) (gone 𝓛 4) $
+    move ! (3 ∷ 0 ∷ 2 ∷ 1 ∷ []) $ group ! 3 $ frame ! $ says ! (distinct, at_i, at_j) $ done !)))))))))))))))

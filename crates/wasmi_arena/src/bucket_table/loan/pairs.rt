@@ -1,9 +1,9 @@
 //! Two items of a loan at once.
-ghost use Rattle.std.specs.Prelude.{◌≡◌, ◌≢◌, ◌<◌, ◌≤◌, length, IfOk, IsOk, slice_get, slice_index_or, Some, None};
+ghost use Rattle.std.specs.Prelude.{◌≡◌, ◌≢◌, ◌<◌, ◌≤◌, length, slice_get, slice_index_or, Some, None};
 ghost use Rattle.wasmi_arena.specs.Table.{items_in, items_of, HasBuckets};
 
 use super::ItemsLoan;
-use crate::{ArenaError, StableVec};
+use crate::StableVec;
 use std::alloc::Allocator;
 
 impl<'a, T, A: Allocator> ItemsLoan<'a, T, A> {
@@ -18,7 +18,7 @@ impl<'a, T, A: Allocator> ItemsLoan<'a, T, A> {
     }
 
     // The items in two filled slots, of which the first lies before the second.
-    fn pair(self, first: (usize, usize), second: (usize, usize)) -> (&'a mut T, &'a mut T)
+    fn pair_of_slots(self, first: (usize, usize), second: (usize, usize)) -> (&'a mut T, &'a mut T)
         requires buckets { first.0 ≤ second.0 }
         requires slots { first.0 ≡ second.0 → first.1 < second.1 }
         requires first { first.1 < length (items_in (slice_index_or self.buckets first.0 None)) }
@@ -41,7 +41,7 @@ impl<'a, T, A: Allocator> ItemsLoan<'a, T, A> {
     }
 
     // The items at two indices, of which `low` comes first.
-    fn pair_at(self, low: usize, high: usize) -> (&'a mut T, &'a mut T)
+    fn pair_in_order(self, low: usize, high: usize) -> (&'a mut T, &'a mut T)
         requires buckets { HasBuckets (items_of self.buckets) self.buckets }
         requires order { low < high }
         requires in_bounds { high < length (items_of self.buckets) }
@@ -50,29 +50,23 @@ impl<'a, T, A: Allocator> ItemsLoan<'a, T, A> {
     {
         let first = StableVec::<T>::place(low);
         let second = StableVec::<T>::place(high);
-        self.pair(first, second)
+        self.pair_of_slots(first, second)
     }
 
     // The items at two indices, in their order.
-    pub(crate) fn disjoint(
-        self,
-        first: usize,
-        second: usize,
-    ) -> Result<(&'a mut T, &'a mut T), ArenaError>
+    pub(crate) fn pair(self, first: usize, second: usize) -> (&'a mut T, &'a mut T)
         requires buckets { HasBuckets (items_of self.buckets) self.buckets }
         requires disjoint { first ≢ second }
         requires first { first < length (items_of self.buckets) }
         requires second { second < length (items_of self.buckets) }
-        ensures items { IfOk result (λ pair.
-            (slice_get (items_of self.entry.buckets) first ≡ Some pair.0.now)
-            × (slice_get (items_of self.entry.buckets) second ≡ Some pair.1.now)) }
-        ensures ok { IsOk result }
+        ensures first { slice_get (items_of self.entry.buckets) first ≡ Some result.0.now }
+        ensures second { slice_get (items_of self.entry.buckets) second ≡ Some result.1.now }
     {
         if first < second {
-            Ok(self.pair_at(first, second))
+            self.pair_in_order(first, second)
         } else {
-            let (low, high) = self.pair_at(second, first);
-            Ok((high, low))
+            let (low, high) = self.pair_in_order(second, first);
+            (high, low)
         }
     }
 }

@@ -1,4 +1,4 @@
--- `two_or` lends two items of a slice, or returns an error and changes nothing. Assumes `Logic`.
+-- `checked_pair` lends two items of a slice, or returns an error and changes nothing. Assumes `Logic`.
 use Rattle.std.proofs.Common.{◌≡◌, ◌≢◌, ◌<◌, List, [], ◌∷◌, length, lit<, slice_get, slice_set, Some, refl, ap, subst, w64, MutBor}
 use Rattle.std.proofs.raw_atomic.Walks.{proved}
 use Rattle.std.specs.Prelude.{Ok, Err}
@@ -42,18 +42,20 @@ use Rattle.std.proofs.VecSteps.Shapes.{after}
 use Rattle.std.specs.contracts.result.Result as Res
 use Rattle.wasmi_arena.specs.contracts.error.ArenaError as Error
 use Rattle.wasmi_arena.specs.declared.error.ArenaError.{ArenaError}
+use Rattle.core.proofs.once.Made.{ok_of, err_of}
 use Rattle.wasmi_arena.proofs.Frame.{let_go, gone}
+use Rattle.wasmi_arena.proofs.Refusals.{error_val, place_of, error_made, pair_val, pair_told}
 use Rattle.wasmi_dense.specs.ArenaPair.{names_if_ok}
-use Rattle.wasmi_dense.specs.contracts.arena.pairs.two_or as F
-use Rattle.wasmi_dense.specs.contracts.arena.pairs.two_of as Two
-use Rattle.wasmi_dense.proofs.arena.pairs.two_of.Met as LendsTwo
-use Rattle.wasmi_dense.proofs.arena.pairs.two_or.Statement.{statement}
-use Rattle.wasmi_dense.proofs.arena.pairs.two_or.Code as code
-use Rattle.wasmi_dense.proofs.PairLoans.{ok_made, err_made, error_made, place_of, Reads, Outside, Alike, Errors, Told, told_outside, told_alike, told_lent}
+use Rattle.wasmi_dense.specs.contracts.arena.pairs.checked_pair as F
+use Rattle.wasmi_dense.specs.contracts.arena.pairs.pair as Two
+use Rattle.wasmi_dense.proofs.arena.pairs.pair.Met as LendsTwo
+use Rattle.wasmi_dense.proofs.arena.pairs.checked_pair.Statement.{statement}
+use Rattle.wasmi_dense.proofs.arena.pairs.checked_pair.Code as code
+use Rattle.wasmi_dense.proofs.PairLoans.{Reads, Outside, Alike, Errors, Told, told_outside, told_alike, told_lent}
 
-pub two_or_spec : {M : Type 1} → statement M
+pub checked_pair_spec : {M : Type 1} → statement M
 unfolding both_if_by
-two_or_spec 𝓤 𝓛 𝓜 𝓡 wired X LX =
+checked_pair_spec 𝓤 𝓛 𝓜 𝓡 wired X LX =
     let args : Args = layouts (a_type ∷ []) (X, tt) in
     let call = F.ended X in let c = F.clauses X 𝓛 𝓜.mem 𝓡.returns in
     let Item = param 0 X in let Items = Array Item 0 in
@@ -78,11 +80,11 @@ two_or_spec 𝓤 𝓛 𝓜 𝓡 wired X LX =
     use0 𝓛 (raw (fact 𝓤 (Outside items one other r))) (fact_i 𝓤 _ (emp 𝓤) told.1) $ use0 𝓛 (raw (fact 𝓤 (Reads items one other r))) (fact_i 𝓤 _ (emp 𝓤) told.0) $
     use0 𝓛 (‵ (let_go 3)) (gone 𝓛 3) $ move ! (7 ∷ 0 ∷ 6 ∷ []) $ group ! 3 $ move ! (0 ∷ 5 ∷ []) $ done ! in
     let refuse : (e : ArenaError) → Told items one other (Err e)
-    → Sq 𝓛 (‵ kept ∷ alive ∷ []) (prop (W.post y (live 1 (of_list (live (place_of e) (of_list []) ∷ []))))) = λ e told.
-    let w = live (place_of e) (of_list []) in
+    → Sq 𝓛 (‵ kept ∷ alive ∷ []) (prop (W.post y (live 1 (of_list (error_val (place_of e) ∷ []))))) = λ e told.
+    let w = error_val (place_of e) in
     fsplit3 ! $ keep ! (1 ∷ 3 ∷ []) $ rewrite ! 0 (λ (l : List X.Denot). ‵ (fobs γ (Items.coded.code l))) (heres_id Item items) refl $
     use1 𝓛 (‵ (fres γ (Items.coded.code items))) (𝓛.names.obs-res γ (Items.coded.code items)) $
-    use0 𝓛 (‵ (Error.the_row.own_val e (w ∷ []))) (error_made 𝓛 e) $ use1 𝓛 (‵ (Answer.own_val (Err e) (live 1 (of_list (w ∷ [])) ∷ []))) (err_made 𝓛 Pair Error.the_row e w) $
+    use0 𝓛 (‵ (Error.the_row.own_val e (w ∷ []))) (error_made 𝓛 e) $ use1 𝓛 (‵ (Answer.own_val (Err e) (live 1 (of_list (w ∷ [])) ∷ []))) (err_of 𝓛 Pair Error.the_row e w) $
     move ! (1 ∷ 0 ∷ []) $ out (Err e) (live 1 (of_list (w ∷ []))) told in
     qed 𝓛 ((alive ⊛ ‵ kept ⊛ ‵ (usize.own_val one (uint_vals w64 one)) ⊛ ‵ (usize.own_val other (uint_vals w64 other)) ⊛ ‵ ftrue)
     ∷ (raw (fact 𝓤 (κs.1.0 ⊑ X.lives)) ⊛ ‵ ftrue) ∷ []) ∵
@@ -118,7 +120,7 @@ two_or_spec 𝓤 𝓛 𝓜 𝓡 wired X LX =
     use0 𝓛 (raw (fact 𝓤 (one ≢ other))) (fact_i 𝓤 _ (emp 𝓤) apart) $ use0 𝓛 (raw (fact 𝓤 (other < n))) (fact_i 𝓤 _ (emp 𝓤) other_in) $ join ! $
     use0 𝓛 (raw (fact 𝓤 (one < n))) (fact_i 𝓤 _ (emp 𝓤) one_in) $ join ! $ use0 𝓛 (raw (fact 𝓤 (κs.1.0 ⊑ X.lives))) (fact_i 𝓤 _ (emp 𝓤) in_X) $ join ! $
     move ! (1 ∷ 0 ∷ []) $ use2 𝓛 (raw (G.pre z)) (id⊢ 𝓤 _) $
-    calls_at ! (framed 𝓤 𝓛.H 𝓜 𝓣) G (LendsTwo.met 𝓤 𝓛 𝓜 𝓡 (code.calls-wasmi_dense::arena::pairs::two_of 𝓡.env wired) X LX) z
+    calls_at ! (framed 𝓤 𝓛.H 𝓜 𝓣) G (LendsTwo.met 𝓤 𝓛 𝓜 𝓡 (code.calls-wasmi_dense::arena::pairs::pair 𝓡.env wired) X LX) z
     (and_then ! (get ! refl) (and_then ! (get ! refl) (and_then ! (get ! refl) (no_more !)))) (λ v.
     use1 𝓛 (later (some (λ (r : MutBor X.Denot × MutBor X.Denot). (alive ⊛ ‵ (Pair.own_val r (v ∷ []))) ⊛
     some (λ (ws : Unit {0} × (Unit {0} × (Unit {0} × Unit {0}))). ‵ (lasts (Two.ended X) κs a ws) ⊛ ‵ (follows_both Items Item Item γ r.0.ghost_name r.1.ghost_name (λ x y. slice_set (slice_set items one x) other y))
@@ -126,9 +128,8 @@ two_or_spec 𝓤 𝓛 𝓜 𝓡 wired X LX =
     await ! tt $ pick ! (λ r. split ! $ split ! $ move ! (2 ∷ []) $ pick ! (λ ws. split3 ! $ drop ! $ move ! (1 ∷ []) $ split ! $ heard ! _ (λ first. heard ! _ (λ second. move ! (2 ∷ []) $
     -- [the pair; what the slice is afterwards; the tokens]
     peeks ! Pair _ (shows 𝓛 Pair) r (v ∷ []) (λ seen.
-    let pair = vstruct (vcons (vptr r.0.ref_ptr.0 r.0.ref_ptr.1) (vcons (vptr r.1.ref_ptr.0 r.1.ref_ptr.1) vnil)) in let Tells-Ref = mut_Tells (named 0) κ Item in
-    let e : v ≡ pair = ap only (Struct-Tells (Declared.shape (tuple_type (Ref ∷ Ref ∷ []))) (mut_vals, (mut_vals, tt)) (Tells-Ref, (Tells-Ref, tt)) (r.0, (r.1, tt)) (v ∷ []) seen) in
+    let pair = pair_val r in let e : v ≡ pair = pair_told κ Item r v seen in
     lands_as ! e refl (tt, (tt, (tt, tt))) $ rewrite ! 0 (λ (w : Val). ‵ (Pair.own_val r (w ∷ []))) e refl $
     sets ! (agg ! (and_then ! (lit ! tt) (and_then ! (get ! refl) (no_more !)))) refl (tt, (record { fits = lit< tt }, ((tt, (tt, tt)), tt))) $
-    returns ! (look_at ! 0 refl) $ free_all ! refl $ use1 𝓛 (‵ (Answer.own_val (Ok r) (live 0 (of_list (pair ∷ [])) ∷ []))) (ok_made 𝓛 Pair Error.the_row r pair) $ move ! (1 ∷ 0 ∷ []) $
+    returns ! (look_at ! 0 refl) $ free_all ! refl $ use1 𝓛 (‵ (Answer.own_val (Ok r) (live 0 (of_list (pair ∷ [])) ∷ []))) (ok_of 𝓛 Pair Error.the_row r pair) $ move ! (1 ∷ 0 ∷ []) $
     out (Ok r) (live 0 (of_list (pair ∷ []))) (told_lent items one other one_in other_in apart r first second)))))))))))))
