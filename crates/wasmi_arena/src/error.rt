@@ -21,7 +21,7 @@ pub enum ArenaError {
 }
 
 impl ArenaError {
-    /// What `Display` writes.
+    /// What `Display` writes. Constant time.
     pub fn text(&self) -> &'static str
         ensures { result.now ≡ text_of self.now }
     {

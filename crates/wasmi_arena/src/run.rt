@@ -58,11 +58,12 @@ fn perform<Key: ArenaKey, T: Drop, S: AnyArena<Key, T>>(
     }
 }
 
-/// Makes the calls that the commands ask for, one after the other, and returns one reply for each.
+/// Makes the calls that the commands ask for, one after the other, and returns one reply for each. The
+/// cost is that of the calls.
 ///
 /// A refused command is replied to as `Refused`, and the run goes on. Memory for all replies is asked
-/// of `alloc` before the first command. Where it gives none the run fails with `OutOfSystemMemory`:
-/// no command ran, and the commands are dropped.
+/// of `alloc` before the first command. If there is none, the run fails with `OutOfSystemMemory`: no
+/// command ran, and the commands are dropped.
 pub fn run_arena<Key: ArenaKey, T: Drop, S: AnyArena<Key, T>, B: Allocator>(
     alloc: B,
     arena: &mut S,

@@ -50,7 +50,7 @@ impl<Key: ArenaKey, T, A: Allocator> StableArena<Key, T, A> {
     ghost use Rattle.wasmi_arena.specs.IterMut.{left, loan_of, KeepsLength};
     ghost use Rattle.wasmi_arena.specs.Table.{HasBuckets};
 
-    /// An empty arena, which asks `alloc` for memory when a bucket is opened.
+    /// An empty arena, which asks `alloc` for memory when a bucket is opened. Constant time, no allocation.
     pub fn new(alloc: A) -> Self
         ensures { result ≡ [] }
     {
@@ -201,14 +201,14 @@ impl<Key: ArenaKey, T, A: Allocator> StableArena<Key, T, A> {
         self.items.room()
     }
 
-    /// The vector that keeps the items.
+    /// The vector that keeps the items. Constant time.
     pub fn items(&self) -> &StableVec<T, A>
         ensures { result.now ≡ self.now }
     {
         &self.items
     }
 
-    /// Each key with its item, in order.
+    /// Each key with its item, in order. Constant time for each step.
     pub fn iter(&self) -> StableArenaIter<'_, Key, T, A>
         ensures entries { result ≡ entries Key.keys self.now }
         ensures len { length result ≡ length self.now }
@@ -232,7 +232,7 @@ impl<Key: ArenaKey, T, A: Allocator> StableArena<Key, T, A> {
         }
     }
 
-    /// Each key with its item to write, in order.
+    /// Each key with its item to write, in order. Constant time for each step.
     ///
     /// The arena keeps its length and its buckets, also where the iterator is left early.
     pub fn iter_mut(&mut self) -> StableArenaIterMut<'_, Key, T, A>

@@ -165,7 +165,7 @@ impl<T> StableVec<T> {
 impl<T, A: Allocator> StableVec<T, A> {
     ghost use Rattle.wasmi_arena.specs.VecLend.{lends_index, lends_get};
 
-    /// An empty vector, which asks `alloc` for memory when a bucket is opened.
+    /// An empty vector, which asks `alloc` for memory when a bucket is opened. Constant time, no allocation.
     pub fn new(alloc: A) -> Self
         ensures { result ≡ [] }
     {
@@ -266,7 +266,7 @@ impl<T, A: Allocator> StableVec<T, A> {
         self.table.buckets.get(bucket)?.as_ref()
     }
 
-    /// The items, in order.
+    /// The items, in order. Constant time for each step.
     pub fn iter(&self) -> StableVecIter<'_, T, A>
         ensures items { result ≡ self.now }
         ensures bound { length self.now ≤ max_len }
@@ -281,7 +281,7 @@ impl<T, A: Allocator> StableVec<T, A> {
         }
     }
 
-    /// The items of each open bucket as a slice, in order.
+    /// The items of each open bucket as a slice, in order. Constant time for each slice.
     pub fn slices(&self) -> StableVecSlices<'_, T, A>
         ensures parts { result ≡ filled_parts self.now }
         ensures bound { length self.now ≤ max_len }
@@ -304,7 +304,7 @@ impl<T, A: Allocator> StableVec<T, A> {
         }
     }
 
-    /// The items of each open bucket as a `&mut` slice, in order.
+    /// The items of each open bucket as a `&mut` slice, in order. Constant time for each slice.
     ///
     /// The vector keeps its length and its buckets, also where the iterator is left early.
     pub fn slices_mut(&mut self) -> StableVecSlicesMut<'_, T, A>
@@ -318,7 +318,7 @@ impl<T, A: Allocator> StableVec<T, A> {
         StableVecSlicesMut::of_open(all, open_buckets)
     }
 
-    /// The items, each to write, in order.
+    /// The items, each to write, in order. Constant time for each step.
     ///
     /// The vector keeps its length and its buckets, also where the iterator is left early.
     pub fn iter_mut(&mut self) -> StableVecIterMut<'_, T, A>

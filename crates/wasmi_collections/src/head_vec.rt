@@ -40,7 +40,8 @@ impl<T, A: Allocator> HeadVec<T, A> {
     ghost use Rattle.std.specs.Borrow.{sem};
     ghost use Rattle.wasmi_collections.specs.HeadVecLend.{lends_last};
 
-    /// An empty list, which asks `alloc` for memory when a second item is pushed.
+    /// An empty list, which asks `alloc` for memory when a second item is pushed. Constant time, no
+    /// allocation.
     pub fn new(alloc: A) -> Self
         ensures { result ≡ [] }
     {
@@ -133,7 +134,7 @@ impl<T, A: Allocator> HeadVec<T, A> {
 }
 
 impl<T: Clone, A: Allocator> HeadVec<T, A> {
-    /// A clone of each item, in order, in a list over a clone of the allocator.
+    /// A clone of each item, in order, in a list over a clone of the allocator. Linear.
     ///
     /// Fails with `OutOfSystemMemory` if there is no memory for the items before the last, or the clone
     /// of an item or of the allocator fails.

@@ -107,7 +107,8 @@ impl<A: Allocator> Model for StringInterner<A> {
 }
 
 impl<A: Allocator> StringInterner<A> {
-    /// An interner without texts, which asks `alloc` for memory when a text comes.
+    /// An interner without texts, which asks `alloc` for memory when a text comes. Constant time, no
+    /// allocation.
     pub fn new(alloc: A) -> Self
     where
         A: Copy,
@@ -137,15 +138,15 @@ impl<A: Allocator> StringInterner<A> {
         self.len() == 0
     }
 
-    /// The symbol of a text, if it is there. It compares at most as many texts as the number of texts has
-    /// binary digits.
+    /// The symbol of a text, if it is there. A binary search, which compares at most as many texts as
+    /// their number has binary digits. No allocation.
     pub fn get(&self, text: &str) -> Option<Sym>
         ensures { result ≡ symbol_of self.now text.now }
     {
         self.get_counted(text, &mut Steps::new())
     }
 
-    /// As [`get`](StringInterner::get), and counts the texts that it compares.
+    /// As [`get`](StringInterner::get), at the same cost, and counts the texts that it compares.
     ///
     /// The counter isn't above 2^63.
     pub fn get_counted(&self, text: &str, steps: &mut Steps) -> Option<Sym>
@@ -163,7 +164,7 @@ impl<A: Allocator> StringInterner<A> {
     /// For a text that is there nothing is copied or allocated, and it isn't refused. For a new one it
     /// fails with `NotEnoughKeys` if there are 2^32 texts, and then with `OutOfSystemMemory` if there is
     /// no memory for it, or the clone of the allocator fails. After an error the interner is as before.
-    /// A search, and for a new text also a step for each 1,024 texts.
+    /// A binary search, and for a new text also a step for each 1,024 texts.
     #[inline]
     pub fn get_or_intern(&mut self, text: &str) -> Result<Sym, ArenaError>
     where
@@ -181,7 +182,7 @@ impl<A: Allocator> StringInterner<A> {
         self.get_or_intern_with_hint(text, InternHint::None)
     }
 
-    /// As [`get_or_intern`](StringInterner::get_or_intern), whatever the hint says.
+    /// As [`get_or_intern`](StringInterner::get_or_intern), at the same cost, whatever the hint says.
     pub fn get_or_intern_with_hint(
         &mut self,
         text: &str,

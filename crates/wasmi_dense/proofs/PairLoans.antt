@@ -38,6 +38,7 @@ use Rattle.wasmi_arena.specs.contracts.error.ArenaError as Error
 use Rattle.wasmi_arena.specs.declared.error.ArenaError.{ArenaError}
 use Rattle.wasmi_arena.specs.Arena.{ArenaState}
 use Rattle.wasmi_arena.specs.Keys.{Keys}
+use Rattle.wasmi_arena.proofs.Refusals.{place_of}
 use Rattle.wasmi_dense.specs.ArenaPair.{with_both}
 
 module _ {M : Type 1} {𝓤 : Ura M} (𝓛 : Logic 𝓤) (R S T U : RattleType) (F : S.Denot → R.Denot) (G : T.Denot → U.Denot → S.Denot) (γ γ' : GName) where

@@ -47,7 +47,7 @@ impl<Key: ArenaKey, T, A: Allocator> Arena<Key, T, A> {
     ghost use Rattle.wasmi_dense.specs.ArenaLend.{lends_get, lends_all};
     ghost use Rattle.wasmi_dense.specs.ArenaLoan.{left_entries, IsKeyed, loan_of};
 
-    /// An empty arena, which asks `alloc` for memory when an item comes.
+    /// An empty arena, which asks `alloc` for memory when an item comes. Constant time, no allocation.
     pub fn new(alloc: A) -> Self
         ensures { result ≡ record { items = []; room = 0 } }
     {
@@ -79,7 +79,7 @@ impl<Key: ArenaKey, T, A: Allocator> Arena<Key, T, A> {
         self.items.capacity() - self.items.len()
     }
 
-    /// Drops all items. The block is kept, and keys begin at 0 again.
+    /// Drops all items. The block is kept, and keys begin at 0 again. Linear, no allocation.
     pub fn clear(&mut self)
     where
         T: Drop,
@@ -89,7 +89,7 @@ impl<Key: ArenaKey, T, A: Allocator> Arena<Key, T, A> {
         self.items.clear();
     }
 
-    /// Makes room for so many more items.
+    /// Makes room for `additional` more items. Linear where the block must grow.
     ///
     /// Fails with `OutOfSystemMemory` if that needs a larger block and there is no memory for it, which
     /// is only where `additional` is above [`room`](Arena::room). After an error the arena is as before.
@@ -232,7 +232,7 @@ impl<Key: ArenaKey, T, A: Allocator> Arena<Key, T, A> {
         key.into_usize() < self.len()
     }
 
-    /// Each key with its item, in order.
+    /// Each key with its item, in order. Constant time for each step.
     pub fn iter(&self) -> Iter<'_, Key, T>
         ensures entries { result ≡ entries Key.keys self.now.items }
         ensures len { length result ≡ length self.now.items }
@@ -245,7 +245,7 @@ impl<Key: ArenaKey, T, A: Allocator> Arena<Key, T, A> {
         }
     }
 
-    /// Each key with its item to write to, in order.
+    /// Each key with its item to write to, in order. Constant time for each step.
     pub fn iter_mut(&mut self) -> IterMut<'_, Key, T>
         ensures* writes_back { sem 𝓛 (lends_all Key.row T.row A.row Key.ArenaKey A.Allocator self.entry (loan_of result)) }
         ensures entries { left_entries Key.keys result ≡ entries Key.keys self.old.items }

@@ -31,7 +31,8 @@ impl<Key, T, A: Allocator> Model for ComponentVec<Key, T, A> {
 }
 
 impl<Key, T, A: Allocator> ComponentVec<Key, T, A> {
-    /// No components, and the extent 0. Asks `alloc` for memory when a component is set.
+    /// No components, and the extent 0. Asks `alloc` for memory when a component is set. Constant time, no
+    /// allocation.
     pub fn new(alloc: A) -> Self
         ensures { result ≡ [] }
     {

@@ -1,5 +1,6 @@
--- What an arena without doubles does with one more text, as what a list of distinct texts does.
-use Rattle.std.proofs.Common.{◌≡◌, ℕ, ◌≤◌, ◌⊎◌, List, [], ◌∷◌, ◌++◌, map, length, Bool, true, false, cond, ltb, Some, None, position, refl, sym, ap, ◌∙◌, inl, inr, arith}
+-- What a deduplicating arena does with one more text, as what a list of distinct texts does.
+use Rattle.std.proofs.Common.{◌≡◌, ℕ, ◌≤◌, List, [], ◌∷◌, ◌++◌, map, length, Bool, true, false, cond, ltb, Some, None, position, refl, sym, ap, ◌∙◌, inl, inr, arith}
+use Rattle.std.specs.Prelude.{◌≢◌, Result, Ok, Err, IfOk, IfErr, OnErr}
 use Rattle.std.specs.List.{position_or_len}
 use Rattle.std.specs.Str.{bytes_eq}
 use Rattle.std.proofs.lemmas.Bool.{lt-ltb}
@@ -9,6 +10,7 @@ use Rattle.wasmi_arena.specs.Keys.{own_keys}
 use Rattle.wasmi_arena.specs.declared.error.ArenaError.{ArenaError}
 use Rattle.wasmi_arena.specs.declared.error.ArenaError.TheVariants.{OutOfSystemMemory, KeyOutOfBounds, NotEnoughKeys, AliasingPairAccess}
 use Rattle.wasmi_collections.specs.Dedup.{DedupState, AllocatesValue, RefusesValue}
+use Rattle.wasmi_script_lib.specs.Replies.{given_reply, number_reply}
 use Rattle.wasmi_script_lib.specs.Distinct.{number_at, number_given, texts_at, with_text}
 
 position_or_len-map : {X Y : Type 0} (f : X → Y) (p : Y → Bool) (xs : List X) → position_or_len p (map f xs) ≡ position_or_len (λ x. p (f x)) xs
@@ -61,10 +63,15 @@ module _ {X : Type 0} (bytes : X → List ℕ) (limit : ℕ) where
         sym (ap (texts_at limit (map bytes old.handed) text) here ∙ ap (λ b. cond b (map bytes old.handed ++ text ∷ []) (map bytes old.handed)) above),
       )
 
-  -- a text is refused for nothing else but memory
-  pub refused-cases : (value : X) (old : DedupState X) (error : ArenaError) → RefusesValue (own_keys limit) same old value error
-      → (error ≡ NotEnoughKeys) ⊎ (error ≡ OutOfSystemMemory)
-  refused-cases value old NotEnoughKeys refused = inl refl
-  refused-cases value old OutOfSystemMemory refused = inr refl
-  refused-cases value old KeyOutOfBounds refused = absurd refused
-  refused-cases value old AliasingPairAccess refused = absurd refused
+  -- what is replied to a text, and what is kept, unless memory ran out
+  pub given-replied : (clones : X → X → Type 0) (word text : List ℕ) (value : X) (given : Result ℕ ArenaError) (old new : DedupState X) → bytes value ≡ text
+      → IfOk given (λ key. AllocatesValue (own_keys limit) same clones old value key new) → IfErr given (RefusesValue (own_keys limit) same old value)
+      → OnErr given (new ≡ old) → given ≢ Err OutOfSystemMemory
+      → (given_reply word given ≡ number_reply word (number_given limit (map bytes old.handed) text)) × (map bytes new.handed ≡ with_text limit (map bytes old.handed) text)
+  given-replied clones word text value (Ok key) old new e ok refused err memory =
+      let told = given-ok clones text value key old new e ok in (sym (ap (number_reply word) told.0), told.1)
+  given-replied clones word text value (Err NotEnoughKeys) old new e ok refused err memory =
+      let told = given-refused text value old e refused in (sym (ap (number_reply word) told.0), ap (λ (state : DedupState X). map bytes state.handed) err ∙ told.1)
+  given-replied clones word text value (Err OutOfSystemMemory) old new e ok refused err memory = absurd (memory refl)
+  given-replied clones word text value (Err KeyOutOfBounds) old new e ok refused err memory = absurd refused
+  given-replied clones word text value (Err AliasingPairAccess) old new e ok refused err memory = absurd refused

@@ -1,5 +1,5 @@
 -- What a script keeps, what it replies to each request, and what it keeps afterwards.
-use Rattle.std.specs.Prelude.{ℕ, List, [], ◌∷◌, ◌^◌, ◌++◌, length, if◌then◌else◌, nat_lt, Option, Some, None, codes, decimal, slice_get}
+use Rattle.std.specs.Prelude.{ℕ, List, [], ◌∷◌, ◌^◌, ◌++◌, length, if◌then◌else◌, nat_lt, Option, Some, None, Result, Ok, Err, codes, decimal, slice_get}
 use Rattle.wasmi_arena.specs.Geometry.{max_len, bucket_of, slot_of, slots}
 use Rattle.wasmi_arena.specs.Errors.{text_of}
 use Rattle.wasmi_arena.specs.declared.error.ArenaError.{ArenaError}
@@ -37,6 +37,11 @@ symbols = 2 ^ 32
 abbrev pub number_reply : List ℕ → Option ℕ → List ℕ
 number_reply word (Some number) = word ++ decimal number
 number_reply word None = error_reply NotEnoughKeys
+
+-- what a call replies that gives a number, after a word, or an error
+abbrev pub given_reply : List ℕ → Result ℕ ArenaError → List ℕ
+given_reply word (Ok number) = word ++ decimal number
+given_reply word (Err error) = error_reply error
 
 -- how many texts each list has, and how many slots the arena has for its own
 abbrev pub counts_reply : Texts → List ℕ

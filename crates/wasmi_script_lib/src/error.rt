@@ -1,3 +1,4 @@
+//! How a script's program fails.
 ghost use Rattle.std.specs.Prelude.{◌≡◌};
 
 use thiserror::Error;
@@ -22,7 +23,7 @@ pub enum ScriptError {
 impl ScriptError {
     ghost use Rattle.wasmi_script_lib.specs.Statuses.{status_of};
 
-    /// The exit status of a program that ends with this error.
+    /// The exit status of a program that ends with this error. Constant time.
     pub fn status(&self) -> u8
         ensures { result ≡ status_of self.now }
     {

@@ -1,3 +1,4 @@
+//! One line of a script.
 ghost use Rattle.std.specs.Prelude.{◌≡◌};
 ghost use Rattle.std.specs.Option.{option_map};
 ghost use Rattle.wasmi_script_lib.specs.Requests.{number_of, request_of};

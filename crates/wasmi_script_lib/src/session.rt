@@ -1,6 +1,7 @@
-ghost use Rattle.std.specs.Prelude.{◌≡◌, ◌+◌, ◌^◌, ◌<◌, ◌++◌, [], IfOk, OnOk, IsOkUnless, string_bytes, codes, decimal};
+//! A script at work: what it keeps and replies.
+ghost use Rattle.std.specs.Prelude.{◌≡◌, ◌≢◌, ◌+◌, ◌^◌, ◌<◌, ◌++◌, [], Err, IfOk, OnOk, IsOkUnless, string_bytes, codes, decimal};
 ghost use Rattle.wasmi_script_lib.specs.Outputs.{line_reply, output_of, texts_after_line};
-ghost use Rattle.wasmi_script_lib.specs.Replies.{no_texts, reply_to, texts_after};
+ghost use Rattle.wasmi_script_lib.specs.Replies.{given_reply, no_texts, reply_to, texts_after};
 ghost use Rattle.wasmi_script_lib.specs.Requests as request;
 
 use crate::line::Line;
@@ -86,8 +87,25 @@ impl Session {
         ensures lines { OnOk result (self.new.lines ≡ self.old.lines) }
         ensures errors { IsOkUnless result ArenaError.OutOfSystemMemory }
     {
-        match self.arena.alloc(String::from_str(alloc, text)?) {
-            Ok(key) => writeln!(self.replies, "key {key}")?,
+        let given = self.arena.alloc(String::from_str(alloc, text)?);
+        self.reply_number("key ", given)
+    }
+
+    /// Replies the number that a text was given, after a word, or why it was given none. Running out of
+    /// memory ends the script.
+    fn reply_number(
+        &mut self,
+        word: &str,
+        given: Result<usize, ArenaError>,
+    ) -> Result<(), ArenaError>
+        ensures texts { OnOk result (texts_of self.new ≡ texts_of self.old) }
+        ensures reply { OnOk result (AddsReply self.old self.new (given_reply word.now given)) }
+        ensures lines { OnOk result (self.new.lines ≡ self.old.lines) }
+        ensures memory { OnOk result (given ≢ Err ArenaError.OutOfSystemMemory) }
+        ensures errors { IsOkUnless result ArenaError.OutOfSystemMemory }
+    {
+        match given {
+            Ok(number) => writeln!(self.replies, "{word}{number}")?,
             Err(ArenaError::OutOfSystemMemory) => return Err(ArenaError::OutOfSystemMemory),
             Err(error) => writeln!(self.replies, "error {}", error.text())?,
         }
@@ -145,12 +163,8 @@ impl Session {
         ensures lines { OnOk result (self.new.lines ≡ self.old.lines) }
         ensures errors { IsOkUnless result ArenaError.OutOfSystemMemory }
     {
-        match self.dedup.alloc(String::from_str(alloc, text)?) {
-            Ok(key) => writeln!(self.replies, "key {key}")?,
-            Err(ArenaError::OutOfSystemMemory) => return Err(ArenaError::OutOfSystemMemory),
-            Err(error) => writeln!(self.replies, "error {}", error.text())?,
-        }
-        Ok(())
+        let given = self.dedup.alloc(String::from_str(alloc, text)?);
+        self.reply_number("key ", given)
     }
 
     /// `i TEXT`: interns a text, and replies its symbol.
@@ -162,12 +176,8 @@ impl Session {
         ensures lines { OnOk result (self.new.lines ≡ self.old.lines) }
         ensures errors { IsOkUnless result ArenaError.OutOfSystemMemory }
     {
-        match self.interner.get_or_intern(text) {
-            Ok(symbol) => writeln!(self.replies, "sym {}", symbol.into_u32())?,
-            Err(ArenaError::OutOfSystemMemory) => return Err(ArenaError::OutOfSystemMemory),
-            Err(error) => writeln!(self.replies, "error {}", error.text())?,
-        }
-        Ok(())
+        let given = self.interner.get_or_intern(text).map(Sym::into_usize);
+        self.reply_number("sym ", given)
     }
 
     /// `r N`: replies the text of a symbol.

@@ -13,8 +13,8 @@ use std::marker::PhantomData;
 use std::ops::Range;
 
 impl<Key: ArenaKey, T: Drop, A: Allocator + Clone> StableArena<Key, T, A> {
-    /// Puts so many values of `T::default()` at the end, and returns their keys: those from the old
-    /// length to before the new one.
+    /// Puts `amount` values of `T::default()` at the end, and returns their keys: those from the old
+    /// length to before the new one. Linear in `amount`.
     ///
     /// Fails with `NotEnoughKeys` if the new length has no key or is above
     /// [`MAX_LEN`](crate::MAX_LEN), and then with `OutOfSystemMemory` if buckets must be opened, which
@@ -48,7 +48,7 @@ impl<Key: ArenaKey, T: Drop, A: Allocator + Clone> StableArena<Key, T, A> {
         Ok(start..end)
     }
 
-    /// The items, put one by one into an empty arena.
+    /// The items, put one by one into an empty arena. Linear.
     ///
     /// Fails as the first [`alloc`](StableArena::alloc) that fails, and then drops all items.
     pub fn from_iter<U: IntoIterator<Item = T>>(alloc: A, iter: U) -> Result<Self, ArenaError>
@@ -68,7 +68,7 @@ impl<Key: ArenaKey, T: Drop, A: Allocator + Clone> StableArena<Key, T, A> {
 }
 
 impl<Key: ArenaKey, T: Clone, A: Allocator> StableArena<Key, T, A> {
-    /// A clone of each item, under its key, in an arena over a clone of the allocator.
+    /// A clone of each item, under its key, in an arena over a clone of the allocator. Linear.
     ///
     /// Fails with `OutOfSystemMemory` if there is no memory for a bucket, or the clone of an item or of
     /// the allocator fails.
@@ -87,7 +87,7 @@ impl<Key: ArenaKey, T: Clone, A: Allocator> StableArena<Key, T, A> {
         })
     }
 
-    /// A clone of each item, under its key, in an arena over `alloc`.
+    /// A clone of each item, under its key, in an arena over `alloc`. Linear.
     ///
     /// Fails with `OutOfSystemMemory` if there is no memory for a bucket, or the clone of an item or of
     /// the allocator fails.

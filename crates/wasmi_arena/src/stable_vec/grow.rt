@@ -28,7 +28,7 @@ impl<T: Drop, A: Allocator + Clone> StableVec<T, A> {
         Ok(())
     }
 
-    /// The items, pushed one by one into an empty vector.
+    /// The items, pushed one by one into an empty vector. Linear.
     ///
     /// Fails as the first [`push`](StableVec::push) that fails, and then drops all items.
     pub fn from_iter<U: IntoIterator<Item = T>>(alloc: A, iter: U) -> Result<Self, ArenaError>
@@ -46,7 +46,7 @@ impl<T: Drop, A: Allocator + Clone> StableVec<T, A> {
 }
 
 impl<T: Clone, A: Allocator> StableVec<T, A> {
-    /// A clone of each item, in order, in a vector over a clone of the allocator.
+    /// A clone of each item, in order, in a vector over a clone of the allocator. Linear.
     ///
     /// Fails with `OutOfSystemMemory` if there is no memory for a bucket, or the clone of an item or of
     /// the allocator fails.
@@ -62,7 +62,7 @@ impl<T: Clone, A: Allocator> StableVec<T, A> {
         self.clone_in(self.alloc.clone()?)
     }
 
-    /// A clone of each item, in order, in a vector over `alloc`.
+    /// A clone of each item, in order, in a vector over `alloc`. Linear.
     ///
     /// Fails with `OutOfSystemMemory` if there is no memory for a bucket, or the clone of an item or of
     /// the allocator fails.

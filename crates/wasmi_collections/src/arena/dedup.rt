@@ -50,7 +50,7 @@ impl<Key: ArenaKey, T: Eq + Hash, A: Allocator> DedupArena<Key, T, A> {
     ghost use Rattle.wasmi_collections.specs.DedupLend.{lends_get, lends_all};
     ghost use Rattle.wasmi_dense.specs.ArenaLoan.{left_entries, IsKeyed, loan_of};
 
-    /// An empty arena, which asks `alloc` for memory when a value comes.
+    /// An empty arena, which asks `alloc` for memory when a value comes. Constant time, no allocation.
     pub fn new(alloc: A) -> Self
     where
         A: Copy,
@@ -79,7 +79,7 @@ impl<Key: ArenaKey, T: Eq + Hash, A: Allocator> DedupArena<Key, T, A> {
         self.items.is_empty()
     }
 
-    /// The values handed in, each beside its key, and nothing else.
+    /// The values handed in, each beside its key, and nothing else. Constant time.
     pub fn index(&self) -> &Map<T, Key, FixedState, A>
         ensures entries { IsPermutation (keyed Key.keys self.now.handed) result.now.entries }
         ensures finds { (value : T) → value_at T.eq result.now.entries value
@@ -88,7 +88,7 @@ impl<Key: ArenaKey, T: Eq + Hash, A: Allocator> DedupArena<Key, T, A> {
         &self.index
     }
 
-    /// Drops all items and all values handed in. Keys begin at 0 again.
+    /// Drops all items and all values handed in. Keys begin at 0 again. Linear, no allocation.
     pub fn clear(&mut self)
     where
         T: Drop,
@@ -128,7 +128,7 @@ impl<Key: ArenaKey, T: Eq + Hash, A: Allocator> DedupArena<Key, T, A> {
     }
 
     /// The values, handed in one by one to an empty arena, each of which [`alloc`](DedupArena::alloc)
-    /// gives a key.
+    /// gives a key. Expected linear time.
     ///
     /// Fails as the first `alloc` that fails, and then drops all of them.
     pub fn from_iter<U: IntoIterator<Item = T>>(alloc: A, iter: U) -> Result<Self, ArenaError>
@@ -173,7 +173,7 @@ impl<Key: ArenaKey, T: Eq + Hash, A: Allocator> DedupArena<Key, T, A> {
         self.items.get_mut(key)
     }
 
-    /// Each key with its item, in order.
+    /// Each key with its item, in order. Constant time for each step.
     pub fn iter(&self) -> Iter<'_, Key, T>
         ensures entries { result ≡ entries Key.keys self.now.items }
         ensures len { length result ≡ length self.now.items }
@@ -182,7 +182,8 @@ impl<Key: ArenaKey, T: Eq + Hash, A: Allocator> DedupArena<Key, T, A> {
         self.items.iter()
     }
 
-    /// Each key with its item to write to, in order. What is written changes the items alone.
+    /// Each key with its item to write to, in order. What is written changes the items alone. Constant
+    /// time for each step.
     pub fn iter_mut(&mut self) -> IterMut<'_, Key, T>
         ensures* writes_back { sem 𝓛 (lends_all Key.row T.row A.row Key.ArenaKey T.Hash A.Allocator self.entry (loan_of result)) }
         ensures entries { left_entries Key.keys result ≡ entries Key.keys self.old.items }

@@ -54,11 +54,12 @@ fn perform<T: Drop, S: AnySet<T>>(set: &mut S, command: SetCommand<T>) -> SetRep
     }
 }
 
-/// Makes the calls that the commands ask for, one after the other, and returns one reply for each.
+/// Makes the calls that the commands ask for, one after the other, and returns one reply for each. The
+/// cost is that of the calls.
 ///
 /// A refused command is replied to as `Refused`, and the run goes on. Memory for all replies is asked
-/// of `alloc` before the first command. Where it gives none the run fails with `OutOfSystemMemory`:
-/// no command ran, and the commands are dropped.
+/// of `alloc` before the first command. If there is none, the run fails with `OutOfSystemMemory`: no
+/// command ran, and the commands are dropped.
 pub fn run_set<T: Drop, S: AnySet<T>, B: Allocator>(
     alloc: B,
     set: &mut S,

@@ -23,7 +23,7 @@ pub trait Probe {
         ensures counted { looks self.new ≡ looks self.old + 1 };
 }
 
-/// Searches a list of `len` items by halves.
+/// A binary search in a list of `len` items, without allocation.
 ///
 /// Returns the place of the item that is `Equal`, or as an error the place where it belongs: the number
 /// of items that are `Less`. It looks at most as often as `len` has binary digits, so at 10 items of

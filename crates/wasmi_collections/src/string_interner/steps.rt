@@ -18,21 +18,21 @@ impl Model for Steps {
 }
 
 impl Steps {
-    /// A counter at zero.
+    /// A counter at zero. Constant time.
     pub fn new() -> Self
         ensures { result ≡ 0 }
     {
         Steps { count: 0 }
     }
 
-    /// How many steps were counted.
+    /// How many steps were counted. Constant time.
     pub fn count(&self) -> u64
         ensures { result ≡ self.now }
     {
         self.count
     }
 
-    /// Counts one more step.
+    /// Counts one more step, of at most 2^64 - 1. Constant time.
     pub fn tick(&mut self)
         requires { self.old < 2 ^ 64 - 1 }
         ensures { self.new ≡ self.old + 1 }

@@ -44,8 +44,8 @@ fn push_defaults<T: Default, A: Allocator>(
 }
 
 impl<Key: ArenaKey, T: Drop, A: Allocator> Arena<Key, T, A> {
-    /// Puts so many values of `T::default()` at the end, and returns their keys: those from the old
-    /// length to before the new one.
+    /// Puts `amount` values of `T::default()` at the end, and returns their keys: those from the old
+    /// length to before the new one. Linear in `amount`, and in the length where the vector must grow.
     ///
     /// Fails with `NotEnoughKeys` if the new length is above `usize::MAX` or has no key, and then with
     /// `OutOfSystemMemory` if the vector must grow, which is only where `amount` is above
@@ -75,7 +75,7 @@ impl<Key: ArenaKey, T: Drop, A: Allocator> Arena<Key, T, A> {
         Ok(start..end)
     }
 
-    /// The items, put one by one into an empty arena.
+    /// The items, put one by one into an empty arena. Linear.
     ///
     /// Fails as the first [`alloc`](Arena::alloc) that fails, and then drops all items.
     pub fn from_iter<U: IntoIterator<Item = T>>(alloc: A, iter: U) -> Result<Self, ArenaError>

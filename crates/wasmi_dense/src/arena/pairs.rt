@@ -40,7 +40,11 @@ fn pair<T>(items: &mut [T], one: usize, other: usize) -> (&mut T, &mut T)
 }
 
 // Two items of a slice, or why it has no two such items.
-fn checked_pair<T>(items: &mut [T], one: usize, other: usize) -> Result<(&mut T, &mut T), ArenaError>
+fn checked_pair<T>(
+    items: &mut [T],
+    one: usize,
+    other: usize,
+) -> Result<(&mut T, &mut T), ArenaError>
     ensures* writes_back { sem 𝓛 (LendsBothIfOk (Array T.row 0) T.row T.row items.entry result
         (λ x y. slice_set (slice_set items.old one x) other y) items.old) }
     ensures items { IfOk result (λ pair. (slice_get items.old one ≡ Some pair.0.now)

@@ -1,34 +1,20 @@
-use Rattle.std.proofs.Common.{◌≡◌, string_bytes, ap, ◌∙◌, refl, inl, inr, rules}
-use Rattle.wasmi_arena.specs.Errors.{text_of}
-use Rattle.wasmi_script_lib.specs.Replies.{keys}
-use Rattle.wasmi_script_lib.proofs.DistinctLemmas.{given-ok, given-refused, refused-cases}
+use Rattle.std.proofs.Common.{ℕ, List, codes, map, string_bytes, ap, ◌∙◌}
+use Rattle.wasmi_script_lib.specs.declared.session.Session.{Session}
+use Rattle.wasmi_script_lib.specs.Replies.{keys, Texts}
+use Rattle.wasmi_script_lib.proofs.DistinctLemmas.{given-replied}
+use Rattle.wasmi_script_lib.proofs.ReplyLemmas.{OnOk-both}
 use Rattle.wasmi_script_lib.proofs.session.Session.dedup.Goals as goal
 
-pub returns-in_ok-writeln-in-Ok-clause-texts : goal.returns-in_ok-writeln-in-Ok-clause-texts
-returns-in_ok-writeln-in-Ok-clause-texts c =
-    let given = given-ok string_bytes keys _ c.args.text.now c.in_ok-from_str.field-0 c.in-Ok.key c.args.self.now.dedup c.alloc.new.self c.in_ok-from_str.ensures.ok c.in-Ok.ensures.ok in
-    rw given.1
+-- the texts of a session, with these for those of `d`
+abbrev with_deduped : Session → List (List ℕ) → Texts
+with_deduped session texts = record { kept = map string_bytes session.arena; deduped = texts; interned = session.interner }
 
-pub returns-in_ok-writeln-in-Ok-clause-reply : goal.returns-in_ok-writeln-in-Ok-clause-reply
-returns-in_ok-writeln-in-Ok-clause-reply c =
-    let given = given-ok string_bytes keys _ c.args.text.now c.in_ok-from_str.field-0 c.in-Ok.key c.args.self.now.dedup c.alloc.new.self c.in_ok-from_str.ensures.ok c.in-Ok.ensures.ok in
-    rw given.0 c.in_ok-writeln-in-Ok.ensures.bytes
+pub returns-clause-texts : goal.returns-clause-texts
+returns-clause-texts c =
+    let alloc = c.alloc-given.ensures in let reply = c.reply_number.ensures in
+    OnOk-both c.reply_number.result (λ same memory. let told = given-replied string_bytes keys _ (codes "key ") c.args.text.now c.in_ok-from_str.field-0 c.alloc-given.result c.args.self.now.dedup c.alloc-given.new.self c.in_ok-from_str.ensures.ok alloc.ok alloc.refused alloc.err memory in same ∙ ap (with_deduped c.args.self.now) told.1) reply.texts reply.memory
 
-pub returns-in_ok-writeln-in-Err : goal.returns-in_ok-writeln-in-Err
-returns-in_ok-writeln-in-Err c =
-    let old = c.args.self.now.dedup in
-    let value = c.in_ok-from_str.field-0 in
-    let refused = c.in-Err.ensures.refused in
-    elim (refused-cases string_bytes keys value old c.in-Err.error refused) [
-      | inl none_left ↦
-          let given = given-refused string_bytes keys c.args.text.now value old c.in_ok-from_str.ensures.ok (rw none_left at refused) in
-          let same : c.alloc.new.self ≡ old = c.in-Err.ensures.err in
-          let text = c.text.ensures ∙ ap text_of none_left in
-          record {
-            texts = rw (same, ← given.1);
-            reply = rw given.0 (rw text at c.in_ok-writeln-in-Err.ensures.bytes);
-            lines = refl;
-            errors = tt;
-          }
-      | inr memory ↦ search rules
-    ]
+pub returns-clause-reply : goal.returns-clause-reply
+returns-clause-reply c =
+    let alloc = c.alloc-given.ensures in let reply = c.reply_number.ensures in
+    OnOk-both c.reply_number.result (λ added memory. let told = given-replied string_bytes keys _ (codes "key ") c.args.text.now c.in_ok-from_str.field-0 c.alloc-given.result c.args.self.now.dedup c.alloc-given.new.self c.in_ok-from_str.ensures.ok alloc.ok alloc.refused alloc.err memory in rw (← told.0) added) reply.reply reply.memory
