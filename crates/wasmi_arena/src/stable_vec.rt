@@ -225,7 +225,7 @@ impl<T, A: Allocator> StableVec<T, A> {
             return None;
         }
         let (bucket, slot) = StableVec::<T>::place(index);
-        // By the slice, since an array of buckets may be of any size.
+        // proof: by the slice, since an index into the array asks for the size of all of it.
         let buckets = &self.table.buckets[..];
         match &buckets[bucket] {
             Some(open) => Some(&open.slice()[slot]),
@@ -239,7 +239,7 @@ impl<T, A: Allocator> StableVec<T, A> {
         ensures* writes_back { sem 𝓛 (lends_index T.row A.row A.Allocator self.entry index result) }
         ensures value { slice_get self.old index ≡ Some result.now }
     {
-        // An index of an item has a place: the table says so.
+        // proof: an index of an item has a place, which the invariant of the table tells.
         let _ = &self.table;
         let (bucket, slot) = StableVec::<T>::place(index);
         let found = self.table.bucket_mut(bucket);

@@ -73,7 +73,7 @@ impl<T, A: Allocator> StableVec<T, A> {
         requires in_bounds { high < length self.old }
         ensures { self.new ≡ swap self.old low high }
     {
-        // An index of an item has a place: the table says so.
+        // proof: an index of an item has a place, which the invariant of the table tells.
         let _ = &self.table;
         let first = StableVec::<T>::place(low);
         let second = StableVec::<T>::place(high);

@@ -53,6 +53,7 @@ pub(super) fn find<A: Allocator>(
     ensures few_steps { steps.new ≤ steps.old + digits (length texts.now.items) }
     ensures some_steps { 0 < length texts.now.items → steps.old < steps.new }
 {
+    // proof: the probe owns its counter, since a `&mut` in it would lend what `search` gives back.
     let mut probe = TextProbe {
         index,
         texts,
