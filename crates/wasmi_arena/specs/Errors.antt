@@ -1,9 +1,9 @@
--- The texts of the refusals.
+-- The texts of the errors.
 use Rattle.std.specs.Prelude.{ℕ, List, codes}
 use Rattle.wasmi_arena.specs.declared.error.ArenaError.{ArenaError}
 use Rattle.wasmi_arena.specs.declared.error.ArenaError.TheVariants.{OutOfSystemMemory, KeyOutOfBounds, NotEnoughKeys, AliasingPairAccess}
 
--- what each refusal says, in bytes
+-- what each error says, in bytes
 abbrev pub text_of : ArenaError → List ℕ
 text_of OutOfSystemMemory = codes "ran out of system memory"
 text_of KeyOutOfBounds = codes "encounteded out of bounds key"

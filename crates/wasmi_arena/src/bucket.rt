@@ -39,7 +39,7 @@ impl<T, A: Allocator> Model for Bucket<T, A> {
 impl<T, A: Allocator> Bucket<T, A> {
     ghost use Rattle.wasmi_arena.specs.BucketLend.{lends_items, lends_item};
 
-    // An empty bucket of so many slots, in one block that it asks of `alloc`, which it keeps. Nothing is
+    // An empty bucket of `capacity` slots, in one block that it asks of `alloc`, which it keeps. Nothing is
     // asked for where the items take no memory.
     pub(crate) fn open(alloc: A, capacity: usize) -> Result<Self, AllocError>
         requires { (0 < capacity) × (capacity < 2 ^ 63) }

@@ -114,14 +114,14 @@ pub fn one_answer<Key: ArenaKey, T, S: AnyArena<Key, T>, U: AnyArena<Key, T>>()
         → (replies ≡ others) × ((S.state s_after).items ≡ (U.state u_after).items) }
 {}
 
-/// Two refusals are equal where they are the same.
+/// Two errors are equal where they are the same.
 pub fn equal_errors(a: &ArenaError, b: &ArenaError) -> bool
     ensures { IsTrue result ↔ (a.now ≡ b.now) }
 {
     a == b
 }
 
-/// The clone of a refusal is that refusal, and can't fail.
+/// The clone of an error is that error, and can't fail.
 pub fn clone_of_error(error: &ArenaError) -> Result<ArenaError, AllocError>
     ensures { result ≡ Ok error.now }
 {

@@ -29,7 +29,7 @@ fn keys_have_their_numbers(rt: HostRuntime) -> Result<(), Fail> {
 }
 
 #[test]
-fn texts_of_the_refusals(rt: HostRuntime) -> Result<(), Fail> {
+fn texts_of_the_errors(rt: HostRuntime) -> Result<(), Fail> {
     for (error, text, debug) in [
         (
             ArenaError::OutOfSystemMemory,

@@ -262,7 +262,7 @@ fn allocs<'a, Key: ArenaKey, A: Allocator>(
     Ok(commands)
 }
 
-// Whether the reply to an `Alloc` is this key, or this refusal.
+// Whether the reply to an `Alloc` is this key, or this error.
 fn replies_with<Key: PartialEq + Drop, T>(
     reply: &ArenaReply<Key, T>,
     expected: Result<Key, ArenaError>,

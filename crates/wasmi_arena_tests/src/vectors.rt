@@ -17,7 +17,7 @@ pub fn counted(alloc: Global, len: u32) -> Result<StableVec<u32>, ArenaError> {
     Ok(vec)
 }
 
-// The place of an index, by a walk over the starts of the buckets.
+// The place of an index, by a loop over the starts of the buckets.
 fn place_by_walk(index: usize) -> (usize, usize)
     requires { index < max_len }
     ensures { IsPlace index result.0 result.1 }

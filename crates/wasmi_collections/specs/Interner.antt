@@ -21,8 +21,8 @@ Interns old text symbol new =
     ⊎ ((symbol_of old text ≡ None) × (length old < 2 ^ 32) × (symbol ≡ length old)
     × (new ≡ old ++ text ∷ []))
 
--- A text is refused only where it isn't there: for want of a symbol where there are 2^32 texts, and else
--- for want of memory.
+-- A text is refused only where it isn't there: because no symbol is left, where there are 2^32 texts, and else
+-- because memory ran out.
 abbrev pub RefusesText : List (List ℕ) → List ℕ → ArenaError → Type 0
 RefusesText old text error =
     (symbol_of old text ≡ None)

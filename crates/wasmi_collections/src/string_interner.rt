@@ -83,7 +83,7 @@ impl Sym {
 
 /// A list of distinct texts, each under its position as its symbol.
 ///
-/// An index of the symbols, sorted by [`LenOrder`], finds a text by halves. The texts are kept for the
+/// An index of the symbols, sorted by [`LenOrder`], finds a text by a binary search. The texts are kept for the
 /// life of the interner, so a symbol is good for as long, and is cheaper to copy, compare and store than
 /// its text. There are at most 2^32 texts.
 #[derive(Drop)]

@@ -115,7 +115,7 @@ fn letters(alloc: Global, count: usize) -> Result<StringInterner, ArenaError> {
 }
 
 #[test]
-fn a_search_goes_by_halves(rt: HostRuntime) -> Result<(), Fail> {
+fn a_search_is_binary(rt: HostRuntime) -> Result<(), Fail> {
     for (count, most) in [(0, 0), (1, 1), (2, 2), (3, 2), (4, 3), (7, 3), (8, 4)] {
         let interner = letters(rt.alloc(), count)?;
         assert_equal!(rt; interner.len(), count);

@@ -1,4 +1,4 @@
-//! Searches by halves, in lists that are too long to be kept.
+//! Binary searches, in lists that are too long to be kept.
 ghost use Rattle.std.specs.Prelude.{◌+◌, ◌<◌, ◌^◌};
 
 use std::cmp::Ordering;

@@ -7,7 +7,7 @@ use Rattle.wasmi_arena.specs.declared.error.ArenaError.TheVariants.{KeyOutOfBoun
 use Rattle.wasmi_script_lib.specs.Requests.{Request, Alloc, Get, Place, Count, Dedup, Intern, Resolve}
 use Rattle.wasmi_script_lib.specs.Distinct.{number_given, with_text}
 
--- the texts that a script keeps: in the arena, in the arena without doubles, and in the interner
+-- the texts that a script keeps: in the arena, in the deduplicating arena, and in the interner
 pub record Texts : Type 0 where
   pub kept : List (List ℕ)
   pub deduped : List (List ℕ)
@@ -26,7 +26,7 @@ abbrev pub text_reply : List ℕ → Option (List ℕ) → List ℕ
 text_reply otherwise (Some text) = codes "text " ++ text
 text_reply otherwise None = otherwise
 
--- how many keys the arena without doubles has, and how many symbols the interner
+-- how many keys the deduplicating arena has, and how many symbols the interner
 abbrev pub keys : ℕ
 keys = 2 ^ 64
 

@@ -1,4 +1,4 @@
-//! A script of commands to an arena of texts, an arena without doubles and an interner: each line of the
+//! A script of commands to an arena of texts, a deduplicating arena and an interner: each line of the
 //! input is a command, and gets one line of reply.
 //!
 //! | Line | Reply |
@@ -7,7 +7,7 @@
 //! | `g N` | `text T`, the text of that key; or an error |
 //! | `p N` | `place B S`, the bucket and the slot of the index N; `none` from 4294967264 on |
 //! | `n` | `counts A D I SLOTS`: how many texts are kept, deduplicated and interned, and the arena's slots |
-//! | `d TEXT` | `key N`, the key of the text among those without doubles; or an error |
+//! | `d TEXT` | `key N`, the key of the text in the deduplicating arena; or an error |
 //! | `i TEXT` | `sym N`, the symbol of the text; or an error |
 //! | `r N` | `text T`, the text of that symbol, or `none` |
 //! | anything else | `bad line N`, the number of the line, from 1 |

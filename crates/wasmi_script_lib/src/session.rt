@@ -13,8 +13,8 @@ use wasmi_collections::string_interner::{StringInterner, Sym};
 /// The replies to all lines of a script, in order, each ended by a line feed.
 ///
 /// Each line is read once. A text of `a` or `d` is copied once, a new one of `d` once more, and a new one of
-/// `i` once. Expected time is linear in the text and the replies, but for `i`: a text of it is searched by
-/// halves, and a new one takes a step more for each 1,024 texts interned before. The only error is running
+/// `i` once. Expected time is linear in the text and the replies, but for `i`: a binary search finds a
+/// text of it, and a new one takes a step more for each 1,024 texts interned before. The only error is running
 /// out of memory.
 pub fn answer(alloc: Global, text: &str) -> Result<String, ArenaError>
     ensures output { IfOk result (λ output. string_bytes output ≡ output_of text.now) }

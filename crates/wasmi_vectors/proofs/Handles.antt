@@ -1,4 +1,4 @@
--- What the walks of the handle's `Allocator` share. Assumes `Logic`.
+-- What the proofs of the handle's `Allocator` share. Assumes `Logic`.
 --     handle          the parameter `&self`
 --     HandleRef, HeapRef     what a `&` to a handle owns, and a `&` to a heap
 --     again           a `&` to a handle can be had twice

@@ -11,7 +11,7 @@ use crate::{ArenaError, Bucket, BucketTable, StableVec};
 use std::alloc::Allocator;
 use std::array;
 
-// How many buckets have room for so many items.
+// How many buckets have room for `len` items.
 fn buckets_for(len: usize) -> usize
     requires { len ≤ max_len }
     ensures { result ≡ fewest len }
@@ -75,7 +75,7 @@ impl<T: Drop, A: Allocator + Clone> StableVec<T, A> {
 }
 
 impl<T: Default + Drop, A: Allocator + Clone> StableVec<T, A> {
-    // Pushes so many values of `T::default()`, with the buckets in `apart`.
+    // Pushes `amount` values of `T::default()`, with the buckets in `apart`.
     fn fill_from(&mut self, apart: &mut [Option<Bucket<T, A>>], amount: usize)
         requires below { length self.old + amount ≤ max_len }
         requires apart { AreOpenApart apart.old (fewest (length self.old)) (fewest (length self.old + amount)) }
@@ -93,7 +93,7 @@ impl<T: Default + Drop, A: Allocator + Clone> StableVec<T, A> {
         }
     }
 
-    // Pushes so many values of `T::default()`, or none.
+    // Pushes `amount` values of `T::default()`, or none.
     //
     // The buckets that they need are opened first, apart from the vector's own, so that after an error the
     // vector is as before.

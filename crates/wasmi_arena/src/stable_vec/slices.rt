@@ -10,7 +10,7 @@ use std::slice;
 /// The buckets of a [`StableVec`](crate::StableVec) that are left to visit, each as the slice of its
 /// items, in order, from both ends.
 ///
-/// A walk over all items costs what a walk over at most 27 slices costs.
+/// All items cost what at most 27 slices cost.
 #[derive(Drop)]
 pub struct StableVecSlices<'a, T, A: Allocator = Global> {
     // Each has an item.

@@ -13,7 +13,7 @@ use std::marker::Model;
 /// The buckets of a [`StableVec`](crate::StableVec) that are left to visit, each as the `&mut` slice of
 /// its items, in order, from both ends.
 ///
-/// A walk over all items costs what a walk over at most 27 slices costs.
+/// All items cost what at most 27 slices cost.
 #[derive(Drop)]
 pub struct StableVecSlicesMut<'a, T, A: Allocator = Global> {
     // The buckets that are left, each with an item. It is `None` only while a bucket is cut off.

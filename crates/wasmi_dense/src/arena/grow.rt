@@ -13,7 +13,7 @@ use std::marker::PhantomData;
 use std::ops::Range;
 use wasmi_arena::{ArenaError, ArenaKey};
 
-// A vector that has room for so many values of `T::default()`, with these at its end.
+// A vector that has room for `amount` values of `T::default()`, with these at its end.
 //
 // It is taken by value, so that its length and its pointer stay in registers while it is filled.
 fn with_defaults<T: Default, A: Allocator>(mut items: Vec<T, A>, amount: usize) -> (Vec<T, A>, ())
@@ -24,10 +24,11 @@ fn with_defaults<T: Default, A: Allocator>(mut items: Vec<T, A>, amount: usize) 
     for _ in 0..amount {
         items.push_reserved(T::default());
     }
+    // `replace_with` hands the second on.
     (items, ())
 }
 
-// Puts so many values of `T::default()` at the end of a vector, or leaves it as it is where it can't grow.
+// Puts `amount` values of `T::default()` at the end of a vector, or leaves it as it is where it can't grow.
 fn push_defaults<T: Default, A: Allocator>(
     items: &mut Vec<T, A>,
     amount: usize,
