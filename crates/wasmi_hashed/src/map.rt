@@ -238,6 +238,7 @@ impl<K: Eq + Hash, V, S: BuildHasher, A: Allocator> Map<K, V, S, A> {
     }
 
     // The map of the standard library, lent.
+    // proof: a call of its own, so that only the call above it is proved by hand.
     #[inline]
     fn inner_mut(&mut self) -> &mut HashMap<K, V, S, A>
         ensures* lends { sem 𝓛 (lends_inner K.row V.row S.row A.row S.Hasher.row K.Hash S.BuildHasher S.Hasher.Hasher A.Allocator self.entry result) }

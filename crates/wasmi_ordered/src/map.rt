@@ -217,6 +217,7 @@ impl<K: Hash + Ord, V, A: Allocator> Map<K, V, A> {
     }
 
     // The map of the standard library, lent.
+    // proof: a call of its own, so that only the call above it is proved by hand.
     #[inline]
     fn inner_mut(&mut self) -> &mut BTreeMap<K, V, A>
         ensures* lends { sem 𝓛 (lends_inner K.row V.row A.row (record { hash_input = K.hash_input }) K.Ord A.Allocator self.entry result) }

@@ -36,7 +36,7 @@ pub enum Entry<'a, K: Eq + Hash, V, S: BuildHasher = FixedState, A: Allocator = 
 #[derive(Drop)]
 pub struct OccupiedEntry<'a, K: Eq + Hash, V, S: BuildHasher = FixedState, A: Allocator = Global> {
     entry: hash_map::OccupiedEntry<'a, K, V, S, A>,
-    // Without bytes. It lets proofs of callers use the place up (docs/DECISIONS.md).
+    // proof: without bytes; it lets callers use the place up (docs/DECISIONS.md).
     lent: PhantomData<&'a ()>,
 }
 
@@ -44,7 +44,7 @@ pub struct OccupiedEntry<'a, K: Eq + Hash, V, S: BuildHasher = FixedState, A: Al
 #[derive(Drop)]
 pub struct VacantEntry<'a, K: Eq + Hash, V, S: BuildHasher = FixedState, A: Allocator = Global> {
     entry: hash_map::VacantEntry<'a, K, V, S, A>,
-    // Without bytes. It lets proofs of callers use the place up (docs/DECISIONS.md).
+    // proof: without bytes; it lets callers use the place up (docs/DECISIONS.md).
     lent: PhantomData<&'a ()>,
 }
 
@@ -83,6 +83,7 @@ impl<K: Eq + Hash, V, S: BuildHasher, A: Allocator> Map<K, V, S, A> {
 }
 
 // The place of a key in the map of the standard library.
+// proof: a call of its own, so that only the call above it is proved by hand.
 #[inline]
 fn place_in<'a, K: Eq + Hash + Drop, V, S: BuildHasher, A: Allocator + Clone>(
     inner: &'a mut HashMap<K, V, S, A>,
@@ -97,6 +98,7 @@ fn place_in<'a, K: Eq + Hash + Drop, V, S: BuildHasher, A: Allocator + Clone>(
 }
 
 // What a map returns where the map of the standard library returns this.
+// proof: a call of its own, so that only the call above it is proved by hand.
 #[inline]
 fn of_inner<'a, K: Eq + Hash + Drop, V, S: BuildHasher, A: Allocator>(
     there: Result<hash_map::Entry<'a, K, V, S, A>, AllocFailed<K>>,
@@ -125,6 +127,7 @@ impl<'a, K: Eq + Hash, V, S: BuildHasher, A: Allocator> Entry<'a, K, V, S, A> {
     }
 
     // The same place, as one of the standard library.
+    // proof: a call of its own, so that only the call above it is proved by hand.
     #[inline]
     fn into_inner(self) -> hash_map::Entry<'a, K, V, S, A>
         ensures { result ≡ place self.entry }

@@ -36,7 +36,7 @@ pub enum Entry<'a, K: Hash + Ord, V, A: Allocator = Global> {
 #[derive(Drop)]
 pub struct OccupiedEntry<'a, K: Hash + Ord, V, A: Allocator = Global> {
     entry: btree_map::OccupiedEntry<'a, K, V, A>,
-    // Without bytes. It lets proofs of callers use the place up (docs/DECISIONS.md).
+    // proof: without bytes; it lets callers use the place up (docs/DECISIONS.md).
     lent: PhantomData<&'a ()>,
 }
 
@@ -78,6 +78,7 @@ impl<K: Hash + Ord, V, A: Allocator> Map<K, V, A> {
 }
 
 // The place of a key in the map of the standard library.
+// proof: a call of its own, so that only the call above it is proved by hand.
 #[inline]
 fn place_in<'a, K: Hash + Ord + Drop, V, A: Allocator + Clone>(
     inner: &'a mut BTreeMap<K, V, A>,
@@ -92,6 +93,7 @@ fn place_in<'a, K: Hash + Ord + Drop, V, A: Allocator + Clone>(
 }
 
 // What a map returns where the map of the standard library returns this.
+// proof: a call of its own, so that only the call above it is proved by hand.
 #[inline]
 fn of_inner<'a, K: Hash + Ord + Drop, V, A: Allocator>(
     there: Result<btree_map::Entry<'a, K, V, A>, AllocFailed<K>>,
@@ -117,6 +119,7 @@ impl<'a, K: Hash + Ord, V, A: Allocator> Entry<'a, K, V, A> {
     }
 
     // The same place, as one of the standard library.
+    // proof: a call of its own, so that only the call above it is proved by hand.
     #[inline]
     fn into_inner(self) -> btree_map::Entry<'a, K, V, A>
         ensures { result ≡ place self.entry }
