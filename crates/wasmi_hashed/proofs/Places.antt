@@ -21,7 +21,7 @@ use Rattle.std.specs.declared.hash.Hash as hash
 use Rattle.std.specs.declared.hash.Hasher as hasher
 use Rattle.std.specs.declared.hash.BuildHasher as builder
 use Rattle.wasmi_map_specs.specs.Maps.{value_at}
-use Rattle.wasmi_hashed.specs.MapEntry.{map_of, place, IsPlaceOf, IsOfTable}
+use Rattle.wasmi_hashed.specs.MapEntry.{map_of, place, IsPlaceOf, IsOfInner}
 use Rattle.wasmi_arena.specs.declared.error.ArenaError.{ArenaError}
 use Rattle.wasmi_arena.specs.declared.error.ArenaError.TheVariants.{OutOfSystemMemory}
 use Rattle.wasmi_hashed.specs.declared.map.entry.Entry.{Entry}
@@ -41,19 +41,19 @@ module _ {K V S A H : Type 0} {g : eq.Ghosts K} {h : hash.Ghosts K} {b : builder
   is_place same table key (Ok e) is_key is_same is_value found entries written removed = (is_key, is_same, is_value, is_found _ _ _ e found, entries, written.1, written.3, removed.1)
   is_place same table key (Err failed) is_key is_same is_value found entries written removed = tt
 
-  pub of_place : (P : Place K V S A H g h b w → Type 0) (there : Result (Place K V S A H g h b w) (AllocFailed K)) (here : Result (Entry K V S A H g h b w) ArenaError) → IsOfTable there here → IfOk there P → IfOk here (λ entry. P (place entry))
+  pub of_place : (P : Place K V S A H g h b w → Type 0) (there : Result (Place K V S A H g h b w) (AllocFailed K)) (here : Result (Entry K V S A H g h b w) ArenaError) → IsOfInner there here → IfOk there P → IfOk here (λ entry. P (place entry))
   of_place P (Ok p) (Ok entry) same known = subst P (sym same) known
   of_place P (Ok p) (Err e) same known = absurd same
   of_place P (Err failed) (Ok entry) same known = absurd same
   of_place P (Err failed) (Err e) same known = tt
 
-  pub of_absence : (P : Type 0) (there : Result (Place K V S A H g h b w) (AllocFailed K)) (here : Result (Entry K V S A H g h b w) ArenaError) → IsOfTable there here → OnErr there P → OnErr here P
+  pub of_absence : (P : Type 0) (there : Result (Place K V S A H g h b w) (AllocFailed K)) (here : Result (Entry K V S A H g h b w) ArenaError) → IsOfInner there here → OnErr there P → OnErr here P
   of_absence P (Ok p) (Ok entry) same known = tt
   of_absence P (Ok p) (Err e) same known = absurd same
   of_absence P (Err failed) (Ok entry) same known = absurd same
   of_absence P (Err failed) (Err e) same known = known
 
-  pub of_failure : (there : Result (Place K V S A H g h b w) (AllocFailed K)) (here : Result (Entry K V S A H g h b w) ArenaError) → IsOfTable there here → IsOkUnless here OutOfSystemMemory
+  pub of_failure : (there : Result (Place K V S A H g h b w) (AllocFailed K)) (here : Result (Entry K V S A H g h b w) ArenaError) → IsOfInner there here → IsOkUnless here OutOfSystemMemory
   of_failure (Ok p) (Ok entry) same = tt
   of_failure (Ok p) (Err e) same = absurd same
   of_failure (Err failed) (Ok entry) same = absurd same
@@ -71,7 +71,7 @@ module _ {K V S A H : Type 0} {g : eq.Ghosts K} {h : hash.Ghosts K} {b : builder
     abbrev Rests : Result (Place K V S A H g h b w) (AllocFailed K) → Fml
     Rests there = RestsIfErr T part (λ (p : Place K V S A H g h b w). (entry_map_ref p).ghost_name) there P
 
-    pub lent_on : (there : Result (Place K V S A H g h b w) (AllocFailed K)) (here : Result (Entry K V S A H g h b w) ArenaError) → IsOfTable there here
+    pub lent_on : (there : Result (Place K V S A H g h b w) (AllocFailed K)) (here : Result (Entry K V S A H g h b w) ArenaError) → IsOfInner there here
         → IfOk there (λ p. (entry_map_ref p).ghost_name ≡ part.ghost_name)
         → ent 𝓤 (sep 𝓤 (sem 𝓛 (follows R T γ part.ghost_name F)) (sem 𝓛 (Rests there)))
         (sem 𝓛 (follows_so R T γ (name_if_ok (λ entry. (entry_map_ref (place entry)).ghost_name) here) (λ x new. new ≡ F x) (λ new. OnErr here (Q new))))

@@ -7,7 +7,7 @@ use Rattle.std.specs.declared.cmp.PartialEq as eq
 use Rattle.std.specs.declared.hash.Hash as hash
 use Rattle.std.specs.declared.hash.Hasher as hasher
 use Rattle.std.specs.declared.hash.BuildHasher as builder
-use Rattle.std.specs.contracts.collections.HashMap.{the_row as TableRow}
+use Rattle.std.specs.contracts.collections.HashMap.{the_row as InnerRow}
 use Rattle.std.specs.Borrow.{Fml, RattleType, MutBor, Lends, RestsIfErr, follows_if, follows_so, name_if_ok}
 use mathlib.Core.Option.{none}
 use Rattle.std.specs.HashMap.{HashMap, hasher_of, IsUnchanged}
@@ -48,35 +48,35 @@ module _ {K V S A H : Type 0} {g : eq.Ghosts K} {h : hash.Ghosts K} {b : builder
       × IsPermutation (remove_entry (same key) map.entries) (map_without_entry there).entries
 
   -- what is made of the table's answer
-  abbrev pub IsOfTable : Result (Place K V S A H g h b w) (AllocFailed K) → Result (Entry K V S A H g h b w) ArenaError → Type 0
-  IsOfTable (Ok there) (Ok entry) = place entry ≡ there
-  IsOfTable (Err failed) (Err error) = error ≡ OutOfSystemMemory
-  IsOfTable (Ok there) (Err error) = ⊥
-  IsOfTable (Err failed) (Ok entry) = ⊥
+  abbrev pub IsOfInner : Result (Place K V S A H g h b w) (AllocFailed K) → Result (Entry K V S A H g h b w) ArenaError → Type 0
+  IsOfInner (Ok there) (Ok entry) = place entry ≡ there
+  IsOfInner (Err failed) (Err error) = error ≡ OutOfSystemMemory
+  IsOfInner (Ok there) (Err error) = ⊥
+  IsOfInner (Err failed) (Ok entry) = ⊥
 
 module _ (K V S A H : RattleType) {g : eq.Ghosts K.Denot} {h : hash.Ghosts K.Denot} {b : builder.Ghosts S.Denot H.Denot} {w : hasher.Ghosts H.Denot} (heap : alloc.Ghosts A.Denot) where
   -- where the call failed, the table has its entries
-  abbrev pub table_rests : {E : Type 0} → MutBor (HashMap K.Denot V.Denot S.Denot) → Result (Place K.Denot V.Denot S.Denot A.Denot H.Denot g h b w) E → Fml
-  table_rests m r = RestsIfErr (TableRow K V S A H g h b w heap) m (λ e. (entry_map_ref e).ghost_name) r (λ now. now.entries ≡ m.now.entries)
+  abbrev pub inner_rests : {E : Type 0} → MutBor (HashMap K.Denot V.Denot S.Denot) → Result (Place K.Denot V.Denot S.Denot A.Denot H.Denot g h b w) E → Fml
+  inner_rests m r = RestsIfErr (InnerRow K V S A H g h b w heap) m (λ e. (entry_map_ref e).ghost_name) r (λ now. now.entries ≡ m.now.entries)
 
   -- the table is in the end the one without the place's key
-  abbrev pub table_without : Place K.Denot V.Denot S.Denot A.Denot H.Denot g h b w → Fml
-  table_without there = follows_so (TableRow K V S A H g h b w heap) V (entry_map_ref there).ghost_name none (λ _ _. Unit {0}) (IsUnchanged (map_without_entry there))
+  abbrev pub inner_without : Place K.Denot V.Denot S.Denot A.Denot H.Denot g h b w → Fml
+  inner_without there = follows_so (InnerRow K V S A H g h b w heap) V (entry_map_ref there).ghost_name none (λ _ _. Unit {0}) (IsUnchanged (map_without_entry there))
 
   -- the table is in the end as the place has it
-  abbrev pub table_stays : Place K.Denot V.Denot S.Denot A.Denot H.Denot g h b w → Fml
-  table_stays there = follows_if (TableRow K V S A H g h b w heap) V (entry_map_ref there).ghost_name none (map_with_value there) (entry_map_ref there).now
+  abbrev pub inner_stays : Place K.Denot V.Denot S.Denot A.Denot H.Denot g h b w → Fml
+  inner_stays there = follows_if (InnerRow K V S A H g h b w heap) V (entry_map_ref there).ghost_name none (map_with_value there) (entry_map_ref there).now
 
 module _ (K V S A H : RattleType) (m : HashMembers K.Denot) (b : builder.Ghosts S.Denot H.Denot) (w : hasher.Ghosts H.Denot) (heap : alloc.Ghosts A.Denot) where
   -- the map has the entries that the table has in the end
-  abbrev pub lends_table : MutBor (Entries K.Denot V.Denot S.Denot) → MutBor (HashMap K.Denot V.Denot S.Denot) → Fml
-  lends_table map table = Lends (MapRow K V S A H (record { eq = m.eq }) (record { hash_input = m.hash_input }) b w heap)
-      (TableRow K V S A H (record { eq = m.eq }) (record { hash_input = m.hash_input }) b w heap) map table map_of
+  abbrev pub lends_inner : MutBor (Entries K.Denot V.Denot S.Denot) → MutBor (HashMap K.Denot V.Denot S.Denot) → Fml
+  lends_inner map table = Lends (MapRow K V S A H (record { eq = m.eq }) (record { hash_input = m.hash_input }) b w heap)
+      (InnerRow K V S A H (record { eq = m.eq }) (record { hash_input = m.hash_input }) b w heap) map table map_of
 
   -- the map is what the place's table is in the end, and where there is no place it has the entries that it had
   abbrev pub lends_place : {E : Type 0} → MutBor (Entries K.Denot V.Denot S.Denot)
       → Result (Entry K.Denot V.Denot S.Denot A.Denot H.Denot (record { eq = m.eq }) (record { hash_input = m.hash_input }) b w) E → Fml
   lends_place map r = follows_so (MapRow K V S A H (record { eq = m.eq }) (record { hash_input = m.hash_input }) b w heap)
-      (TableRow K V S A H (record { eq = m.eq }) (record { hash_input = m.hash_input }) b w heap)
+      (InnerRow K V S A H (record { eq = m.eq }) (record { hash_input = m.hash_input }) b w heap)
       map.ghost_name (name_if_ok (λ e. (entry_map_ref (place e)).ghost_name) r) (λ last new. new ≡ map_of last)
       (λ new. OnErr r (new.entries ≡ map.now.entries))

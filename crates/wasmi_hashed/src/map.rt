@@ -1,11 +1,11 @@
 //! A map whose keys are found by their hash.
-ghost use Rattle.std.specs.Map.Iter.{ShowsInOrder, ShowsValuesInOrder, GivesInOrder, LendsValuesInOrder, deref, deref_pair};
-ghost use Rattle.std.specs.HashMap.IterMut.{iter_mut_rest, values_mut_rest, IterMutCanStep};
 ghost use Rattle.std.specs.Prelude.{◌≡◌, ◌==◌, ◌<◌, ◌^◌, ◌+◌, [], ◌∷◌, length, MatchOption, IfOk, OnOk, OnErr, IsOk, IsOkUnless, IsSome, Some, None, is_some, option_map, option_copied, if◌then◌else◌};
+ghost use Rattle.std.specs.HashMap.IterMut.{iter_mut_rest, values_mut_rest, IterMutCanStep};
 ghost use Rattle.std.specs.List.{IsDistinct};
 ghost use Rattle.std.specs.List.Sorted.{IsPermutation};
-ghost use Rattle.std.specs.Map.{keys_of, lookup_key, remove_entry, set_value, values_of};
+ghost use Rattle.std.specs.Map.{keys_of, values_of, lookup_key, remove_entry, set_value};
 ghost use Rattle.std.specs.Map.Calls.{CalledAtPair, TakesPair, CallableOnEachPair, RetainsPairs};
+ghost use Rattle.std.specs.Map.Iter.{ShowsInOrder, GivesInOrder, deref, deref_pair};
 ghost use Rattle.std.specs.Option.{option_copied_mut};
 ghost use Rattle.wasmi_map_specs.specs.Maps.{value_at, ChangesAt};
 
@@ -25,13 +25,18 @@ use std::marker::Model;
 use std::ops::Index;
 use wasmi_arena::ArenaError;
 
-/// A map from keys to values, which finds a key by its hash.
+/// A map from keys to values, kept in unspecified order: a hash table.
 ///
-/// A call that looks for a key hashes it once, and takes expected constant time. A walk gives the
-/// entries in an open order.
+/// ```
+/// if table.contains_key(&key) {
+///     return Ok(false);
+/// }
+/// table.insert(key, value)?;
+/// Ok(true)
+/// ```
 #[derive(Drop)]
 pub struct Map<K: Eq + Hash, V, S: BuildHasher = FixedState, A: Allocator = Global> {
-    table: HashMap<K, V, S, A>,
+    inner: HashMap<K, V, S, A>,
 }
 
 impl<K: Eq + Hash, V, S: BuildHasher, A: Allocator> Model for Map<K, V, S, A> {
@@ -40,42 +45,43 @@ impl<K: Eq + Hash, V, S: BuildHasher, A: Allocator> Model for Map<K, V, S, A> {
 
     ghost Value = { Entries K V S };
 
-    ghost view = { λ map. record { entries = map.table.entries; hasher = hasher_of map.table } };
+    ghost view = { λ map. record { entries = map.inner.entries; hasher = hasher_of map.inner } };
 }
 
 impl<K: Eq + Hash, V, A: Allocator> Map<K, V, FixedState, A> {
-    /// An empty map, which asks `alloc` for memory when an entry comes.
+    /// An empty map, which asks `alloc` for memory when an entry comes. Constant time.
     pub fn new(alloc: A) -> Self
         ensures { result.entries ≡ [] }
     {
         Map {
-            table: HashMap::new(alloc),
+            inner: HashMap::new(alloc),
         }
     }
 }
 
 impl<K: Eq + Hash, V, S: BuildHasher, A: Allocator> Map<K, V, S, A> {
     ghost use Rattle.std.specs.Borrow.{sem};
-    ghost use Rattle.wasmi_hashed.specs.MapEntry.{map_of, lends_table};
+    ghost use Rattle.wasmi_hashed.specs.MapEntry.{map_of, lends_inner};
     ghost use Rattle.wasmi_hashed.specs.MapLend.{lends_get};
 
-    /// The same, whose keys are hashed by `state`.
+    /// An empty map whose keys are hashed by `state`, which asks `alloc` for memory when an entry comes.
+    /// Constant time.
     pub fn with_hasher(alloc: A, state: S) -> Self
         ensures { result ≡ record { entries = []; hasher = state } }
     {
         Map {
-            table: HashMap::with_hasher(alloc, state),
+            inner: HashMap::with_hasher(alloc, state),
         }
     }
 
-    /// Drops all entries. Linear in their number.
+    /// Drops all entries. Linear.
     pub fn clear(&mut self)
     where
         K: Drop,
         V: Drop,
         ensures { self.new ≡ record { entries = []; hasher = self.old.hasher } }
     {
-        self.table.clear();
+        self.inner.clear();
     }
 
     /// The number of entries. Constant time.
@@ -85,7 +91,7 @@ impl<K: Eq + Hash, V, S: BuildHasher, A: Allocator> Map<K, V, S, A> {
         ensures small { result < 2 ^ 63 }
         ensures distinct { IsDistinct K.eq (keys_of self.now.entries) }
     {
-        self.table.len()
+        self.inner.len()
     }
 
     /// Whether there is no entry. Constant time.
@@ -93,10 +99,92 @@ impl<K: Eq + Hash, V, S: BuildHasher, A: Allocator> Map<K, V, S, A> {
     pub fn is_empty(&self) -> bool
         ensures { result ≡ (length self.now.entries == 0) }
     {
-        self.table.len() == 0
+        self.inner.len() == 0
     }
 
-    /// Makes room for so many more entries.
+    /// Each key with its value, in unspecified order.
+    /// Linear to the end, no allocation.
+    pub fn iter(&self) -> Iter<'_, K, V>
+        ensures entries { result ≡ self.now.entries }
+        ensures distinct { IsDistinct K.eq (keys_of self.now.entries) }
+        ensures bound { length self.now.entries < 2 ^ 63 }
+        ensures runs { ShowsInOrder (deref_pair {K = K} {X = V}) }
+    {
+        self.inner.iter()
+    }
+
+    /// Each key with its value to write to, in unspecified order.
+    /// Linear to the end, no allocation.
+    pub fn iter_mut(&mut self) -> IterMut<'_, K, V>
+        ensures entries { iter_mut_rest result ≡ self.old.entries }
+        ensures ready { IterMutCanStep result }
+        ensures distinct { IsDistinct K.eq (keys_of self.old.entries) }
+        ensures bound { length self.old.entries < 2 ^ 63 }
+    {
+        self.inner.iter_mut()
+    }
+
+    /// The keys, in unspecified order.
+    /// Linear to the end, no allocation.
+    pub fn keys(&self) -> Keys<'_, K, V>
+        ensures keys { result ≡ keys_of self.now.entries }
+        ensures len { length result ≡ length self.now.entries }
+        ensures distinct { IsDistinct K.eq result }
+        ensures bound { length self.now.entries < 2 ^ 63 }
+        ensures runs { ShowsInOrder (deref {X = K}) }
+    {
+        self.inner.keys()
+    }
+
+    /// The keys, taken out of the map, in the order of [`keys`](Map::keys). The values are dropped.
+    /// Linear to the end, no allocation.
+    pub fn into_keys(self) -> IntoKeys<K, V, A>
+    where
+        S: Drop,
+        ensures keys { result ≡ keys_of self.entries }
+        ensures len { length result ≡ length self.entries }
+        ensures distinct { IsDistinct K.eq result }
+        ensures bound { length self.entries < 2 ^ 63 }
+        ensures runs { GivesInOrder K }
+    {
+        self.inner.into_keys()
+    }
+
+    /// The values, in the order of [`keys`](Map::keys).
+    /// Linear to the end, no allocation.
+    pub fn values(&self) -> Values<'_, K, V>
+        ensures values { result ≡ values_of self.now.entries }
+        ensures len { length result ≡ length self.now.entries }
+        ensures bound { length self.now.entries < 2 ^ 63 }
+        ensures runs { ShowsInOrder (deref {X = V}) }
+    {
+        self.inner.values()
+    }
+
+    /// The values, taken out of the map, in the order of [`keys`](Map::keys). The keys are dropped.
+    /// Linear to the end, no allocation.
+    pub fn into_values(self) -> IntoValues<K, V, A>
+    where
+        S: Drop,
+        ensures values { result ≡ values_of self.entries }
+        ensures len { length result ≡ length self.entries }
+        ensures bound { length self.entries < 2 ^ 63 }
+        ensures runs { GivesInOrder V }
+    {
+        self.inner.into_values()
+    }
+
+    /// The values to write to, in the order of [`keys`](Map::keys).
+    /// Linear to the end, no allocation.
+    pub fn values_mut(&mut self) -> ValuesMut<'_, K, V>
+        ensures values { values_mut_rest result ≡ values_of self.old.entries }
+        ensures len { length (values_mut_rest result) ≡ length self.old.entries }
+        ensures bound { length self.old.entries < 2 ^ 63 }
+    {
+        self.inner.values_mut()
+    }
+
+    /// Makes room for `additional` more entries. Constant time where there is room, and else linear.
     ///
     /// Fails with `OutOfSystemMemory` if there is no memory for it, and then the map is as before.
     pub fn reserve(&mut self, additional: usize) -> Result<(), ArenaError>
@@ -107,56 +195,63 @@ impl<K: Eq + Hash, V, S: BuildHasher, A: Allocator> Map<K, V, S, A> {
         ensures errors { IsOkUnless result ArenaError.OutOfSystemMemory }
         ensures err { OnErr result (self.new ≡ self.old) }
     {
-        self.table.reserve(additional)?;
+        self.inner.reserve(additional)?;
         Ok(())
     }
 
-    /// Whether the key is there. One search, and no allocation.
+    /// Whether the key is there.
+    /// Expected constant time, no allocation.
     #[inline]
     pub fn contains_key(&self, key: &K) -> bool
         ensures { result ≡ is_some (value_at K.eq self.now.entries key.now) }
     {
-        self.table.contains_key(key)
+        self.inner.contains_key(key)
     }
 
-    /// The value under a key, if there is one. One search, and no allocation.
+    /// The value under a key, if there is one.
+    /// Expected constant time, no allocation.
     #[inline]
     pub fn get(&self, key: &K) -> Option<&V>
         ensures { option_copied result ≡ value_at K.eq self.now.entries key.now }
     {
-        self.table.get(key)
+        self.inner.get(key)
     }
 
-    /// The key that is kept and its value, if it is there. One search, and no allocation.
+    /// The key that is kept and its value, if it is there.
+    /// Expected constant time, no allocation.
     #[inline]
     pub fn get_key_value(&self, key: &K) -> Option<(&K, &V)>
         ensures key { option_map (λ pair. pair.0.now) result ≡ lookup_key (K.eq key.now) self.now.entries }
         ensures value { option_map (λ pair. pair.1.now) result ≡ value_at K.eq self.now.entries key.now }
     {
-        self.table.get_key_value(key)
+        self.inner.get_key_value(key)
     }
 
-    /// The value under a key to write to, if there is one. One search, and no allocation.
+    /// The value under a key to write to, if there is one.
+    /// Expected constant time, no allocation.
     #[inline]
     pub fn get_mut(&mut self, key: &K) -> Option<&mut V>
         ensures* writes_back { sem 𝓛 (lends_get K.row V.row S.row A.row S.Hasher.row K.Hash S.BuildHasher S.Hasher.Hasher A.Allocator self.entry key.now result) }
         ensures value { option_copied_mut result ≡ value_at K.eq self.old.entries key.now }
     {
-        self.table.get_mut(key)
+        self.inner.get_mut(key)
     }
 
+    // The map of the standard library, lent.
+    // proof: a call of its own, so that only the call above it is proved by hand.
     #[inline]
-    fn table_mut(&mut self) -> &mut HashMap<K, V, S, A>
-        ensures* lends { sem 𝓛 (lends_table K.row V.row S.row A.row S.Hasher.row K.Hash S.BuildHasher S.Hasher.Hasher A.Allocator self.entry result) }
+    fn inner_mut(&mut self) -> &mut HashMap<K, V, S, A>
+        ensures* lends { sem 𝓛 (lends_inner K.row V.row S.row A.row S.Hasher.row K.Hash S.BuildHasher S.Hasher.Hasher A.Allocator self.entry result) }
         ensures now { map_of result.now ≡ self.old }
     {
-        &mut self.table
+        &mut self.inner
     }
 
     /// Puts a value under a key, and returns the one that was there. A key that is there is kept.
+    /// Amortised expected constant time; asks for memory only where the key is new.
     ///
     /// Fails with `OutOfSystemMemory` if the key isn't there and there is no memory for it, and then the
-    /// map is as before, and the pair is dropped. One search.
+    /// map is as before, and the pair is dropped.
     #[inline]
     pub fn insert(&mut self, key: K, value: V) -> Result<Option<V>, ArenaError>
     where
@@ -176,11 +271,12 @@ impl<K: Eq + Hash, V, S: BuildHasher, A: Allocator> Map<K, V, S, A> {
         ensures errors { IsOkUnless result ArenaError.OutOfSystemMemory }
         ensures err { OnErr result (self.new ≡ self.old) }
     {
-        let old = self.table.insert(key, value)?;
+        let old = self.inner.insert(key, value)?;
         Ok(old)
     }
 
-    /// Takes a key out, and returns its value, if it is there. One search, and never fails.
+    /// Takes a key out, and returns its value, if it is there. Never fails.
+    /// Expected constant time, no allocation.
     #[inline]
     pub fn remove(&mut self, key: &K) -> Option<V>
     where
@@ -191,10 +287,11 @@ impl<K: Eq + Hash, V, S: BuildHasher, A: Allocator> Map<K, V, S, A> {
         ensures len { length self.new.entries + (if is_some result then 1 else 0) ≡ length self.old.entries }
         ensures hasher { self.new.hasher ≡ self.old.hasher }
     {
-        self.table.remove(key)
+        self.inner.remove(key)
     }
 
-    /// Takes a key out, and returns it with its value, if it is there. One search, and never fails.
+    /// Takes a key out, and returns it with its value, if it is there. Never fails.
+    /// Expected constant time, no allocation.
     #[inline]
     pub fn remove_entry(&mut self, key: &K) -> Option<(K, V)>
         ensures key { option_map (λ pair. pair.0) result ≡ lookup_key (K.eq key.now) self.old.entries }
@@ -204,11 +301,12 @@ impl<K: Eq + Hash, V, S: BuildHasher, A: Allocator> Map<K, V, S, A> {
         ensures len { length self.new.entries + (if is_some result then 1 else 0) ≡ length self.old.entries }
         ensures hasher { self.new.hasher ≡ self.old.hasher }
     {
-        self.table.remove_entry(key)
+        self.inner.remove_entry(key)
     }
 
-    /// Keeps the entries for which the closure returns `true`, and drops the others. It visits each entry
-    /// once, in an open order, and may write to the values. Linear, and never fails.
+    /// Keeps the entries for which the closure returns `true`, and drops the others. It visits each
+    /// entry once, in unspecified order, and may write to the values. Never fails. Linear, no
+    /// allocation.
     pub fn retain<F: FnMut(&K, &mut V) -> bool>(&mut self, keep: F)
     where
         K: Drop,
@@ -217,11 +315,12 @@ impl<K: Eq + Hash, V, S: BuildHasher, A: Allocator> Map<K, V, S, A> {
         ensures entries { RetainsPairs (CalledAtPair F.FnMut) keep self.old.entries self.new.entries }
         ensures hasher { self.new.hasher ≡ self.old.hasher }
     {
-        self.table.retain(keep);
+        self.inner.retain(keep);
     }
 }
 
 /// `map[&key]` is the value under the key, which is there.
+/// Expected constant time, no allocation.
 impl<K: Eq + Hash, V, S: BuildHasher, A: Allocator> Index<&K> for Map<K, V, S, A> {
     ghost use Rattle.std.specs.Prelude.{◌≡◌, IsSome, Some};
     ghost use Rattle.wasmi_map_specs.specs.Maps.{value_at};
@@ -234,100 +333,11 @@ impl<K: Eq + Hash, V, S: BuildHasher, A: Allocator> Index<&K> for Map<K, V, S, A
     ghost index_gives = { λ map key value. value_at K.eq map.entries key.now ≡ Some value };
 
     fn index(&self, key: &K) -> &V {
-        &self.table[key]
+        &self.inner[key]
     }
 }
 
-impl<K: Eq + Hash, V, S: BuildHasher, A: Allocator> Map<K, V, S, A> {
-    /// Each key with its value.
-    pub fn iter(&self) -> Iter<'_, K, V>
-        ensures entries { result ≡ self.now.entries }
-        ensures distinct { IsDistinct K.eq (keys_of self.now.entries) }
-        ensures bound { length self.now.entries < 2 ^ 63 }
-        ensures runs { ShowsInOrder (deref_pair {K = K} {X = V}) }
-    {
-        self.table.iter()
-    }
-
-    /// Each key with its value to write to.
-    pub fn iter_mut(&mut self) -> IterMut<'_, K, V>
-        ensures entries { iter_mut_rest result ≡ self.old.entries }
-        ensures ready { IterMutCanStep result }
-        ensures distinct { IsDistinct K.eq (keys_of self.old.entries) }
-        ensures bound { length self.old.entries < 2 ^ 63 }
-    {
-        self.table.iter_mut()
-    }
-
-    /// The keys.
-    pub fn keys(&self) -> Keys<'_, K, V>
-        ensures keys { result ≡ keys_of self.now.entries }
-        ensures len { length result ≡ length self.now.entries }
-        ensures distinct { IsDistinct K.eq result }
-        ensures bound { length self.now.entries < 2 ^ 63 }
-        ensures runs { ShowsInOrder (deref {X = K}) }
-    {
-        self.table.keys()
-    }
-
-    /// The keys, taken out of the map. The values are dropped.
-    pub fn into_keys(self) -> IntoKeys<K, V, A>
-    where
-        S: Drop,
-        ensures keys { result ≡ keys_of self.entries }
-        ensures len { length result ≡ length self.entries }
-        ensures distinct { IsDistinct K.eq result }
-        ensures bound { length self.entries < 2 ^ 63 }
-        ensures runs { GivesInOrder K }
-    {
-        self.table.into_keys()
-    }
-
-    /// The values, in the order of [`keys`](Map::keys).
-    pub fn values(&self) -> Values<'_, K, V>
-        ensures values { result ≡ values_of self.now.entries }
-        ensures len { length result ≡ length self.now.entries }
-        ensures bound { length self.now.entries < 2 ^ 63 }
-        ensures runs { ShowsInOrder (deref {X = V}) }
-    {
-        self.table.values()
-    }
-
-    /// The values, taken out of the map, in the order of [`keys`](Map::keys). The keys are dropped.
-    pub fn into_values(self) -> IntoValues<K, V, A>
-    where
-        S: Drop,
-        ensures values { result ≡ values_of self.entries }
-        ensures len { length result ≡ length self.entries }
-        ensures bound { length self.entries < 2 ^ 63 }
-        ensures runs { GivesInOrder V }
-    {
-        self.table.into_values()
-    }
-
-    /// The values to write to, in the order of [`keys`](Map::keys).
-    pub fn values_mut(&mut self) -> ValuesMut<'_, K, V>
-        ensures values { values_mut_rest result ≡ values_of self.old.entries }
-        ensures len { length (values_mut_rest result) ≡ length self.old.entries }
-        ensures bound { length self.old.entries < 2 ^ 63 }
-    {
-        self.table.values_mut()
-    }
-}
-
-impl<K: Eq + Hash + Drop, V: Drop, S: BuildHasher + Drop, A: Allocator> IntoIterator
-    for Map<K, V, S, A> {
-    type Item = (K, V);
-
-    type IntoIter = IntoIter<K, V, A>;
-
-    ghost into_iter_gives = { λ map it. (it ≡ map.entries) × IsDistinct K.eq (keys_of map.entries) × (length map.entries < 2 ^ 63) };
-
-    fn into_iter(self) -> IntoIter<K, V, A> {
-        self.table.into_iter()
-    }
-}
-
+/// Each key with its value, as [`iter`](Map::iter).
 impl<'a, K: Eq + Hash, V, S: BuildHasher, A: Allocator> IntoIterator for &'a Map<K, V, S, A> {
     type Item = (&'a K, &'a V);
 
@@ -340,6 +350,7 @@ impl<'a, K: Eq + Hash, V, S: BuildHasher, A: Allocator> IntoIterator for &'a Map
     }
 }
 
+/// Each key with its value to write to, as [`iter_mut`](Map::iter_mut).
 impl<'a, K: Eq + Hash, V, S: BuildHasher, A: Allocator> IntoIterator for &'a mut Map<K, V, S, A> {
     type Item = (&'a K, &'a mut V);
 
@@ -349,5 +360,20 @@ impl<'a, K: Eq + Hash, V, S: BuildHasher, A: Allocator> IntoIterator for &'a mut
 
     fn into_iter(self) -> IterMut<'a, K, V> {
         self.iter_mut()
+    }
+}
+
+/// The entries, taken out of the map, in unspecified order.
+/// Linear to the end, no allocation.
+impl<K: Eq + Hash + Drop, V: Drop, S: BuildHasher + Drop, A: Allocator> IntoIterator
+    for Map<K, V, S, A> {
+    type Item = (K, V);
+
+    type IntoIter = IntoIter<K, V, A>;
+
+    ghost into_iter_gives = { λ map it. (it ≡ map.entries) × IsDistinct K.eq (keys_of map.entries) × (length map.entries < 2 ^ 63) };
+
+    fn into_iter(self) -> IntoIter<K, V, A> {
+        self.inner.into_iter()
     }
 }

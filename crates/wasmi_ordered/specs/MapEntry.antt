@@ -18,7 +18,7 @@ use Rattle.std.specs.BTreeMap.Lent.{OrdMembers}
 use Rattle.std.specs.Prelude.{◌≡◌, List, Result, Ok, Err, None, IsSome}
 use Rattle.std.specs.Borrow.{Fml, RattleType, MutBor, RestsIfErr, Lends, follows_if, follows_so, name_if_ok}
 use mathlib.Core.Option.{none}
-use Rattle.std.specs.contracts.collections.BTreeMap.{the_row as TreeRow}
+use Rattle.std.specs.contracts.collections.BTreeMap.{the_row as InnerRow}
 use Rattle.wasmi_ordered.specs.contracts.map.Map.{the_row as MapRow}
 use Rattle.wasmi_arena.specs.declared.error.ArenaError.{ArenaError}
 use Rattle.wasmi_arena.specs.declared.error.ArenaError.TheVariants.{OutOfSystemMemory}
@@ -42,29 +42,29 @@ module _ {Key Value Heap : Type 0} {equal : eq.Ghosts Key} {total : ord.Ghosts K
       × ((map_without_entry there).entries ≡ remove_entry (eq_by_cmp cmp key) entries)
 
   -- what is made of the tree's answer
-  abbrev pub IsOfTree : Result (Place Key Value Heap total equal order) (AllocFailed Key) → Result (Entry Key Value Heap equal total order) ArenaError → Type 0
-  IsOfTree (Ok there) (Ok entry) = place entry ≡ there
-  IsOfTree (Err failed) (Err error) = error ≡ OutOfSystemMemory
-  IsOfTree (Ok there) (Err error) = ⊥
-  IsOfTree (Err failed) (Ok entry) = ⊥
+  abbrev pub IsOfInner : Result (Place Key Value Heap total equal order) (AllocFailed Key) → Result (Entry Key Value Heap equal total order) ArenaError → Type 0
+  IsOfInner (Ok there) (Ok entry) = place entry ≡ there
+  IsOfInner (Err failed) (Err error) = error ≡ OutOfSystemMemory
+  IsOfInner (Ok there) (Err error) = ⊥
+  IsOfInner (Err failed) (Ok entry) = ⊥
 
 module _ (K V A : RattleType) {g : ord.Ghosts K.Denot} {g' : eq.Ghosts K.Denot} {g'' : partial.Ghosts K.Denot} (heap : alloc.Ghosts A.Denot) where
   -- where the call failed, the tree has its entries
-  abbrev pub tree_rests : {E : Type 0} → MutBor (BTreeMap K.Denot V.Denot) → Result (Place K.Denot V.Denot A.Denot g g' g'') E → Fml
-  tree_rests m r = RestsIfErr (TreeRow K V A g g' g'' heap) m (λ e. (entry_map_ref e).ghost_name) r (λ now. now.entries ≡ m.now.entries)
+  abbrev pub inner_rests : {E : Type 0} → MutBor (BTreeMap K.Denot V.Denot) → Result (Place K.Denot V.Denot A.Denot g g' g'') E → Fml
+  inner_rests m r = RestsIfErr (InnerRow K V A g g' g'' heap) m (λ e. (entry_map_ref e).ghost_name) r (λ now. now.entries ≡ m.now.entries)
 
   -- the tree is in the end the one without the place's key
-  abbrev pub tree_without : Place K.Denot V.Denot A.Denot g g' g'' → Fml
-  tree_without there = follows_so (TreeRow K V A g g' g'' heap) V (entry_map_ref there).ghost_name none (λ _ _. Unit {0}) (IsUnchanged (map_without_entry there))
+  abbrev pub inner_without : Place K.Denot V.Denot A.Denot g g' g'' → Fml
+  inner_without there = follows_so (InnerRow K V A g g' g'' heap) V (entry_map_ref there).ghost_name none (λ _ _. Unit {0}) (IsUnchanged (map_without_entry there))
 
 module _ (K V A : RattleType) (h : hash.Ghosts K.Denot) (g : OrdMembers K.Denot) (heap : alloc.Ghosts A.Denot) where
   -- the map has the entries that the tree has in the end
-  abbrev pub lends_tree : MutBor (List (K.Denot × V.Denot)) → MutBor (BTreeMap K.Denot V.Denot) → Fml
-  lends_tree map tree = Lends (MapRow K V A h (record { eq = g.eq }) (record { cmp = g.cmp }) (record { partial_cmp = g.partial_cmp }) heap)
-      (TreeRow K V A (record { cmp = g.cmp }) (record { eq = g.eq }) (record { partial_cmp = g.partial_cmp }) heap) map tree (λ last. last.entries)
+  abbrev pub lends_inner : MutBor (List (K.Denot × V.Denot)) → MutBor (BTreeMap K.Denot V.Denot) → Fml
+  lends_inner map tree = Lends (MapRow K V A h (record { eq = g.eq }) (record { cmp = g.cmp }) (record { partial_cmp = g.partial_cmp }) heap)
+      (InnerRow K V A (record { cmp = g.cmp }) (record { eq = g.eq }) (record { partial_cmp = g.partial_cmp }) heap) map tree (λ last. last.entries)
 
   -- the map has the entries that the place's tree has in the end, and where there is no place it is as before
   abbrev pub lends_place : {E : Type 0} → MutBor (List (K.Denot × V.Denot)) → Result (Entry K.Denot V.Denot A.Denot (record { eq = g.eq }) (record { cmp = g.cmp }) (record { partial_cmp = g.partial_cmp })) E → Fml
   lends_place map r = follows_if (MapRow K V A h (record { eq = g.eq }) (record { cmp = g.cmp }) (record { partial_cmp = g.partial_cmp }) heap)
-      (TreeRow K V A (record { cmp = g.cmp }) (record { eq = g.eq }) (record { partial_cmp = g.partial_cmp }) heap)
+      (InnerRow K V A (record { cmp = g.cmp }) (record { eq = g.eq }) (record { partial_cmp = g.partial_cmp }) heap)
       map.ghost_name (name_if_ok (λ e. (entry_map_ref (place e)).ghost_name) r) (λ last. last.entries) map.now

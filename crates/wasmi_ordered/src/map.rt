@@ -25,13 +25,18 @@ use std::marker::Model;
 use std::ops::Index;
 use wasmi_arena::ArenaError;
 
-/// A map from keys to values, kept in the order of its keys.
+/// A map from keys to values, kept in the order of its keys: a B-tree.
 ///
-/// It is a B-tree, so a call that looks for a key compares it with a number of keys that is logarithmic
-/// in how many there are.
+/// ```
+/// if table.contains_key(&key) {
+///     return Ok(false);
+/// }
+/// table.insert(key, value)?;
+/// Ok(true)
+/// ```
 #[derive(Drop)]
 pub struct Map<K: Hash + Ord, V, A: Allocator = Global> {
-    tree: BTreeMap<K, V, A>,
+    inner: BTreeMap<K, V, A>,
 }
 
 impl<K: Hash + Ord, V, A: Allocator> Model for Map<K, V, A> {
@@ -39,31 +44,31 @@ impl<K: Hash + Ord, V, A: Allocator> Model for Map<K, V, A> {
 
     ghost Value = { List (K × V) };
 
-    ghost view = { λ map. map.tree.entries };
+    ghost view = { λ map. map.inner.entries };
 }
 
 impl<K: Hash + Ord, V, A: Allocator> Map<K, V, A> {
     ghost use Rattle.std.specs.Borrow.{sem};
-    ghost use Rattle.wasmi_ordered.specs.MapEntry.{lends_tree};
+    ghost use Rattle.wasmi_ordered.specs.MapEntry.{lends_inner};
     ghost use Rattle.wasmi_ordered.specs.MapLend.{lends_get};
 
-    /// An empty map, which asks `alloc` for memory when an entry comes.
+    /// An empty map, which asks `alloc` for memory when an entry comes. Constant time.
     pub fn new(alloc: A) -> Self
         ensures { result ≡ [] }
     {
         Map {
-            tree: BTreeMap::new(alloc),
+            inner: BTreeMap::new(alloc),
         }
     }
 
-    /// Drops all entries. Linear in their number.
+    /// Drops all entries. Linear.
     pub fn clear(&mut self)
     where
         K: Drop,
         V: Drop,
         ensures { self.new ≡ [] }
     {
-        self.tree.clear();
+        self.inner.clear();
     }
 
     /// The number of entries. Constant time.
@@ -73,7 +78,7 @@ impl<K: Hash + Ord, V, A: Allocator> Map<K, V, A> {
         ensures small { result < 2 ^ 63 }
         ensures ascending { IsStrictlySortedBy K.cmp (keys_of self.now) }
     {
-        self.tree.len()
+        self.inner.len()
     }
 
     /// Whether there is no entry. Constant time.
@@ -81,81 +86,89 @@ impl<K: Hash + Ord, V, A: Allocator> Map<K, V, A> {
     pub fn is_empty(&self) -> bool
         ensures { result ≡ (length self.now == 0) }
     {
-        self.tree.len() == 0
+        self.inner.len() == 0
     }
 
-    /// The keys, taken out of the map. The values are dropped.
-    pub fn into_keys(self) -> IntoKeys<K, V, A>
-        ensures ascending { IsStrictlySortedBy K.cmp result }
-        ensures bound { length self < 2 ^ 63 }
-        ensures len { length result ≡ length self }
-        ensures keys { result ≡ keys_of self }
-        ensures runs { GivesInOrder K }
-    {
-        self.tree.into_keys()
-    }
-
-    /// The values, taken out of the map, in the order of their keys. The keys are dropped.
-    pub fn into_values(self) -> IntoValues<K, V, A>
-        ensures bound { length self < 2 ^ 63 }
-        ensures len { length result ≡ length self }
-        ensures values { result ≡ values_of self }
-        ensures runs { GivesInOrder V }
-    {
-        self.tree.into_values()
-    }
-
-    /// The keys.
-    pub fn keys(&self) -> Keys<'_, K, V>
-        ensures ascending { IsStrictlySortedBy K.cmp result }
-        ensures bound { length self.now < 2 ^ 63 }
-        ensures len { length result ≡ length self.now }
-        ensures keys { result ≡ keys_of self.now }
-        ensures runs { ShowsInOrder (deref {X = K}) }
-    {
-        self.tree.keys()
-    }
-
-    /// The values, in the order of their keys.
-    pub fn values(&self) -> Values<'_, K, V>
-        ensures bound { length self.now < 2 ^ 63 }
-        ensures len { length result ≡ length self.now }
-        ensures values { result ≡ values_of self.now }
-        ensures runs { ShowsInOrder (deref {X = V}) }
-    {
-        self.tree.values()
-    }
-
-    /// Each key with its value.
+    /// Each key with its value, in the order of the keys.
+    /// Linear to the end, no allocation.
     pub fn iter(&self) -> Iter<'_, K, V>
+        ensures entries { result ≡ self.now }
         ensures ascending { IsStrictlySortedBy K.cmp (keys_of self.now) }
         ensures bound { length self.now < 2 ^ 63 }
-        ensures entries { result ≡ self.now }
         ensures runs { ShowsInOrder (deref_pair {K = K} {X = V}) }
     {
-        self.tree.iter()
+        self.inner.iter()
     }
 
-    /// The values to write to, in the order of their keys.
-    pub fn values_mut(&mut self) -> ValuesMut<'_, K, V>
-        ensures bound { length self.old < 2 ^ 63 }
-        ensures len { length (values_mut_rest result) ≡ length self.old }
-        ensures values { values_mut_rest result ≡ values_of self.old }
-    {
-        self.tree.values_mut()
-    }
-
-    /// Each key with its value to write to.
+    /// Each key with its value to write to, in the order of the keys.
+    /// Linear to the end, no allocation.
     pub fn iter_mut(&mut self) -> IterMut<'_, K, V>
+        ensures entries { iter_mut_rest result ≡ self.old }
+        ensures ready { IterMutCanStep result }
         ensures ascending { IsStrictlySortedBy K.cmp (keys_of self.old) }
         ensures bound { length self.old < 2 ^ 63 }
-        ensures ready { IterMutCanStep result }
-        ensures entries { iter_mut_rest result ≡ self.old }
     {
-        self.tree.iter_mut()
+        self.inner.iter_mut()
     }
 
-    /// Does nothing: entries need no room beforehand. It is here since maps of the other backing have it.
+    /// The keys, in order.
+    /// Linear to the end, no allocation.
+    pub fn keys(&self) -> Keys<'_, K, V>
+        ensures keys { result ≡ keys_of self.now }
+        ensures len { length result ≡ length self.now }
+        ensures ascending { IsStrictlySortedBy K.cmp result }
+        ensures bound { length self.now < 2 ^ 63 }
+        ensures runs { ShowsInOrder (deref {X = K}) }
+    {
+        self.inner.keys()
+    }
+
+    /// The keys, taken out of the map, in the order of [`keys`](Map::keys). The values are dropped.
+    /// Linear to the end, no allocation.
+    pub fn into_keys(self) -> IntoKeys<K, V, A>
+        ensures keys { result ≡ keys_of self }
+        ensures len { length result ≡ length self }
+        ensures ascending { IsStrictlySortedBy K.cmp result }
+        ensures bound { length self < 2 ^ 63 }
+        ensures runs { GivesInOrder K }
+    {
+        self.inner.into_keys()
+    }
+
+    /// The values, in the order of [`keys`](Map::keys).
+    /// Linear to the end, no allocation.
+    pub fn values(&self) -> Values<'_, K, V>
+        ensures values { result ≡ values_of self.now }
+        ensures len { length result ≡ length self.now }
+        ensures bound { length self.now < 2 ^ 63 }
+        ensures runs { ShowsInOrder (deref {X = V}) }
+    {
+        self.inner.values()
+    }
+
+    /// The values, taken out of the map, in the order of [`keys`](Map::keys). The keys are dropped.
+    /// Linear to the end, no allocation.
+    pub fn into_values(self) -> IntoValues<K, V, A>
+        ensures values { result ≡ values_of self }
+        ensures len { length result ≡ length self }
+        ensures bound { length self < 2 ^ 63 }
+        ensures runs { GivesInOrder V }
+    {
+        self.inner.into_values()
+    }
+
+    /// The values to write to, in the order of [`keys`](Map::keys).
+    /// Linear to the end, no allocation.
+    pub fn values_mut(&mut self) -> ValuesMut<'_, K, V>
+        ensures values { values_mut_rest result ≡ values_of self.old }
+        ensures len { length (values_mut_rest result) ≡ length self.old }
+        ensures bound { length self.old < 2 ^ 63 }
+    {
+        self.inner.values_mut()
+    }
+
+    /// Does nothing, since entries need no room beforehand. It is here so that a hashed map can take the
+    /// place. Constant time.
     pub fn reserve(&mut self, _additional: usize) -> Result<(), ArenaError>
         ensures ok { IsOk result }
         ensures same { self.new ≡ self.old }
@@ -163,23 +176,26 @@ impl<K: Hash + Ord, V, A: Allocator> Map<K, V, A> {
         Ok(())
     }
 
-    /// Whether the key is there. One search, and no allocation.
+    /// Whether the key is there.
+    /// Logarithmic, no allocation.
     #[inline]
     pub fn contains_key(&self, key: &K) -> bool
         ensures { result ≡ is_some (value_at (eq_by_cmp K.cmp) self.now key.now) }
     {
-        self.tree.contains_key(key)
+        self.inner.contains_key(key)
     }
 
-    /// The value under a key, if there is one. One search, and no allocation.
+    /// The value under a key, if there is one.
+    /// Logarithmic, no allocation.
     #[inline]
     pub fn get(&self, key: &K) -> Option<&V>
         ensures { option_copied result ≡ value_at (eq_by_cmp K.cmp) self.now key.now }
     {
-        self.tree.get(key)
+        self.inner.get(key)
     }
 
-    /// The key that is kept and its value, if it is there. One search, and no allocation.
+    /// The key that is kept and its value, if it is there.
+    /// Logarithmic, no allocation.
     #[inline]
     pub fn get_key_value(&self, key: &K) -> Option<(&K, &V)>
         ensures key { option_map (λ pair. pair.0.now) result
@@ -187,30 +203,34 @@ impl<K: Hash + Ord, V, A: Allocator> Map<K, V, A> {
         ensures value { option_map (λ pair. pair.1.now) result
             ≡ value_at (eq_by_cmp K.cmp) self.now key.now }
     {
-        self.tree.get_key_value(key)
+        self.inner.get_key_value(key)
     }
 
-    /// The value under a key to write to, if there is one. One search, and no allocation.
+    /// The value under a key to write to, if there is one.
+    /// Logarithmic, no allocation.
     #[inline]
     pub fn get_mut(&mut self, key: &K) -> Option<&mut V>
         ensures* writes_back { sem 𝓛 (lends_get K.row V.row A.row (record { hash_input = K.hash_input }) K.Ord A.Allocator self.entry key.now result) }
         ensures value { option_copied_mut result ≡ value_at (eq_by_cmp K.cmp) self.old key.now }
     {
-        self.tree.get_mut(key)
+        self.inner.get_mut(key)
     }
 
+    // The map of the standard library, lent.
+    // proof: a call of its own, so that only the call above it is proved by hand.
     #[inline]
-    fn tree_mut(&mut self) -> &mut BTreeMap<K, V, A>
-        ensures* lends { sem 𝓛 (lends_tree K.row V.row A.row (record { hash_input = K.hash_input }) K.Ord A.Allocator self.entry result) }
+    fn inner_mut(&mut self) -> &mut BTreeMap<K, V, A>
+        ensures* lends { sem 𝓛 (lends_inner K.row V.row A.row (record { hash_input = K.hash_input }) K.Ord A.Allocator self.entry result) }
         ensures entries { result.now.entries ≡ self.old }
     {
-        &mut self.tree
+        &mut self.inner
     }
 
     /// Puts a value under a key, and returns the one that was there. A key that is there is kept.
+    /// Logarithmic; asks for memory only where the key is new.
     ///
     /// Fails with `OutOfSystemMemory` if the key isn't there and there is no memory for it, and then the
-    /// map is as before, and the pair is dropped. One search.
+    /// map is as before, and the pair is dropped.
     #[inline]
     pub fn insert(&mut self, key: K, value: V) -> Result<Option<V>, ArenaError>
     where
@@ -227,11 +247,12 @@ impl<K: Hash + Ord, V, A: Allocator> Map<K, V, A> {
         ensures errors { IsOkUnless result ArenaError.OutOfSystemMemory }
         ensures err { OnErr result (self.new ≡ self.old) }
     {
-        let old = self.tree.insert(key, value)?;
+        let old = self.inner.insert(key, value)?;
         Ok(old)
     }
 
-    /// Takes a key out, and returns its value, if it is there. One search, and never fails.
+    /// Takes a key out, and returns its value, if it is there. Never fails.
+    /// Logarithmic, no allocation.
     #[inline]
     pub fn remove(&mut self, key: &K) -> Option<V>
     where
@@ -241,10 +262,11 @@ impl<K: Hash + Ord, V, A: Allocator> Map<K, V, A> {
         ensures entries { self.new ≡ remove_entry (eq_by_cmp K.cmp key.now) self.old }
         ensures len { length self.new + (if is_some result then 1 else 0) ≡ length self.old }
     {
-        self.tree.remove(key)
+        self.inner.remove(key)
     }
 
-    /// Takes a key out, and returns it with its value, if it is there. One search, and never fails.
+    /// Takes a key out, and returns it with its value, if it is there. Never fails.
+    /// Logarithmic, no allocation.
     #[inline]
     pub fn remove_entry(&mut self, key: &K) -> Option<(K, V)>
         ensures key { option_map (λ pair. pair.0) result
@@ -255,11 +277,12 @@ impl<K: Hash + Ord, V, A: Allocator> Map<K, V, A> {
         ensures entries { self.new ≡ remove_entry (eq_by_cmp K.cmp key.now) self.old }
         ensures len { length self.new + (if is_some result then 1 else 0) ≡ length self.old }
     {
-        self.tree.remove_entry(key)
+        self.inner.remove_entry(key)
     }
 
-    /// Keeps the entries for which the closure returns `true`, and drops the others. It visits each entry
-    /// once, in the order of the keys, and may write to the values. Linear, and never fails.
+    /// Keeps the entries for which the closure returns `true`, and drops the others. It visits each
+    /// entry once, in the order of the keys, and may write to the values. Never fails. Linear, no
+    /// allocation.
     pub fn retain<F: FnMut(&K, &mut V) -> bool>(&mut self, keep: F)
     where
         K: Drop,
@@ -267,11 +290,12 @@ impl<K: Hash + Ord, V, A: Allocator> Map<K, V, A> {
         requires { CallableOnEachPair (CalledAtPair F.FnMut) (TakesPair F.FnMut) keep self.old }
         ensures { RetainsPairs (CalledAtPair F.FnMut) keep self.old self.new }
     {
-        self.tree.retain(keep);
+        self.inner.retain(keep);
     }
 }
 
 /// `map[&key]` is the value under the key, which is there.
+/// Logarithmic, no allocation.
 impl<K: Hash + Ord, V, A: Allocator> Index<&K> for Map<K, V, A> {
     ghost use Rattle.std.specs.Prelude.{◌≡◌, IsSome, Some};
     ghost use Rattle.std.specs.Ordering.{eq_by_cmp};
@@ -285,22 +309,11 @@ impl<K: Hash + Ord, V, A: Allocator> Index<&K> for Map<K, V, A> {
     ghost index_gives = { λ map key value. value_at (eq_by_cmp K.cmp) map key.now ≡ Some value };
 
     fn index(&self, key: &K) -> &V {
-        &self.tree[key]
+        &self.inner[key]
     }
 }
 
-impl<K: Hash + Ord + Drop, V: Drop, A: Allocator> IntoIterator for Map<K, V, A> {
-    type Item = (K, V);
-
-    type IntoIter = IntoIter<K, V, A>;
-
-    ghost into_iter_gives = { λ map it. (it ≡ map) × IsStrictlySortedBy K.cmp (keys_of map) × (length map < 2 ^ 63) };
-
-    fn into_iter(self) -> IntoIter<K, V, A> {
-        self.tree.into_iter()
-    }
-}
-
+/// Each key with its value, as [`iter`](Map::iter).
 impl<'a, K: Hash + Ord, V, A: Allocator> IntoIterator for &'a Map<K, V, A> {
     type Item = (&'a K, &'a V);
 
@@ -313,6 +326,7 @@ impl<'a, K: Hash + Ord, V, A: Allocator> IntoIterator for &'a Map<K, V, A> {
     }
 }
 
+/// Each key with its value to write to, as [`iter_mut`](Map::iter_mut).
 impl<'a, K: Hash + Ord, V, A: Allocator> IntoIterator for &'a mut Map<K, V, A> {
     type Item = (&'a K, &'a mut V);
 
@@ -322,5 +336,19 @@ impl<'a, K: Hash + Ord, V, A: Allocator> IntoIterator for &'a mut Map<K, V, A> {
 
     fn into_iter(self) -> IterMut<'a, K, V> {
         self.iter_mut()
+    }
+}
+
+/// The entries, taken out of the map, in the order of the keys.
+/// Linear to the end, no allocation.
+impl<K: Hash + Ord + Drop, V: Drop, A: Allocator> IntoIterator for Map<K, V, A> {
+    type Item = (K, V);
+
+    type IntoIter = IntoIter<K, V, A>;
+
+    ghost into_iter_gives = { λ map it. (it ≡ map) × IsStrictlySortedBy K.cmp (keys_of map) × (length map < 2 ^ 63) };
+
+    fn into_iter(self) -> IntoIter<K, V, A> {
+        self.inner.into_iter()
     }
 }

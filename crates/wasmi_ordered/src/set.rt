@@ -1,7 +1,6 @@
 //! A set that keeps its elements in order.
 ghost use Rattle.std.specs.Prelude.{◌≡◌, ◌==◌, ◌<◌, ◌^◌, ◌+◌, [], true, false, not, length, find, IfOk, OnOk, OnErr, IsOk, IsOkUnless, IsTrue, is_some, option_copied, if◌then◌else◌};
 ghost use Rattle.std.specs.BTreeSet.{insert_key, replace_key};
-ghost use Rattle.std.specs.Cmp.Lexicographic.{pointwise, lists_per, lists_equiv};
 ghost use Rattle.std.specs.Fn.{CalledAt};
 ghost use Rattle.std.specs.List.Retain.{IsFiltered};
 ghost use Rattle.std.specs.List.Sorted.{IsStrictlySortedBy};
@@ -11,24 +10,29 @@ ghost use Rattle.std.specs.Set.{is_member, remove_key};
 ghost use Rattle.wasmi_map_specs.specs.Sets.{ChangesAt};
 
 mod algebra;
+mod compared;
 mod grow;
 
 pub use algebra::{Difference, Intersection, SymmetricDifference, Union};
 use std::alloc::{Allocator, Global};
 use std::collections::BTreeSet;
 pub use std::collections::btree_set::{IntoIter, Iter};
-use std::fmt::{self, Debug, Formatter, Write};
 use std::hash::Hash;
 use std::marker::Model;
 use wasmi_arena::ArenaError;
 
-/// A set of elements, kept in their order.
+/// A set of elements, kept in their order: a B-tree.
 ///
-/// It is a B-tree, so a call that looks for an element compares it with a number of elements that is
-/// logarithmic in how many there are.
+/// ```
+/// if !offered.contains(&name) {
+///     return Ok(false);
+/// }
+/// taken.insert(name)?;
+/// Ok(true)
+/// ```
 #[derive(Drop)]
 pub struct Set<T: Hash + Ord, A: Allocator = Global> {
-    tree: BTreeSet<T, A>,
+    inner: BTreeSet<T, A>,
 }
 
 impl<T: Hash + Ord, A: Allocator> Model for Set<T, A> {
@@ -36,26 +40,37 @@ impl<T: Hash + Ord, A: Allocator> Model for Set<T, A> {
 
     ghost Value = { List T };
 
-    ghost view = { λ set. set.tree.keys };
+    ghost view = { λ set. set.inner.keys };
 }
 
 impl<T: Hash + Ord, A: Allocator> Set<T, A> {
-    /// An empty set, which asks `alloc` for memory when an element comes.
+    /// An empty set, which asks `alloc` for memory when an element comes. Constant time.
     pub fn new(alloc: A) -> Self
         ensures { result ≡ [] }
     {
         Set {
-            tree: BTreeSet::new(alloc),
+            inner: BTreeSet::new(alloc),
         }
     }
 
-    /// Drops all elements. Linear in their number.
+    /// Drops all elements. Linear.
     pub fn clear(&mut self)
     where
         T: Drop,
         ensures { self.new ≡ [] }
     {
-        self.tree.clear();
+        self.inner.clear();
+    }
+
+    /// Keeps the elements for which the closure returns `true`, and drops the others. It visits each
+    /// element once, in order. Never fails. Linear, no allocation.
+    pub fn retain<F: FnMut(&T) -> bool>(&mut self, keep: F)
+    where
+        T: Drop,
+        requires { F.IsAlwaysCallable keep }
+        ensures { IsFiltered (CalledAt F.FnMut) keep self.old self.new }
+    {
+        self.inner.retain(keep);
     }
 
     /// The number of elements. Constant time.
@@ -65,7 +80,7 @@ impl<T: Hash + Ord, A: Allocator> Set<T, A> {
         ensures small { result < 2 ^ 63 }
         ensures ascending { IsStrictlySortedBy T.cmp self.now }
     {
-        self.tree.len()
+        self.inner.len()
     }
 
     /// Whether there is no element. Constant time.
@@ -73,20 +88,22 @@ impl<T: Hash + Ord, A: Allocator> Set<T, A> {
     pub fn is_empty(&self) -> bool
         ensures { result ≡ (length self.now == 0) }
     {
-        self.tree.len() == 0
+        self.inner.len() == 0
     }
 
     /// The elements, in order.
+    /// Linear to the end, no allocation.
     pub fn iter(&self) -> Iter<'_, T>
+        ensures elements { result ≡ self.now }
         ensures ascending { IsStrictlySortedBy T.cmp self.now }
         ensures bound { length self.now < 2 ^ 63 }
-        ensures elements { result ≡ self.now }
         ensures runs { ShowsInOrder (deref {X = T}) }
     {
-        self.tree.iter()
+        self.inner.iter()
     }
 
-    /// Does nothing: elements need no room beforehand. It is here since sets of the other backing have it.
+    /// Does nothing, since elements need no room beforehand. It is here so that a hashed set can take
+    /// the place. Constant time.
     pub fn reserve(&mut self, _additional: usize) -> Result<(), ArenaError>
         ensures ok { IsOk result }
         ensures same { self.new ≡ self.old }
@@ -94,27 +111,30 @@ impl<T: Hash + Ord, A: Allocator> Set<T, A> {
         Ok(())
     }
 
-    /// Whether the element is there. One search, and no allocation.
+    /// Whether the element is there.
+    /// Logarithmic, no allocation.
     #[inline]
     pub fn contains(&self, value: &T) -> bool
         ensures { result ≡ is_member (eq_by_cmp T.cmp) self.now value.now }
     {
-        self.tree.contains(value)
+        self.inner.contains(value)
     }
 
-    /// The element that is kept, if it is there. One search, and no allocation.
+    /// The element that is kept, if it is there.
+    /// Logarithmic, no allocation.
     #[inline]
     pub fn get(&self, value: &T) -> Option<&T>
         ensures element { option_copied result ≡ find (eq_by_cmp T.cmp value.now) self.now }
         ensures there { is_some result ≡ is_member (eq_by_cmp T.cmp) self.now value.now }
     {
-        self.tree.get(value)
+        self.inner.get(value)
     }
 
     /// Puts an element in, and returns whether it is new. An element that is there is kept.
+    /// Logarithmic; asks for memory only where the element is new.
     ///
-    /// Fails with `OutOfSystemMemory` if it isn't there and there is no memory for it, and then the set is
-    /// as before, and the element is dropped. One search.
+    /// Fails with `OutOfSystemMemory` if it isn't there and there is no memory for it, and then the set
+    /// is as before, and the element is dropped.
     #[inline]
     pub fn insert(&mut self, value: T) -> Result<bool, ArenaError>
     where
@@ -130,13 +150,42 @@ impl<T: Hash + Ord, A: Allocator> Set<T, A> {
         ensures errors { IsOkUnless result ArenaError.OutOfSystemMemory }
         ensures err { OnErr result (self.new ≡ self.old) }
     {
-        let added = self.tree.insert(value)?;
+        let added = self.inner.insert(value)?;
         Ok(added)
     }
 
+    /// Drops the element, and returns whether it was there. Never fails.
+    /// Logarithmic, no allocation.
+    #[inline]
+    pub fn remove(&mut self, value: &T) -> bool
+    where
+        T: Drop,
+        ensures there { result ≡ is_member (eq_by_cmp T.cmp) self.old value.now }
+        ensures changes { ChangesAt (eq_by_cmp T.cmp) self.old value.now false self.new }
+        ensures elements { self.new ≡ remove_key (eq_by_cmp T.cmp value.now) self.old }
+        ensures len { length self.new + (if result then 1 else 0) ≡ length self.old }
+    {
+        self.inner.remove(value)
+    }
+
+    /// Takes the element out, and returns the one that was kept, if it was there. Never fails.
+    /// Logarithmic, no allocation.
+    #[inline]
+    pub fn take(&mut self, value: &T) -> Option<T>
+        ensures element { result ≡ find (eq_by_cmp T.cmp value.now) self.old }
+        ensures there { is_some result ≡ is_member (eq_by_cmp T.cmp) self.old value.now }
+        ensures changes { ChangesAt (eq_by_cmp T.cmp) self.old value.now false self.new }
+        ensures elements { self.new ≡ remove_key (eq_by_cmp T.cmp value.now) self.old }
+        ensures len { length self.new + (if is_some result then 1 else 0) ≡ length self.old }
+    {
+        self.inner.take(value)
+    }
+
     /// Puts an element in, in the place of the one that is there, and returns that one.
+    /// Logarithmic: one search where the element is there, and else two; asks for memory only where the
+    /// element is new.
     ///
-    /// Fails as [`insert`](Set::insert) does. One search where the element is there, and else two.
+    /// Fails as [`insert`](Set::insert) does.
     #[inline]
     pub fn replace(&mut self, value: T) -> Result<Option<T>, ArenaError>
     where
@@ -152,60 +201,12 @@ impl<T: Hash + Ord, A: Allocator> Set<T, A> {
         ensures errors { IsOkUnless result ArenaError.OutOfSystemMemory }
         ensures err { OnErr result (self.new ≡ self.old) }
     {
-        let old = self.tree.replace(value)?;
+        let old = self.inner.replace(value)?;
         Ok(old)
     }
-
-    /// Drops the element, and returns whether it was there. One search, and never fails.
-    #[inline]
-    pub fn remove(&mut self, value: &T) -> bool
-    where
-        T: Drop,
-        ensures there { result ≡ is_member (eq_by_cmp T.cmp) self.old value.now }
-        ensures changes { ChangesAt (eq_by_cmp T.cmp) self.old value.now false self.new }
-        ensures elements { self.new ≡ remove_key (eq_by_cmp T.cmp value.now) self.old }
-        ensures len { length self.new + (if result then 1 else 0) ≡ length self.old }
-    {
-        self.tree.remove(value)
-    }
-
-    /// Takes the element out, and returns the one that was kept, if it was there. One search, and never
-    /// fails.
-    #[inline]
-    pub fn take(&mut self, value: &T) -> Option<T>
-        ensures element { result ≡ find (eq_by_cmp T.cmp value.now) self.old }
-        ensures there { is_some result ≡ is_member (eq_by_cmp T.cmp) self.old value.now }
-        ensures changes { ChangesAt (eq_by_cmp T.cmp) self.old value.now false self.new }
-        ensures elements { self.new ≡ remove_key (eq_by_cmp T.cmp value.now) self.old }
-        ensures len { length self.new + (if is_some result then 1 else 0) ≡ length self.old }
-    {
-        self.tree.take(value)
-    }
-
-    /// Keeps the elements for which the closure returns `true`, and drops the others. It visits each
-    /// element once, in order. Linear, and never fails.
-    pub fn retain<F: FnMut(&T) -> bool>(&mut self, keep: F)
-    where
-        T: Drop,
-        requires { F.IsAlwaysCallable keep }
-        ensures { IsFiltered (CalledAt F.FnMut) keep self.old self.new }
-    {
-        self.tree.retain(keep);
-    }
 }
 
-impl<T: Hash + Ord + Drop, A: Allocator> IntoIterator for Set<T, A> {
-    type Item = T;
-
-    type IntoIter = IntoIter<T, A>;
-
-    ghost into_iter_gives = { λ set it. (it ≡ set) × IsStrictlySortedBy T.cmp set × (length set < 2 ^ 63) };
-
-    fn into_iter(self) -> IntoIter<T, A> {
-        self.tree.into_iter()
-    }
-}
-
+/// The elements, as [`iter`](Set::iter).
 impl<'a, T: Hash + Ord, A: Allocator> IntoIterator for &'a Set<T, A> {
     type Item = &'a T;
 
@@ -218,23 +219,16 @@ impl<'a, T: Hash + Ord, A: Allocator> IntoIterator for &'a Set<T, A> {
     }
 }
 
-impl<T: Hash + Ord, A: Allocator> PartialEq for Set<T, A> {
-    ghost eq = { pointwise T.eq };
+/// The elements, taken out of the set, in order.
+/// Linear to the end, no allocation.
+impl<T: Hash + Ord + Drop, A: Allocator> IntoIterator for Set<T, A> {
+    type Item = T;
 
-    ghost laws = { lists_per T.PartialEq.laws };
+    type IntoIter = IntoIter<T, A>;
 
-    fn eq(&self, other: &Self) -> bool {
-        self.tree == other.tree
-    }
-}
+    ghost into_iter_gives = { λ set it. (it ≡ set) × IsStrictlySortedBy T.cmp set × (length set < 2 ^ 63) };
 
-impl<T: Hash + Ord, A: Allocator> Eq for Set<T, A> {
-    ghost laws = { lists_equiv T.Eq.laws };
-}
-
-/// A set of the elements, in order.
-impl<T: Hash + Ord + Debug, A: Allocator> Debug for Set<T, A> {
-    fn fmt<W: Write>(&self, f: &mut Formatter<W>) -> fmt::Result {
-        f.debug_set().entries(&self.tree).finish()
+    fn into_iter(self) -> IntoIter<T, A> {
+        self.inner.into_iter()
     }
 }

@@ -4,6 +4,7 @@
 pub mod constants;
 pub mod define;
 pub mod frames;
+pub mod imports;
 pub mod linker;
 pub mod properties;
 pub mod reserve;

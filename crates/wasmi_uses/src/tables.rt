@@ -1,12 +1,13 @@
-//! Tables by key: one that keeps the first value of a key, and one that counts.
+//! Tables by key: two that keep the first value of a key, and one that counts.
 ghost use Rattle.std.specs.Prelude.{◌≡◌, true, false, not, is_some, IfOk, OnErr, IfSome, IfNone, Some};
 ghost use Rattle.std.specs.Map.{set_value};
 ghost use Rattle.std.specs.Ordering.{eq_by_cmp};
 ghost use Rattle.wasmi_map_specs.specs.Maps.{value_at, ChangesAt};
 
 use std::alloc::Allocator;
-use std::hash::Hash;
+use std::hash::{BuildHasher, Hash};
 use wasmi_arena::ArenaError;
+use wasmi_hashed::map as hashed;
 use wasmi_ordered::Map;
 
 /// Puts a value under a key if there is none, and returns whether there was none.
@@ -19,6 +20,26 @@ pub fn add_once<K: Hash + Ord + Drop, V: Drop, A: Allocator + Clone>(
         ≡ not (is_some (value_at (eq_by_cmp K.cmp) table.old key))) }
     ensures added { IfOk result (λ was_free. was_free ≡ true
         → ChangesAt (eq_by_cmp K.cmp) table.old key (Some value) table.new) }
+    ensures kept { IfOk result (λ was_free. was_free ≡ false → table.new ≡ table.old) }
+    ensures err { OnErr result (table.new ≡ table.old) }
+{
+    if table.contains_key(&key) {
+        return Ok(false);
+    }
+    table.insert(key, value)?;
+    Ok(true)
+}
+
+/// As [`add_once`], in a hashed table.
+pub fn add_once_hashed<K: Eq + Hash + Drop, V: Drop, S: BuildHasher, A: Allocator + Clone>(
+    table: &mut hashed::Map<K, V, S, A>,
+    key: K,
+    value: V,
+) -> Result<bool, ArenaError>
+    ensures was_free { IfOk result (λ was_free. was_free
+        ≡ not (is_some (value_at K.eq table.old.entries key))) }
+    ensures added { IfOk result (λ was_free. was_free ≡ true
+        → ChangesAt K.eq table.old.entries key (Some value) table.new.entries) }
     ensures kept { IfOk result (λ was_free. was_free ≡ false → table.new ≡ table.old) }
     ensures err { OnErr result (table.new ≡ table.old) }
 {

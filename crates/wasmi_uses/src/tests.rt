@@ -2,21 +2,22 @@
 
 use crate::define::define;
 use crate::frames::tail_call;
+use crate::imports::{take_offered, take_offered_hashed};
 use crate::linker::{export, import};
 use crate::properties::set_once;
 use crate::reserve::put_both;
 use crate::search::position_of;
 use crate::store::FuncStore;
 use crate::symbols::{Symbols, intern_both};
-use crate::tables::{add_once, reset};
+use crate::tables::{add_once, add_once_hashed, reset};
 use crate::write::put_or_alloc;
 use std::test::Fail;
 use wasmi_arena::{StableArena, StableVec};
-use wasmi_vectors::assert_equal;
 use wasmi_collections::string_interner::Sym;
 use wasmi_collections::{HeadVec, StringInterner, hashed, ordered};
 use wasmi_dense::{Arena, ComponentVec};
 use wasmi_ordered::Map;
+use wasmi_vectors::assert_equal;
 
 #[test]
 fn a_store_of_two_functions(rt: HostRuntime) -> Result<(), Fail> {
@@ -116,6 +117,30 @@ fn a_table_of_counts(rt: HostRuntime) -> Result<(), Fail> {
     assert_equal!(rt; reset(&mut counts, &7), Some(3));
     assert_equal!(rt; reset(&mut counts, &9), None);
     assert_equal!(rt; (counts.get(&7), counts.get(&8)), (Some(&0), Some(&4)));
+    Ok(())
+}
+
+#[test]
+fn a_hashed_table_keeps_the_first_value(rt: HostRuntime) -> Result<(), Fail> {
+    let mut table: hashed::Map<u32, u64> = hashed::Map::new(rt.alloc());
+    assert!(rt; add_once_hashed(&mut table, 7, 3)?);
+    assert!(rt; !add_once_hashed(&mut table, 7, 9)?);
+    assert_equal!(rt; (table.get(&7), table.len()), (Some(&3), 1));
+    Ok(())
+}
+
+#[test]
+fn what_is_offered_is_taken(rt: HostRuntime) -> Result<(), Fail> {
+    let offered = ordered::Set::from_iter(rt.alloc(), [1, 2])?;
+    let mut taken = ordered::Set::new(rt.alloc());
+    assert!(rt; take_offered(&mut taken, &offered, 2)?);
+    assert!(rt; !take_offered(&mut taken, &offered, 3)?);
+    assert_equal!(rt; (taken.contains(&2), taken.len()), (true, 1));
+    let offered = hashed::Set::from_iter(rt.alloc(), [1, 2])?;
+    let mut taken = hashed::Set::new(rt.alloc());
+    assert!(rt; take_offered_hashed(&mut taken, &offered, 2)?);
+    assert!(rt; !take_offered_hashed(&mut taken, &offered, 3)?);
+    assert_equal!(rt; (taken.contains(&2), taken.len()), (true, 1));
     Ok(())
 }
 

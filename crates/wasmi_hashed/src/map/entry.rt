@@ -9,7 +9,7 @@ ghost use Rattle.std.specs.Map.{remove_entry, set_value};
 ghost use Rattle.std.specs.Map.Calls.{ModifiesValue};
 ghost use Rattle.std.specs.Option.{UnwrapsOrElse};
 ghost use Rattle.wasmi_map_specs.specs.Maps.{value_at};
-ghost use Rattle.wasmi_hashed.specs.MapEntry.{place, map_of, IsPlaceOf, IsOfTable, lends_place, table_rests};
+ghost use Rattle.wasmi_hashed.specs.MapEntry.{place, map_of, IsPlaceOf, IsOfInner, lends_place, inner_rests};
 
 mod occupied;
 mod vacant;
@@ -36,7 +36,7 @@ pub enum Entry<'a, K: Eq + Hash, V, S: BuildHasher = FixedState, A: Allocator = 
 #[derive(Drop)]
 pub struct OccupiedEntry<'a, K: Eq + Hash, V, S: BuildHasher = FixedState, A: Allocator = Global> {
     entry: hash_map::OccupiedEntry<'a, K, V, S, A>,
-    // Without bytes. It lets proofs of callers use the place up (docs/DECISIONS.md).
+    // proof: without bytes; it lets callers use the place up (docs/DECISIONS.md).
     lent: PhantomData<&'a ()>,
 }
 
@@ -44,16 +44,17 @@ pub struct OccupiedEntry<'a, K: Eq + Hash, V, S: BuildHasher = FixedState, A: Al
 #[derive(Drop)]
 pub struct VacantEntry<'a, K: Eq + Hash, V, S: BuildHasher = FixedState, A: Allocator = Global> {
     entry: hash_map::VacantEntry<'a, K, V, S, A>,
-    // Without bytes. It lets proofs of callers use the place up (docs/DECISIONS.md).
+    // proof: without bytes; it lets callers use the place up (docs/DECISIONS.md).
     lent: PhantomData<&'a ()>,
 }
 
 impl<K: Eq + Hash, V, S: BuildHasher, A: Allocator> Map<K, V, S, A> {
     /// The place of a key.
+    /// Amortised expected constant time; asks for memory only where the key is new.
     ///
     /// Fails with `OutOfSystemMemory` if the key isn't there and there is no memory for it, and then the
-    /// map is as before, and the key is dropped. One search: what is done with the place needs none, and
-    /// no memory.
+    /// map is as before, and the key is dropped. What is done with the place needs no search and no
+    /// memory.
     #[inline]
     pub fn entry(&mut self, key: K) -> Result<Entry<'_, K, V, S, A>, ArenaError>
     where
@@ -77,35 +78,38 @@ impl<K: Eq + Hash, V, S: BuildHasher, A: Allocator> Map<K, V, S, A> {
         ensures absent { OnErr result (value_at K.eq self.old.entries key ≡ None) }
         ensures errors { IsOkUnless result ArenaError.OutOfSystemMemory }
     {
-        of_table(place_in(self.table_mut(), key))
+        of_inner(place_in(self.inner_mut(), key))
     }
 }
 
-/// The place of a key in a table.
+// The place of a key in the map of the standard library.
+// proof: a call of its own, so that only the call above it is proved by hand.
 #[inline]
 fn place_in<'a, K: Eq + Hash + Drop, V, S: BuildHasher, A: Allocator + Clone>(
-    table: &'a mut HashMap<K, V, S, A>,
+    inner: &'a mut HashMap<K, V, S, A>,
     key: K,
 ) -> Result<hash_map::Entry<'a, K, V, S, A>, AllocFailed<K>>
-    ensures* rests { sem 𝓛 (table_rests K.row V.row S.row A.row S.Hasher.row A.Allocator table.entry result) }
-    ensures same_map { IfOk result (λ there. (entry_map_ref there).ghost_name ≡ table.entry.ghost_name) }
-    ensures place { IfOk result (IsPlaceOf K.eq (map_of table.old) key) }
-    ensures absent { OnErr result (value_at K.eq table.old.entries key ≡ None) }
+    ensures* rests { sem 𝓛 (inner_rests K.row V.row S.row A.row S.Hasher.row A.Allocator inner.entry result) }
+    ensures same_map { IfOk result (λ there. (entry_map_ref there).ghost_name ≡ inner.entry.ghost_name) }
+    ensures place { IfOk result (IsPlaceOf K.eq (map_of inner.old) key) }
+    ensures absent { OnErr result (value_at K.eq inner.old.entries key ≡ None) }
 {
-    table.entry(key)
+    inner.entry(key)
 }
 
-/// What a map answers where its table answers this.
+// What a map returns where the map of the standard library returns this.
+// proof: a call of its own, so that only the call above it is proved by hand.
 #[inline]
-fn of_table<'a, K: Eq + Hash + Drop, V, S: BuildHasher, A: Allocator>(
+fn of_inner<'a, K: Eq + Hash + Drop, V, S: BuildHasher, A: Allocator>(
     there: Result<hash_map::Entry<'a, K, V, S, A>, AllocFailed<K>>,
 ) -> Result<Entry<'a, K, V, S, A>, ArenaError>
-    ensures { IsOfTable there.entry result }
+    ensures { IsOfInner there.entry result }
 {
     Ok(Entry::of(there?))
 }
 
 impl<'a, K: Eq + Hash, V, S: BuildHasher, A: Allocator> Entry<'a, K, V, S, A> {
+    // The same place, as one of a map of this crate.
     #[inline]
     fn of(entry: hash_map::Entry<'a, K, V, S, A>) -> Self
         ensures { place result ≡ entry.entry }
@@ -122,8 +126,10 @@ impl<'a, K: Eq + Hash, V, S: BuildHasher, A: Allocator> Entry<'a, K, V, S, A> {
         }
     }
 
+    // The same place, as one of the standard library.
+    // proof: a call of its own, so that only the call above it is proved by hand.
     #[inline]
-    fn into_table(self) -> hash_map::Entry<'a, K, V, S, A>
+    fn into_inner(self) -> hash_map::Entry<'a, K, V, S, A>
         ensures { result ≡ place self.entry }
     {
         match self {
@@ -132,7 +138,48 @@ impl<'a, K: Eq + Hash, V, S: BuildHasher, A: Allocator> Entry<'a, K, V, S, A> {
         }
     }
 
+    /// The value that is there, or else this one, which is put in. Never fails, since the place has
+    /// room.
+    /// Constant time, no allocation.
+    #[inline]
+    pub fn or_insert(self, default: V) -> Result<&'a mut V, ArenaError>
+    where
+        V: Drop,
+        ensures* writes_back { sem 𝓛 (entry_follows_ok K.row V.row S.row A.row S.Hasher.row A.Allocator (place self.entry) result) }
+        ensures value { IfOk result (λ value. value.now ≡ unwrap_or (entry_value (place self.entry)) default) }
+        ensures ok { IsOk result }
+    {
+        Ok(self.into_inner().or_insert(default))
+    }
+
+    /// The value that is there, or else what the closure returns, which is put in. The closure isn't
+    /// called where the key is there. Never fails.
+    /// Constant time, no allocation.
+    #[inline]
+    pub fn or_insert_with<F: FnOnce() -> V>(self, default: F) -> Result<&'a mut V, ArenaError>
+        requires { entry_value (place self) ≡ None → F.pre default }
+        ensures* writes_back { sem 𝓛 (entry_follows_ok K.row V.row S.row A.row S.Hasher.row A.Allocator (place self.entry) result) }
+        ensures value { IfOk result (λ value. UnwrapsOrElse (entry_value (place self.entry)) (F.post default) value.now) }
+        ensures ok { IsOk result }
+    {
+        Ok(self.into_inner().or_insert_with(default))
+    }
+
+    /// As [`or_insert_with`](Entry::or_insert_with), with the key handed to the closure.
+    /// Constant time, no allocation.
+    #[inline]
+    pub fn or_insert_with_key<F: FnOnce(&K) -> V>(self, default: F) -> Result<&'a mut V, ArenaError>
+        requires { entry_value (place self) ≡ None → (p : Bor K) → p.now ≡ entry_key (place self) → F.pre default p }
+        ensures* writes_back { sem 𝓛 (entry_follows_ok K.row V.row S.row A.row S.Hasher.row A.Allocator (place self.entry) result) }
+        ensures value { IfOk result (λ value. UnwrapsOrElse (entry_value (place self.entry))
+            (FnOnceReturnsAt F.FnOnce default (entry_key (place self.entry))) value.now) }
+        ensures ok { IsOk result }
+    {
+        Ok(self.into_inner().or_insert_with_key(default))
+    }
+
     /// The key: the one that is kept, or else the one that was asked for.
+    /// Constant time, no allocation.
     pub fn key(&self) -> &K
         ensures { result.now ≡ entry_key (place self.now) }
     {
@@ -142,55 +189,8 @@ impl<'a, K: Eq + Hash, V, S: BuildHasher, A: Allocator> Entry<'a, K, V, S, A> {
         }
     }
 
-    /// The value that is there, or else this one, which is put in. Doesn't fail, since the place has room.
-    #[inline]
-    pub fn or_insert(self, default: V) -> Result<&'a mut V, ArenaError>
-    where
-        V: Drop,
-        ensures* writes_back { sem 𝓛 (entry_follows_ok K.row V.row S.row A.row S.Hasher.row A.Allocator (place self.entry) result) }
-        ensures value { IfOk result (λ value. value.now ≡ unwrap_or (entry_value (place self.entry)) default) }
-        ensures ok { IsOk result }
-    {
-        Ok(self.into_table().or_insert(default))
-    }
-
-    /// The value that is there, or else what the closure returns, which is put in. The closure isn't called
-    /// where the key is there.
-    #[inline]
-    pub fn or_insert_with<F: FnOnce() -> V>(self, default: F) -> Result<&'a mut V, ArenaError>
-        requires { entry_value (place self) ≡ None → F.pre default }
-        ensures* writes_back { sem 𝓛 (entry_follows_ok K.row V.row S.row A.row S.Hasher.row A.Allocator (place self.entry) result) }
-        ensures value { IfOk result (λ value. UnwrapsOrElse (entry_value (place self.entry)) (F.post default) value.now) }
-        ensures ok { IsOk result }
-    {
-        Ok(self.into_table().or_insert_with(default))
-    }
-
-    /// The same, with the key handed to the closure.
-    #[inline]
-    pub fn or_insert_with_key<F: FnOnce(&K) -> V>(self, default: F) -> Result<&'a mut V, ArenaError>
-        requires { entry_value (place self) ≡ None → (p : Bor K) → p.now ≡ entry_key (place self) → F.pre default p }
-        ensures* writes_back { sem 𝓛 (entry_follows_ok K.row V.row S.row A.row S.Hasher.row A.Allocator (place self.entry) result) }
-        ensures value { IfOk result (λ value. UnwrapsOrElse (entry_value (place self.entry))
-            (FnOnceReturnsAt F.FnOnce default (entry_key (place self.entry))) value.now) }
-        ensures ok { IsOk result }
-    {
-        Ok(self.into_table().or_insert_with_key(default))
-    }
-
-    /// The value that is there, or else the default, which is put in.
-    #[inline]
-    pub fn or_default(self) -> Result<&'a mut V, ArenaError>
-    where
-        V: MadeWith<A>,
-        ensures* writes_back { sem 𝓛 (entry_follows_ok K.row V.row S.row A.row S.Hasher.row A.Allocator (place self.entry) result) }
-        ensures value { IfOk result (λ value. UnwrapsOrElse (entry_value (place self.entry)) V.is_made_with value.now) }
-        ensures ok { IsOk result }
-    {
-        Ok(self.into_table().or_default())
-    }
-
     /// The same place, with its value changed by the closure, if there is one.
+    /// Constant time, no allocation.
     #[inline]
     pub fn and_modify<F: FnOnce(&mut V)>(self, modify: F) -> Self
         requires { (p : MutBor V) → entry_value (place self) ≡ Some p.now → F.pre modify p }
@@ -200,6 +200,19 @@ impl<'a, K: Eq + Hash, V, S: BuildHasher, A: Allocator> Entry<'a, K, V, S, A> {
         ensures written { (last : V) → map_with_value (place result) last ≡ map_with_value (place self.entry) last }
         ensures removed { IsUnchanged (map_without_entry (place self.entry)) (map_without_entry (place result)) }
     {
-        Entry::of(self.into_table().and_modify(modify))
+        Entry::of(self.into_inner().and_modify(modify))
+    }
+
+    /// The value that is there, or else the default, which is put in. Never fails.
+    /// Constant time, no allocation.
+    #[inline]
+    pub fn or_default(self) -> Result<&'a mut V, ArenaError>
+    where
+        V: MadeWith<A>,
+        ensures* writes_back { sem 𝓛 (entry_follows_ok K.row V.row S.row A.row S.Hasher.row A.Allocator (place self.entry) result) }
+        ensures value { IfOk result (λ value. UnwrapsOrElse (entry_value (place self.entry)) V.is_made_with value.now) }
+        ensures ok { IsOk result }
+    {
+        Ok(self.into_inner().or_default())
     }
 }

@@ -1,4 +1,4 @@
-//! Set theory: tests and walks over two sets, and sets made of two.
+//! Set theory: tests of two sets, iterators over two, and sets made of two.
 ghost use Rattle.std.specs.Prelude.{◌<◌, ◌^◌, ◌↔◌, length, IfOk, IsOkUnless, IsTrue};
 ghost use Rattle.std.specs.List.{IsDistinct};
 ghost use Rattle.std.specs.Map.Iter.{ShowsInOrder, deref};
@@ -13,114 +13,125 @@ use std::hash::{BuildHasher, Hash};
 use wasmi_arena::ArenaError;
 
 impl<T: Eq + Hash, S: BuildHasher, A: Allocator> Set<T, S, A> {
-    /// Whether the two sets have no element in common. No allocation.
+    /// Whether the two sets have no element in common.
+    /// Expected linear, no allocation.
     pub fn is_disjoint(&self, other: &Self) -> bool
         ensures { IsTrue result ↔ IsDisjoint T.eq self.now.elements other.now.elements }
     {
-        self.table.is_disjoint(&other.table)
+        self.inner.is_disjoint(&other.inner)
     }
 
-    /// Whether each element of this set is in the other. No allocation.
+    /// Whether each element of this set is in the other.
+    /// Expected linear, no allocation.
     pub fn is_subset(&self, other: &Self) -> bool
         ensures { IsTrue result ↔ IsSubset T.eq self.now.elements other.now.elements }
     {
-        self.table.is_subset(&other.table)
+        self.inner.is_subset(&other.inner)
     }
 
-    /// Whether each element of the other set is in this one. No allocation.
+    /// Whether each element of the other set is in this one.
+    /// Expected linear, no allocation.
     pub fn is_superset(&self, other: &Self) -> bool
         ensures { IsTrue result ↔ IsSubset T.eq other.now.elements self.now.elements }
     {
-        self.table.is_superset(&other.table)
+        self.inner.is_superset(&other.inner)
     }
 
-    /// The elements of this set that the other lacks. No allocation.
+    /// The elements of this set that the other lacks, in unspecified order.
+    /// Expected linear, no allocation.
     pub fn difference<'a>(&'a self, other: &'a Self) -> Difference<'a, T, S, A>
         ensures members { IsDifference T.eq self.now.elements other.now.elements result }
         ensures distinct { IsDistinct T.eq result }
         ensures bound { length result < 2 ^ 63 }
         ensures runs { ShowsInOrder (deref {X = T}) }
     {
-        self.table.difference(&other.table)
+        self.inner.difference(&other.inner)
     }
 
-    /// The elements that exactly one of the two sets has. No allocation.
+    /// The elements that exactly one of the two sets has, in unspecified order.
+    /// Expected linear, no allocation.
     pub fn symmetric_difference<'a>(&'a self, other: &'a Self) -> SymmetricDifference<'a, T, S, A>
         ensures members { IsSymmetricDifference T.eq self.now.elements other.now.elements result }
         ensures distinct { IsDistinct T.eq result }
         ensures bound { length result < 2 ^ 64 }
         ensures runs { ShowsInOrder (deref {X = T}) }
     {
-        self.table.symmetric_difference(&other.table)
+        self.inner.symmetric_difference(&other.inner)
     }
 
-    /// The elements that both sets have. No allocation.
+    /// The elements that both sets have, in unspecified order.
+    /// Expected linear, no allocation.
     pub fn intersection<'a>(&'a self, other: &'a Self) -> Intersection<'a, T, S, A>
         ensures members { IsIntersection T.eq self.now.elements other.now.elements result }
         ensures distinct { IsDistinct T.eq result }
         ensures bound { length result < 2 ^ 63 }
         ensures runs { ShowsInOrder (deref {X = T}) }
     {
-        self.table.intersection(&other.table)
+        self.inner.intersection(&other.inner)
     }
 
-    /// The elements that one of the sets has, or both, each once. No allocation.
+    /// The elements that one of the sets has, or both, each once, in unspecified order.
+    /// Expected linear, no allocation.
     pub fn union<'a>(&'a self, other: &'a Self) -> Union<'a, T, S, A>
         ensures members { IsUnion T.eq self.now.elements other.now.elements result }
         ensures distinct { IsDistinct T.eq result }
         ensures bound { length result < 2 ^ 64 }
         ensures runs { ShowsInOrder (deref {X = T}) }
     {
-        self.table.union(&other.table)
+        self.inner.union(&other.inner)
     }
 }
 
 impl<T: Eq + Hash + Clone, A: Allocator + Clone> Set<T, FixedState, A> {
     /// A set of clones of the elements that both sets have.
+    /// Expected linear.
     ///
-    /// Fails with `OutOfSystemMemory` if there is no memory, or a clone fails. Linear.
+    /// Fails with `OutOfSystemMemory` if there is no memory, or a clone fails.
     pub fn bitand(&self, other: &Self) -> Result<Self, ArenaError>
         ensures ok { IfOk result (λ set. HoldsClones T.eq T.is_clone
             (IsIntersection T.eq self.now.elements other.now.elements) set.elements) }
         ensures errors { IsOkUnless result ArenaError.OutOfSystemMemory }
     {
-        let table = (&self.table & &other.table)?;
-        Ok(Set { table })
+        let inner = (&self.inner & &other.inner)?;
+        Ok(Set { inner })
     }
 
     /// A set of clones of the elements that one of the sets has, or both.
+    /// Expected linear.
     ///
-    /// Fails as [`bitand`](Set::bitand) does. Linear.
+    /// Fails as [`bitand`](Set::bitand) does.
     pub fn bitor(&self, other: &Self) -> Result<Self, ArenaError>
         ensures ok { IfOk result (λ set. HoldsClones T.eq T.is_clone
             (IsUnion T.eq self.now.elements other.now.elements) set.elements) }
         ensures errors { IsOkUnless result ArenaError.OutOfSystemMemory }
     {
-        let table = (&self.table | &other.table)?;
-        Ok(Set { table })
+        let inner = (&self.inner | &other.inner)?;
+        Ok(Set { inner })
     }
 
     /// A set of clones of the elements that exactly one of the sets has.
+    /// Expected linear.
     ///
-    /// Fails as [`bitand`](Set::bitand) does. Linear.
+    /// Fails as [`bitand`](Set::bitand) does.
     pub fn bitxor(&self, other: &Self) -> Result<Self, ArenaError>
         ensures ok { IfOk result (λ set. HoldsClones T.eq T.is_clone
             (IsSymmetricDifference T.eq self.now.elements other.now.elements) set.elements) }
         ensures errors { IsOkUnless result ArenaError.OutOfSystemMemory }
     {
-        let table = (&self.table ^ &other.table)?;
-        Ok(Set { table })
+        let inner = (&self.inner ^ &other.inner)?;
+        Ok(Set { inner })
     }
 
     /// A set of clones of the elements of this set that the other lacks.
+    /// Expected linear.
     ///
-    /// Fails as [`bitand`](Set::bitand) does. Linear.
+    /// Fails as [`bitand`](Set::bitand) does.
     pub fn sub(&self, other: &Self) -> Result<Self, ArenaError>
         ensures ok { IfOk result (λ set. HoldsClones T.eq T.is_clone
             (IsDifference T.eq self.now.elements other.now.elements) set.elements) }
         ensures errors { IsOkUnless result ArenaError.OutOfSystemMemory }
     {
-        let table = (&self.table - &other.table)?;
-        Ok(Set { table })
+        let inner = (&self.inner - &other.inner)?;
+        Ok(Set { inner })
     }
 }

@@ -1,4 +1,4 @@
-//! Calls that put several elements into a set, or make one of them.
+//! Calls that put several elements into a set, make one of them, or clone a set.
 ghost use Rattle.std.specs.Prelude.{◌≡◌, [], List, map, IfOk, OnOk, OnErr, IsOkUnless};
 ghost use Rattle.std.specs.Iterator.{IsFiniteIterable};
 ghost use Rattle.std.specs.List.{AllZip};
@@ -11,29 +11,51 @@ use std::alloc::Allocator;
 use std::hash::{BuildHasher, Hash};
 use wasmi_arena::ArenaError;
 
-impl<T: Eq + Hash, S: BuildHasher, A: Allocator + Clone> Set<T, S, A> {
-    /// Inserts the elements, one by one.
+impl<T: Eq + Hash, S: BuildHasher, A: Allocator> Set<T, S, A> {
+    /// A clone of each element, in a set over a clone of the allocator, with a clone of the state.
+    /// Linear.
     ///
-    /// Fails as the first [`insert`](Set::insert) that fails: the elements before that one are in, and it
-    /// is dropped with the rest.
-    pub fn extend<U: IntoIterator<Item = T>>(&mut self, iter: U) -> Result<(), ArenaError>
+    /// Fails with `OutOfSystemMemory` if there is no memory, the clone of an element, the state or the
+    /// allocator fails, or an element's clone doesn't equal it or has another hash.
+    pub fn clone(&self) -> Result<Self, ArenaError>
+    where
+        T: Clone,
+        S: Clone,
+        A: Clone,
+        ensures elements { IfOk result (λ set. AllZip T.is_clone self.now.elements set.elements) }
+        ensures errors { IsOkUnless result ArenaError.OutOfSystemMemory }
+    {
+        let inner = self.inner.clone()?;
+        Ok(Set { inner })
+    }
+}
+
+impl<T: Eq + Hash, A: Allocator + Clone> Set<T, FixedState, A> {
+    /// The elements, inserted one by one into an empty set.
+    /// Expected linear in the elements.
+    ///
+    /// Fails as the first [`insert`](Set::insert) that fails, and then drops all.
+    pub fn from_iter<U: IntoIterator<Item = T>>(alloc: A, iter: U) -> Result<Self, ArenaError>
     where
         T: Drop,
         requires { IsFiniteIterable U.into_iter_gives U.IntoIter.can_next U.IntoIter.remaining iter }
-        ensures ok { OnOk result (TakesAll T.eq U.into_iter_gives U.IntoIter.next_gives
-            (λ items. items) iter self.old.elements self.new.elements) }
-        ensures err { OnErr result (TakesUntilRefused T.eq U.into_iter_gives
-            U.IntoIter.next_gives (λ items. items) iter self.old.elements self.new.elements) }
-        ensures hasher { self.new.hasher ≡ self.old.hasher }
+        ensures ok { IfOk result (λ set. TakesAll T.eq U.into_iter_gives U.IntoIter.next_gives
+            (λ items. items) iter [] set.elements) }
+        ensures err { OnErr result ((held : List T) × TakesUntilRefused T.eq
+            U.into_iter_gives U.IntoIter.next_gives (λ items. items) iter [] held) }
         ensures errors { IsOkUnless result ArenaError.OutOfSystemMemory }
     {
-        for value in iter {
-            self.insert(value)?;
-        }
-        Ok(())
+        let mut set = Set::new(alloc);
+        set.extend(iter)?;
+        Ok(set)
     }
+}
 
-    /// The same of references, whose elements are copied.
+impl<T: Eq + Hash, S: BuildHasher, A: Allocator + Clone> Set<T, S, A> {
+    /// Inserts copies of the elements, one by one.
+    /// Expected linear in the elements.
+    ///
+    /// Fails as [`extend`](Set::extend) does.
     pub fn extend_ref<'a, U: IntoIterator<Item = &'a T>>(
         &mut self,
         iter: U,
@@ -53,42 +75,26 @@ impl<T: Eq + Hash, S: BuildHasher, A: Allocator + Clone> Set<T, S, A> {
         }
         Ok(())
     }
-}
 
-impl<T: Eq + Hash, A: Allocator + Clone> Set<T, FixedState, A> {
-    /// The elements, inserted one by one into an empty set.
+    /// Inserts the elements, one by one.
+    /// Expected linear in the elements.
     ///
-    /// Fails as the first [`insert`](Set::insert) that fails, and then drops all.
-    pub fn from_iter<U: IntoIterator<Item = T>>(alloc: A, iter: U) -> Result<Self, ArenaError>
+    /// Fails as the first [`insert`](Set::insert) that fails: the elements before that one are in, and
+    /// it is dropped with the rest.
+    pub fn extend<U: IntoIterator<Item = T>>(&mut self, iter: U) -> Result<(), ArenaError>
     where
         T: Drop,
         requires { IsFiniteIterable U.into_iter_gives U.IntoIter.can_next U.IntoIter.remaining iter }
-        ensures ok { IfOk result (λ set. TakesAll T.eq U.into_iter_gives U.IntoIter.next_gives
-            (λ items. items) iter [] set.elements) }
-        ensures err { OnErr result ((held : List T) × TakesUntilRefused T.eq
-            U.into_iter_gives U.IntoIter.next_gives (λ items. items) iter [] held) }
+        ensures ok { OnOk result (TakesAll T.eq U.into_iter_gives U.IntoIter.next_gives
+            (λ items. items) iter self.old.elements self.new.elements) }
+        ensures err { OnErr result (TakesUntilRefused T.eq U.into_iter_gives
+            U.IntoIter.next_gives (λ items. items) iter self.old.elements self.new.elements) }
+        ensures hasher { self.new.hasher ≡ self.old.hasher }
         ensures errors { IsOkUnless result ArenaError.OutOfSystemMemory }
     {
-        let mut set = Set::new(alloc);
-        set.extend(iter)?;
-        Ok(set)
-    }
-}
-
-impl<T: Eq + Hash, S: BuildHasher, A: Allocator> Set<T, S, A> {
-    /// A clone of each element, in a set over a clone of the allocator, with a clone of the state. Linear.
-    ///
-    /// Fails with `OutOfSystemMemory` if there is no memory, the clone of an element, the state or the
-    /// allocator fails, or an element's clone doesn't equal it or has another hash.
-    pub fn clone(&self) -> Result<Self, ArenaError>
-    where
-        T: Clone,
-        S: Clone,
-        A: Clone,
-        ensures elements { IfOk result (λ set. AllZip T.is_clone self.now.elements set.elements) }
-        ensures errors { IsOkUnless result ArenaError.OutOfSystemMemory }
-    {
-        let table = self.table.clone()?;
-        Ok(Set { table })
+        for value in iter {
+            self.insert(value)?;
+        }
+        Ok(())
     }
 }

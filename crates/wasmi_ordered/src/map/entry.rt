@@ -1,16 +1,16 @@
 //! The place of a key in a map, found by one search.
 ghost use Rattle.std.specs.Prelude.{◌≡◌, IfOk, IsOk, IsOkUnless, IsSome, OnErr, Some, None, unwrap_or};
-ghost use Rattle.std.specs.BTreeMap.{insert_entry, IsUnchanged};
-ghost use Rattle.std.specs.BTreeMap.Entry.{entry_follows_ok, entry_key, entry_map_ref, entry_value, map_with_value, map_without_entry, MatchEntry};
 ghost use Rattle.std.specs.Borrow.{Bor, MutBor, sem};
 ghost use Rattle.std.specs.Fn.{FnOnceReturnsAt};
+ghost use Rattle.std.specs.BTreeMap.{insert_entry, IsUnchanged};
+ghost use Rattle.std.specs.BTreeMap.Entry.{entry_follows_ok, entry_key, entry_map_ref, entry_value, map_with_value, map_without_entry, MatchEntry};
 ghost use Rattle.std.specs.Map.{remove_entry};
 ghost use Rattle.std.specs.Map.Calls.{ModifiesValue};
 ghost use Rattle.std.specs.Option.{UnwrapsOrElse};
 ghost use Rattle.std.specs.Ordering.{eq_by_cmp};
 ghost use Rattle.std.specs.declared.cmp.Ordering.TheVariants.{Equal};
 ghost use Rattle.wasmi_map_specs.specs.Maps.{value_at};
-ghost use Rattle.wasmi_ordered.specs.MapEntry.{place, IsPlaceOf, IsOfTree, lends_place, tree_rests};
+ghost use Rattle.wasmi_ordered.specs.MapEntry.{place, IsPlaceOf, IsOfInner, lends_place, inner_rests};
 
 mod occupied;
 mod vacant;
@@ -36,7 +36,7 @@ pub enum Entry<'a, K: Hash + Ord, V, A: Allocator = Global> {
 #[derive(Drop)]
 pub struct OccupiedEntry<'a, K: Hash + Ord, V, A: Allocator = Global> {
     entry: btree_map::OccupiedEntry<'a, K, V, A>,
-    // Without bytes. It lets proofs of callers use the place up (docs/DECISIONS.md).
+    // proof: without bytes; it lets callers use the place up (docs/DECISIONS.md).
     lent: PhantomData<&'a ()>,
 }
 
@@ -48,10 +48,11 @@ pub struct VacantEntry<'a, K: Hash + Ord, V, A: Allocator = Global> {
 
 impl<K: Hash + Ord, V, A: Allocator> Map<K, V, A> {
     /// The place of a key.
+    /// Logarithmic; asks for memory only where the key is new.
     ///
     /// Fails with `OutOfSystemMemory` if the key isn't there and there is no memory for it, and then the
-    /// map is as before, and the key is dropped. One search: what is done with the place needs none, and
-    /// no memory.
+    /// map is as before, and the key is dropped. What is done with the place needs no search and no
+    /// memory.
     #[inline]
     pub fn entry(&mut self, key: K) -> Result<Entry<'_, K, V, A>, ArenaError>
     where
@@ -72,35 +73,38 @@ impl<K: Hash + Ord, V, A: Allocator> Map<K, V, A> {
         ensures absent { OnErr result (value_at (eq_by_cmp K.cmp) self.old key ≡ None) }
         ensures errors { IsOkUnless result ArenaError.OutOfSystemMemory }
     {
-        of_tree(place_in(self.tree_mut(), key))
+        of_inner(place_in(self.inner_mut(), key))
     }
 }
 
-/// The place of a key in a tree.
+// The place of a key in the map of the standard library.
+// proof: a call of its own, so that only the call above it is proved by hand.
 #[inline]
 fn place_in<'a, K: Hash + Ord + Drop, V, A: Allocator + Clone>(
-    tree: &'a mut BTreeMap<K, V, A>,
+    inner: &'a mut BTreeMap<K, V, A>,
     key: K,
 ) -> Result<btree_map::Entry<'a, K, V, A>, AllocFailed<K>>
-    ensures* rests { sem 𝓛 (tree_rests K.row V.row A.row A.Allocator tree.entry result) }
-    ensures same_map { IfOk result (λ there. (entry_map_ref there).ghost_name ≡ tree.entry.ghost_name) }
-    ensures place { IfOk result (IsPlaceOf K.cmp tree.old.entries key) }
-    ensures absent { OnErr result (value_at (eq_by_cmp K.cmp) tree.old.entries key ≡ None) }
+    ensures* rests { sem 𝓛 (inner_rests K.row V.row A.row A.Allocator inner.entry result) }
+    ensures same_map { IfOk result (λ there. (entry_map_ref there).ghost_name ≡ inner.entry.ghost_name) }
+    ensures place { IfOk result (IsPlaceOf K.cmp inner.old.entries key) }
+    ensures absent { OnErr result (value_at (eq_by_cmp K.cmp) inner.old.entries key ≡ None) }
 {
-    tree.entry(key)
+    inner.entry(key)
 }
 
-/// What a map answers where its tree answers this.
+// What a map returns where the map of the standard library returns this.
+// proof: a call of its own, so that only the call above it is proved by hand.
 #[inline]
-fn of_tree<'a, K: Hash + Ord + Drop, V, A: Allocator>(
+fn of_inner<'a, K: Hash + Ord + Drop, V, A: Allocator>(
     there: Result<btree_map::Entry<'a, K, V, A>, AllocFailed<K>>,
 ) -> Result<Entry<'a, K, V, A>, ArenaError>
-    ensures { IsOfTree there.entry result }
+    ensures { IsOfInner there.entry result }
 {
     Ok(Entry::of(there?))
 }
 
 impl<'a, K: Hash + Ord, V, A: Allocator> Entry<'a, K, V, A> {
+    // The same place, as one of a map of this crate.
     #[inline]
     fn of(entry: btree_map::Entry<'a, K, V, A>) -> Self
         ensures { place result ≡ entry.entry }
@@ -114,8 +118,10 @@ impl<'a, K: Hash + Ord, V, A: Allocator> Entry<'a, K, V, A> {
         }
     }
 
+    // The same place, as one of the standard library.
+    // proof: a call of its own, so that only the call above it is proved by hand.
     #[inline]
-    fn into_tree(self) -> btree_map::Entry<'a, K, V, A>
+    fn into_inner(self) -> btree_map::Entry<'a, K, V, A>
         ensures { result ≡ place self.entry }
     {
         match self {
@@ -124,7 +130,48 @@ impl<'a, K: Hash + Ord, V, A: Allocator> Entry<'a, K, V, A> {
         }
     }
 
+    /// The value that is there, or else this one, which is put in. Never fails, since the place has
+    /// room.
+    /// At most logarithmic, without comparing keys; no allocation.
+    #[inline]
+    pub fn or_insert(self, default: V) -> Result<&'a mut V, ArenaError>
+    where
+        V: Drop,
+        ensures* writes_back { sem 𝓛 (entry_follows_ok K.row V.row A.row A.Allocator (place self.entry) result) }
+        ensures value { IfOk result (λ value. value.now ≡ unwrap_or (entry_value (place self.entry)) default) }
+        ensures ok { IsOk result }
+    {
+        Ok(self.into_inner().or_insert(default))
+    }
+
+    /// The value that is there, or else what the closure returns, which is put in. The closure isn't
+    /// called where the key is there. Never fails.
+    /// At most logarithmic, without comparing keys; no allocation.
+    #[inline]
+    pub fn or_insert_with<F: FnOnce() -> V>(self, default: F) -> Result<&'a mut V, ArenaError>
+        requires { entry_value (place self) ≡ None → F.pre default }
+        ensures* writes_back { sem 𝓛 (entry_follows_ok K.row V.row A.row A.Allocator (place self.entry) result) }
+        ensures value { IfOk result (λ value. UnwrapsOrElse (entry_value (place self.entry)) (F.post default) value.now) }
+        ensures ok { IsOk result }
+    {
+        Ok(self.into_inner().or_insert_with(default))
+    }
+
+    /// As [`or_insert_with`](Entry::or_insert_with), with the key handed to the closure.
+    /// At most logarithmic, without comparing keys; no allocation.
+    #[inline]
+    pub fn or_insert_with_key<F: FnOnce(&K) -> V>(self, default: F) -> Result<&'a mut V, ArenaError>
+        requires { entry_value (place self) ≡ None → (p : Bor K) → p.now ≡ entry_key (place self) → F.pre default p }
+        ensures* writes_back { sem 𝓛 (entry_follows_ok K.row V.row A.row A.Allocator (place self.entry) result) }
+        ensures value { IfOk result (λ value. UnwrapsOrElse (entry_value (place self.entry))
+            (FnOnceReturnsAt F.FnOnce default (entry_key (place self.entry))) value.now) }
+        ensures ok { IsOk result }
+    {
+        Ok(self.into_inner().or_insert_with_key(default))
+    }
+
     /// The key: the one that is kept, or else the one that was asked for.
+    /// Logarithmic, without comparing keys; no allocation.
     pub fn key(&self) -> &K
         ensures { result.now ≡ entry_key (place self.now) }
     {
@@ -134,55 +181,8 @@ impl<'a, K: Hash + Ord, V, A: Allocator> Entry<'a, K, V, A> {
         }
     }
 
-    /// The value that is there, or else this one, which is put in. Doesn't fail, since the place has room.
-    #[inline]
-    pub fn or_insert(self, default: V) -> Result<&'a mut V, ArenaError>
-    where
-        V: Drop,
-        ensures* writes_back { sem 𝓛 (entry_follows_ok K.row V.row A.row A.Allocator (place self.entry) result) }
-        ensures value { IfOk result (λ value. value.now ≡ unwrap_or (entry_value (place self.entry)) default) }
-        ensures ok { IsOk result }
-    {
-        Ok(self.into_tree().or_insert(default))
-    }
-
-    /// The value that is there, or else what the closure returns, which is put in. The closure isn't called
-    /// where the key is there.
-    #[inline]
-    pub fn or_insert_with<F: FnOnce() -> V>(self, default: F) -> Result<&'a mut V, ArenaError>
-        requires { entry_value (place self) ≡ None → F.pre default }
-        ensures* writes_back { sem 𝓛 (entry_follows_ok K.row V.row A.row A.Allocator (place self.entry) result) }
-        ensures value { IfOk result (λ value. UnwrapsOrElse (entry_value (place self.entry)) (F.post default) value.now) }
-        ensures ok { IsOk result }
-    {
-        Ok(self.into_tree().or_insert_with(default))
-    }
-
-    /// The same, with the key handed to the closure.
-    #[inline]
-    pub fn or_insert_with_key<F: FnOnce(&K) -> V>(self, default: F) -> Result<&'a mut V, ArenaError>
-        requires { entry_value (place self) ≡ None → (p : Bor K) → p.now ≡ entry_key (place self) → F.pre default p }
-        ensures* writes_back { sem 𝓛 (entry_follows_ok K.row V.row A.row A.Allocator (place self.entry) result) }
-        ensures value { IfOk result (λ value. UnwrapsOrElse (entry_value (place self.entry))
-            (FnOnceReturnsAt F.FnOnce default (entry_key (place self.entry))) value.now) }
-        ensures ok { IsOk result }
-    {
-        Ok(self.into_tree().or_insert_with_key(default))
-    }
-
-    /// The value that is there, or else the default, which is put in.
-    #[inline]
-    pub fn or_default(self) -> Result<&'a mut V, ArenaError>
-    where
-        V: MadeWith<A>,
-        ensures* writes_back { sem 𝓛 (entry_follows_ok K.row V.row A.row A.Allocator (place self.entry) result) }
-        ensures value { IfOk result (λ value. UnwrapsOrElse (entry_value (place self.entry)) V.is_made_with value.now) }
-        ensures ok { IsOk result }
-    {
-        Ok(self.into_tree().or_default())
-    }
-
     /// The same place, with its value changed by the closure, if there is one.
+    /// Logarithmic, without comparing keys; no allocation.
     #[inline]
     pub fn and_modify<F: FnOnce(&mut V)>(self, modify: F) -> Self
         requires { (p : MutBor V) → entry_value (place self) ≡ Some p.now → F.pre modify p }
@@ -192,6 +192,19 @@ impl<'a, K: Hash + Ord, V, A: Allocator> Entry<'a, K, V, A> {
         ensures written { (last : V) → map_with_value (place result) last ≡ map_with_value (place self.entry) last }
         ensures removed { IsUnchanged (map_without_entry (place self.entry)) (map_without_entry (place result)) }
     {
-        Entry::of(self.into_tree().and_modify(modify))
+        Entry::of(self.into_inner().and_modify(modify))
+    }
+
+    /// The value that is there, or else the default, which is put in. Never fails.
+    /// At most logarithmic, without comparing keys; no allocation.
+    #[inline]
+    pub fn or_default(self) -> Result<&'a mut V, ArenaError>
+    where
+        V: MadeWith<A>,
+        ensures* writes_back { sem 𝓛 (entry_follows_ok K.row V.row A.row A.Allocator (place self.entry) result) }
+        ensures value { IfOk result (λ value. UnwrapsOrElse (entry_value (place self.entry)) V.is_made_with value.now) }
+        ensures ok { IsOk result }
+    {
+        Ok(self.into_inner().or_default())
     }
 }

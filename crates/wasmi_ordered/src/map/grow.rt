@@ -1,4 +1,4 @@
-//! Calls that put several entries into a map, or make one of them.
+//! Calls that put several entries into a map, make one of them, or clone a map.
 ghost use Rattle.std.specs.Prelude.{[], List, map, IfOk, OnOk, OnErr, IsOkUnless};
 ghost use Rattle.std.specs.Iterator.{IsFiniteIterable};
 ghost use Rattle.std.specs.List.{AllZip};
@@ -12,28 +12,28 @@ use std::hash::Hash;
 use wasmi_arena::ArenaError;
 
 impl<K: Hash + Ord, V, A: Allocator + Clone> Map<K, V, A> {
-    /// Inserts the pairs, one by one.
+    /// A clone of each key and value, in a map over a clone of the allocator.
+    /// Linear.
     ///
-    /// Fails as the first [`insert`](Map::insert) that fails: the pairs before that one are in, and it is
-    /// dropped with the rest.
-    pub fn extend<U: IntoIterator<Item = (K, V)>>(&mut self, iter: U) -> Result<(), ArenaError>
+    /// Fails with `OutOfSystemMemory` if there is no memory, the clone of a key, a value or the
+    /// allocator fails, or the clones of the keys aren't in order, which clones that equal their sources
+    /// are.
+    pub fn clone(&self) -> Result<Self, ArenaError>
     where
-        K: Drop,
-        V: Drop,
-        requires { IsFiniteIterable U.into_iter_gives U.IntoIter.can_next U.IntoIter.remaining iter }
-        ensures ok { OnOk result (TakesAll (eq_by_cmp K.cmp) U.into_iter_gives U.IntoIter.next_gives
-            (λ pairs. pairs) iter self.old self.new) }
-        ensures err { OnErr result (TakesUntilRefused (eq_by_cmp K.cmp) U.into_iter_gives
-            U.IntoIter.next_gives (λ pairs. pairs) iter self.old self.new) }
+        K: Clone,
+        V: Clone,
+        ensures entries { IfOk result (AllZip
+            (λ old new. K.is_clone old.0 new.0 × V.is_clone old.1 new.1) self.now) }
         ensures errors { IsOkUnless result ArenaError.OutOfSystemMemory }
     {
-        for (key, value) in iter {
-            self.insert(key, value)?;
-        }
-        Ok(())
+        let inner = self.inner.clone()?;
+        Ok(Map { inner })
     }
 
-    /// The same of pairs of references, whose keys and values are copied.
+    /// Inserts copies of the keys and values, one by one.
+    /// `n log n` for `n` pairs.
+    ///
+    /// Fails as [`extend`](Map::extend) does.
     pub fn extend_ref<'a, U: IntoIterator<Item = (&'a K, &'a V)>>(
         &mut self,
         iter: U,
@@ -54,7 +54,30 @@ impl<K: Hash + Ord, V, A: Allocator + Clone> Map<K, V, A> {
         Ok(())
     }
 
+    /// Inserts the pairs, one by one.
+    /// `n log n` for `n` pairs.
+    ///
+    /// Fails as the first [`insert`](Map::insert) that fails: the pairs before that one are in, and it
+    /// is dropped with the rest.
+    pub fn extend<U: IntoIterator<Item = (K, V)>>(&mut self, iter: U) -> Result<(), ArenaError>
+    where
+        K: Drop,
+        V: Drop,
+        requires { IsFiniteIterable U.into_iter_gives U.IntoIter.can_next U.IntoIter.remaining iter }
+        ensures ok { OnOk result (TakesAll (eq_by_cmp K.cmp) U.into_iter_gives U.IntoIter.next_gives
+            (λ pairs. pairs) iter self.old self.new) }
+        ensures err { OnErr result (TakesUntilRefused (eq_by_cmp K.cmp) U.into_iter_gives
+            U.IntoIter.next_gives (λ pairs. pairs) iter self.old self.new) }
+        ensures errors { IsOkUnless result ArenaError.OutOfSystemMemory }
+    {
+        for (key, value) in iter {
+            self.insert(key, value)?;
+        }
+        Ok(())
+    }
+
     /// The pairs, inserted one by one into an empty map.
+    /// `n log n` for `n` pairs.
     ///
     /// Fails as the first [`insert`](Map::insert) that fails, and then drops all.
     pub fn from_iter<U: IntoIterator<Item = (K, V)>>(alloc: A, iter: U) -> Result<Self, ArenaError>
@@ -71,21 +94,5 @@ impl<K: Hash + Ord, V, A: Allocator + Clone> Map<K, V, A> {
         let mut map = Map::new(alloc);
         map.extend(iter)?;
         Ok(map)
-    }
-
-    /// A clone of each key and value, in a map over a clone of the allocator. Linear.
-    ///
-    /// Fails with `OutOfSystemMemory` if there is no memory, the clone of a key, a value or the allocator
-    /// fails, or the clones of the keys aren't in order, which clones that equal their sources are.
-    pub fn clone(&self) -> Result<Self, ArenaError>
-    where
-        K: Clone,
-        V: Clone,
-        ensures entries { IfOk result (AllZip
-            (λ old new. K.is_clone old.0 new.0 × V.is_clone old.1 new.1) self.now) }
-        ensures errors { IsOkUnless result ArenaError.OutOfSystemMemory }
-    {
-        let tree = self.tree.clone()?;
-        Ok(Map { tree })
     }
 }

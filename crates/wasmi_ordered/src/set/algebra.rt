@@ -1,4 +1,4 @@
-//! Set theory: tests and walks over two sets, and sets made of two.
+//! Set theory: tests of two sets, iterators over two, and sets made of two.
 ghost use Rattle.std.specs.Prelude.{◌<◌, ◌^◌, ◌↔◌, length, IfOk, IsOkUnless, IsTrue};
 ghost use Rattle.std.specs.List.Sorted.{IsStrictlySortedBy};
 ghost use Rattle.std.specs.Map.Iter.{ShowsInOrder, deref};
@@ -13,114 +13,125 @@ use std::hash::Hash;
 use wasmi_arena::ArenaError;
 
 impl<T: Hash + Ord, A: Allocator> Set<T, A> {
-    /// Whether the two sets have no element in common. No allocation.
+    /// Whether the two sets have no element in common.
+    /// At most linear in both sizes, no allocation.
     pub fn is_disjoint(&self, other: &Self) -> bool
         ensures { IsTrue result ↔ IsDisjoint (eq_by_cmp T.cmp) self.now other.now }
     {
-        self.tree.is_disjoint(&other.tree)
+        self.inner.is_disjoint(&other.inner)
     }
 
-    /// Whether each element of this set is in the other. No allocation.
+    /// Whether each element of this set is in the other.
+    /// At most linear in both sizes, no allocation.
     pub fn is_subset(&self, other: &Self) -> bool
         ensures { IsTrue result ↔ IsSubset (eq_by_cmp T.cmp) self.now other.now }
     {
-        self.tree.is_subset(&other.tree)
+        self.inner.is_subset(&other.inner)
     }
 
-    /// Whether each element of the other set is in this one. No allocation.
+    /// Whether each element of the other set is in this one.
+    /// At most linear in both sizes, no allocation.
     pub fn is_superset(&self, other: &Self) -> bool
         ensures { IsTrue result ↔ IsSubset (eq_by_cmp T.cmp) other.now self.now }
     {
-        self.tree.is_superset(&other.tree)
+        self.inner.is_superset(&other.inner)
     }
 
-    /// The elements of this set that the other lacks, in order. No allocation.
+    /// The elements of this set that the other lacks, in order.
+    /// At most linear in both sizes, no allocation.
     pub fn difference<'a>(&'a self, other: &'a Self) -> Difference<'a, T, A>
         ensures members { IsDifference (eq_by_cmp T.cmp) self.now other.now result }
         ensures ascending { IsStrictlySortedBy T.cmp result }
         ensures bound { length result < 2 ^ 63 }
         ensures runs { ShowsInOrder (deref {X = T}) }
     {
-        self.tree.difference(&other.tree)
+        self.inner.difference(&other.inner)
     }
 
-    /// The elements that exactly one of the two sets has, in order. No allocation.
+    /// The elements that exactly one of the two sets has, in order.
+    /// At most linear in both sizes, no allocation.
     pub fn symmetric_difference<'a>(&'a self, other: &'a Self) -> SymmetricDifference<'a, T>
         ensures members { IsSymmetricDifference (eq_by_cmp T.cmp) self.now other.now result }
         ensures ascending { IsStrictlySortedBy T.cmp result }
         ensures bound { length result < 2 ^ 64 }
         ensures runs { ShowsInOrder (deref {X = T}) }
     {
-        self.tree.symmetric_difference(&other.tree)
+        self.inner.symmetric_difference(&other.inner)
     }
 
-    /// The elements that both sets have, in order. No allocation.
+    /// The elements that both sets have, in order.
+    /// At most linear in both sizes, no allocation.
     pub fn intersection<'a>(&'a self, other: &'a Self) -> Intersection<'a, T, A>
         ensures members { IsIntersection (eq_by_cmp T.cmp) self.now other.now result }
         ensures ascending { IsStrictlySortedBy T.cmp result }
         ensures bound { length result < 2 ^ 63 }
         ensures runs { ShowsInOrder (deref {X = T}) }
     {
-        self.tree.intersection(&other.tree)
+        self.inner.intersection(&other.inner)
     }
 
-    /// The elements that one of the sets has, or both, in order and each once. No allocation.
+    /// The elements that one of the sets has, or both, each once, in order.
+    /// At most linear in both sizes, no allocation.
     pub fn union<'a>(&'a self, other: &'a Self) -> Union<'a, T>
         ensures members { IsUnion (eq_by_cmp T.cmp) self.now other.now result }
         ensures ascending { IsStrictlySortedBy T.cmp result }
         ensures bound { length result < 2 ^ 64 }
         ensures runs { ShowsInOrder (deref {X = T}) }
     {
-        self.tree.union(&other.tree)
+        self.inner.union(&other.inner)
     }
 }
 
 impl<T: Hash + Ord + Clone, A: Allocator + Clone> Set<T, A> {
     /// A set of clones of the elements that both sets have.
+    /// Linear in both sizes but for a sort of the clones.
     ///
-    /// Fails with `OutOfSystemMemory` if there is no memory, or a clone fails. Linear.
+    /// Fails with `OutOfSystemMemory` if there is no memory, or a clone fails.
     pub fn bitand(&self, other: &Self) -> Result<Self, ArenaError>
         ensures ok { IfOk result (HoldsClones (eq_by_cmp T.cmp) T.is_clone
             (IsIntersection (eq_by_cmp T.cmp) self.now other.now)) }
         ensures errors { IsOkUnless result ArenaError.OutOfSystemMemory }
     {
-        let tree = (&self.tree & &other.tree)?;
-        Ok(Set { tree })
+        let inner = (&self.inner & &other.inner)?;
+        Ok(Set { inner })
     }
 
     /// A set of clones of the elements that one of the sets has, or both.
+    /// Linear in both sizes but for a sort of the clones.
     ///
-    /// Fails as [`bitand`](Set::bitand) does. Linear.
+    /// Fails as [`bitand`](Set::bitand) does.
     pub fn bitor(&self, other: &Self) -> Result<Self, ArenaError>
         ensures ok { IfOk result (HoldsClones (eq_by_cmp T.cmp) T.is_clone
             (IsUnion (eq_by_cmp T.cmp) self.now other.now)) }
         ensures errors { IsOkUnless result ArenaError.OutOfSystemMemory }
     {
-        let tree = (&self.tree | &other.tree)?;
-        Ok(Set { tree })
+        let inner = (&self.inner | &other.inner)?;
+        Ok(Set { inner })
     }
 
     /// A set of clones of the elements that exactly one of the sets has.
+    /// Linear in both sizes but for a sort of the clones.
     ///
-    /// Fails as [`bitand`](Set::bitand) does. Linear.
+    /// Fails as [`bitand`](Set::bitand) does.
     pub fn bitxor(&self, other: &Self) -> Result<Self, ArenaError>
         ensures ok { IfOk result (HoldsClones (eq_by_cmp T.cmp) T.is_clone
             (IsSymmetricDifference (eq_by_cmp T.cmp) self.now other.now)) }
         ensures errors { IsOkUnless result ArenaError.OutOfSystemMemory }
     {
-        let tree = (&self.tree ^ &other.tree)?;
-        Ok(Set { tree })
+        let inner = (&self.inner ^ &other.inner)?;
+        Ok(Set { inner })
     }
 
     /// A set of clones of the elements of this set that the other lacks.
+    /// Linear in both sizes but for a sort of the clones.
     ///
-    /// Fails as [`bitand`](Set::bitand) does. Linear.
+    /// Fails as [`bitand`](Set::bitand) does.
     pub fn sub(&self, other: &Self) -> Result<Self, ArenaError>
         ensures ok { IfOk result (HoldsClones (eq_by_cmp T.cmp) T.is_clone
             (IsDifference (eq_by_cmp T.cmp) self.now other.now)) }
         ensures errors { IsOkUnless result ArenaError.OutOfSystemMemory }
     {
-        let tree = (&self.tree - &other.tree)?;
-        Ok(Set { tree })
+        let inner = (&self.inner - &other.inner)?;
+        Ok(Set { inner })
     }
 }

@@ -1,8 +1,8 @@
-//! A place with its value.
+//! The place of a key that is there, with its value.
 ghost use Rattle.std.specs.Prelude.{◌≡◌, Some};
 ghost use Rattle.std.specs.HashMap.Entry.{entry_follows, entry_key, entry_value, IsWritten};
 ghost use Rattle.std.specs.Borrow.{sem};
-ghost use Rattle.wasmi_hashed.specs.MapEntry.{place, table_without};
+ghost use Rattle.wasmi_hashed.specs.MapEntry.{place, inner_without};
 ghost use Rattle.wasmi_hashed.specs.declared.map.entry.Entry.TheVariants.{Occupied};
 
 use super::OccupiedEntry;
@@ -11,7 +11,17 @@ use std::collections::hash_map;
 use std::hash::{BuildHasher, Hash};
 
 impl<'a, K: Eq + Hash, V, S: BuildHasher, A: Allocator> OccupiedEntry<'a, K, V, S, A> {
+    // The same place, as one of the standard library.
+    // proof: a call of its own, so that only the call above it is proved by hand.
+    #[inline]
+    fn into_inner(self) -> hash_map::OccupiedEntry<'a, K, V, S, A>
+        ensures { result ≡ self.entry.entry }
+    {
+        self.entry
+    }
+
     /// The key that is kept.
+    /// Constant time, no allocation.
     pub fn key(&self) -> &K
         ensures { entry_key (place (Occupied self.now)) ≡ result.now }
     {
@@ -19,6 +29,7 @@ impl<'a, K: Eq + Hash, V, S: BuildHasher, A: Allocator> OccupiedEntry<'a, K, V, 
     }
 
     /// The value.
+    /// Constant time, no allocation.
     pub fn get(&self) -> &V
         ensures { Some result.now ≡ entry_value (place (Occupied self.now)) }
     {
@@ -26,22 +37,15 @@ impl<'a, K: Eq + Hash, V, S: BuildHasher, A: Allocator> OccupiedEntry<'a, K, V, 
     }
 
     /// The value to write to, while the place is kept.
+    /// Constant time, no allocation.
     pub fn get_mut(&mut self) -> &mut V
         ensures { entry_value (place (Occupied self.old)) ≡ Some result.now }
     {
         self.entry.get_mut()
     }
 
-    /// The value to write to, for as long as the map is borrowed.
-    #[inline]
-    pub fn into_mut(self) -> &'a mut V
-        ensures* writes_back { sem 𝓛 (entry_follows K.row V.row S.row A.row S.Hasher.row A.Allocator (place (Occupied self.entry)) result) }
-        ensures value { entry_value (place (Occupied self.entry)) ≡ Some result.now }
-    {
-        self.into_table().into_mut()
-    }
-
     /// Puts another value under the key, which stays, and returns the one that was there.
+    /// Constant time, no allocation.
     #[inline]
     pub fn insert(&mut self, value: V) -> V
         ensures was { entry_value (place (Occupied self.old)) ≡ Some result }
@@ -50,31 +54,36 @@ impl<'a, K: Eq + Hash, V, S: BuildHasher, A: Allocator> OccupiedEntry<'a, K, V, 
         self.entry.insert(value)
     }
 
+    /// The value to write to, for as long as the map is borrowed.
+    /// Constant time, no allocation.
+    #[inline]
+    pub fn into_mut(self) -> &'a mut V
+        ensures* writes_back { sem 𝓛 (entry_follows K.row V.row S.row A.row S.Hasher.row A.Allocator (place (Occupied self.entry)) result) }
+        ensures value { entry_value (place (Occupied self.entry)) ≡ Some result.now }
+    {
+        self.into_inner().into_mut()
+    }
+
+    /// Takes the key and its value out of the map. Never fails.
+    /// Expected constant time, no allocation.
+    #[inline]
+    pub fn remove_entry(self) -> (K, V)
+        ensures* removed { sem 𝓛 (inner_without K.row V.row S.row A.row S.Hasher.row A.Allocator (place (Occupied self.entry))) }
+        ensures key { result.0 ≡ entry_key (place (Occupied self.entry)) }
+        ensures was { entry_value (place (Occupied self.entry)) ≡ Some result.1 }
+    {
+        self.into_inner().remove_entry()
+    }
+
     /// Takes the key out of the map, and returns its value. Never fails.
+    /// Expected constant time, no allocation.
     #[inline]
     pub fn remove(self) -> V
     where
         K: Drop,
-        ensures* removed { sem 𝓛 (table_without K.row V.row S.row A.row S.Hasher.row A.Allocator (place (Occupied self.entry))) }
+        ensures* removed { sem 𝓛 (inner_without K.row V.row S.row A.row S.Hasher.row A.Allocator (place (Occupied self.entry))) }
         ensures was { entry_value (place (Occupied self.entry)) ≡ Some result }
     {
-        self.into_table().remove()
-    }
-
-    /// Takes the key and its value out of the map. Never fails.
-    #[inline]
-    pub fn remove_entry(self) -> (K, V)
-        ensures* removed { sem 𝓛 (table_without K.row V.row S.row A.row S.Hasher.row A.Allocator (place (Occupied self.entry))) }
-        ensures key { result.0 ≡ entry_key (place (Occupied self.entry)) }
-        ensures was { entry_value (place (Occupied self.entry)) ≡ Some result.1 }
-    {
-        self.into_table().remove_entry()
-    }
-
-    #[inline]
-    fn into_table(self) -> hash_map::OccupiedEntry<'a, K, V, S, A>
-        ensures { result ≡ self.entry.entry }
-    {
-        self.entry
+        self.into_inner().remove()
     }
 }

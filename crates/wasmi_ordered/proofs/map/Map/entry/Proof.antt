@@ -1,4 +1,4 @@
--- `entry` lends the tree, and hands on what the tree lends. Assumes `Logic`.
+-- `entry` lends the inner map, and hands on what the inner map lends. Assumes `Logic`.
 use Rattle.std.proofs.Common.{◌≡◌, List, [], ◌∷◌, refl, sym, ap, ◌∙◌, subst, MutBor, None}
 use Rattle.std.proofs.raw_atomic.Walks.{proved_at}
 use Rattle.std.specs.Prelude.{IfOk, IsSome, OnErr, IsOkUnless}
@@ -7,7 +7,7 @@ use Rattle.std.specs.BTreeMap.{insert_entry}
 use Rattle.std.specs.BTreeMap.Entry.{entry_key, entry_map_ref, entry_value, map_with_value, map_without_entry, MatchEntry}
 use Rattle.std.specs.Map.{remove_entry}
 use Rattle.std.specs.declared.cmp.Ordering.TheVariants.{Equal}
-use Rattle.std.specs.contracts.collections.BTreeMap.{the_row as TreeRow}
+use Rattle.std.specs.contracts.collections.BTreeMap.{the_row as InnerRow}
 use Rattle.std.specs.contracts.collections.btree_map.Entry as PlaceType
 use Rattle.std.specs.contracts.alloc.AllocFailed as FailedType
 use Rattle.std.proofs.collections.btree_map.Entry.TheLaws as PlaceLaws
@@ -43,7 +43,7 @@ use denote.Triple.Clauses.{lasts, Lasts}
 use denote.Triple.Spec.{triple_of}
 use denote.Triple.Table.{framed}
 use denote.Triple.Walked.{Stays, walk_of, stay_dropped, Goes-spent_ref, Goes-dropped, ends_at}
-use Rattle.wasmi_ordered.specs.MapEntry.{place, IsPlaceOf, IsOfTree, tree_rests}
+use Rattle.wasmi_ordered.specs.MapEntry.{place, IsPlaceOf, IsOfInner, inner_rests}
 use Rattle.wasmi_arena.specs.declared.error.ArenaError.TheVariants.{OutOfSystemMemory}
 use Rattle.wasmi_arena.specs.contracts.error.ArenaError as ErrorType
 use Rattle.wasmi_arena.proofs.error.ArenaError.TheLaws as ErrorLaws
@@ -51,12 +51,12 @@ use Rattle.wasmi_ordered.specs.contracts.map.entry.Entry as EntryType
 use Rattle.wasmi_ordered.proofs.map.entry.Entry.TheLaws as EntryLaws
 use Rattle.wasmi_ordered.specs.contracts.map.Map.{the_row as MapRow}
 use Rattle.wasmi_ordered.specs.contracts.map.Map.entry as F
-use Rattle.wasmi_ordered.specs.contracts.map.Map.tree_mut as Lends
+use Rattle.wasmi_ordered.specs.contracts.map.Map.inner_mut as Lends
 use Rattle.wasmi_ordered.specs.contracts.map.entry.place_in as Asks
-use Rattle.wasmi_ordered.specs.contracts.map.entry.of_tree as Makes
-use Rattle.wasmi_ordered.proofs.map.Map.tree_mut.Met as Lent
+use Rattle.wasmi_ordered.specs.contracts.map.entry.of_inner as Makes
+use Rattle.wasmi_ordered.proofs.map.Map.inner_mut.Met as Lent
 use Rattle.wasmi_ordered.proofs.map.entry.place_in.Met as Asked
-use Rattle.wasmi_ordered.proofs.map.entry.of_tree.Met as Made
+use Rattle.wasmi_ordered.proofs.map.entry.of_inner.Met as Made
 use Rattle.wasmi_ordered.proofs.map.Map.entry.Statement.{statement}
 use Rattle.wasmi_ordered.proofs.map.Map.entry.Code as code
 use Rattle.wasmi_arena.proofs.Frame.{let_go, gone}
@@ -68,7 +68,7 @@ entry_spec 𝓤 𝓛 𝓜 𝓡 wired X Y Z LX LY LZ h dh e de p dp o dt q dq g d
     let K = param 0 X in let V = param 1 Y in let A = param 2 Z in let key_row : El = record { row = X; laws = LX } in
     let args : Args = bounded (a_type ∷ a_type ∷ a_type ∷ []) (X, (Y, (Z, tt))) (dcons dh (dcons de (dcons dp (dcons dt (dcons dq (dcons dg (dcons dd (dcons dcl (dcons dk dnil))))))))) in
     let call = F.ended X Y Z h dh e de p dp o dt q dq g dg dd cl dcl dk in let c = F.clauses X Y Z h dh e de p dp o dt q dq g dg dd cl dcl dk 𝓛 𝓜.mem 𝓡.returns in
-    let Self = MapRow K V A h p o q g in let Tree = TreeRow K V A o p q g in let function = inst_fn args code.function in
+    let Self = MapRow K V A h p o q g in let Inner = InnerRow K V A o p q g in let function = inst_fn args code.function in
     let stayed : Stays call.signature.params call.kept = (stay_dropped _ no, (stay_dropped _ no, tt)) in
     let W = walk_of 𝓛 call stayed c in let 𝓣 = tables 𝓤 𝓛.H 𝓜 𝓡 𝓡.env in
     proved_at 𝓛 call stayed c 𝓜 𝓡 (Goes-spent_ref 𝓛 4 (0 ∷ []) tt (plain (λ _. Self)), (Goes-dropped 𝓛 4 (plain (λ _. K)) no (λ κs x w. refl), tt))
@@ -89,7 +89,7 @@ entry_spec 𝓤 𝓛 𝓜 𝓡 wired X Y Z LX LY LZ h dh e de p dp o dt q dq g d
     (PlaceLaws.the_row_laws ℓ K V A o p q g (param_laws 0 X LX) (param_laws 1 Y LY) (param_laws 2 Z LZ)) (FailedLaws.the_row_laws K (param_laws 0 X LX)) in
     let here_laws = ResultLaws.the_row_laws (EntryType.the_row ℓ K V A p o q g) ErrorType.the_row
     (EntryLaws.the_row_laws ℓ K V A p o q g (param_laws 0 X LX) (param_laws 1 Y LY) (param_laws 2 Z LZ)) ErrorLaws.the_row_laws in
-    let Lender = MutRef (named 0) κ Self in let Part = MutRef (named 0) κ Tree in
+    let Lender = MutRef (named 0) κ Self in let Part = MutRef (named 0) κ Inner in
     qed 𝓛 ((alive ⊛ ‵ (Lender.own_val map (mut_vals map)) ⊛ ‵ (K.own_val key (k ∷ [])) ⊛ ‵ ftrue) ∷ bound ∷ []) ∵
     move ! (1 ∷ []) $ split ! $ heard ! _ (λ in_K. split ! $ heard ! _ (λ in_V. split ! $ heard ! _ (λ in_A. drop ! $
     split ! $ move ! (1 ∷ []) $ split ! $ move ! (1 ∷ []) $ split ! $
@@ -101,15 +101,15 @@ entry_spec 𝓤 𝓛 𝓜 𝓡 wired X Y Z LX LY LZ h dh e de p dp o dt q dq g d
     move ! (2 ∷ 1 ∷ []) $ join ! $ move ! (2 ∷ 0 ∷ []) $ join ! $ nothing ! $
     use0 𝓛 (raw (fact 𝓤 (κs.1.1.1.0 ⊑ Z.lives))) (fact_i 𝓤 _ (emp 𝓤) in_A) $ join ! $ use0 𝓛 (raw (fact 𝓤 (κs.1.1.0 ⊑ Y.lives))) (fact_i 𝓤 _ (emp 𝓤) in_V) $ join ! $
     use0 𝓛 (raw (fact 𝓤 (κs.1.0 ⊑ X.lives))) (fact_i 𝓤 _ (emp 𝓤) in_K) $ join ! $ move ! (1 ∷ 0 ∷ []) $ use2 𝓛 (raw (G₁.pre z₁)) (id⊢ 𝓤 _) $
-    calls_at ! (framed 𝓤 𝓛.H 𝓜 𝓣) G₁ (Lent.met 𝓤 𝓛 𝓜 𝓡 (code.calls-wasmi_ordered::map::Map::tree_mut 𝓡.env wired) X Y Z LX LY LZ h dh e de p dp o dt q dq g dg dd mh me mp mo mq mg md) z₁
+    calls_at ! (framed 𝓤 𝓛.H 𝓜 𝓣) G₁ (Lent.met 𝓤 𝓛 𝓜 𝓡 (code.calls-wasmi_ordered::map::Map::inner_mut 𝓡.env wired) X Y Z LX LY LZ h dh e de p dp o dt q dq g dg dd mh me mp mo mq mg md) z₁
     (and_then ! (get ! refl) (no_more !)) (λ v₁.
-    use1 𝓛 (later (some (λ (t : MutBor Tree.Denot). (alive ⊛ ‵ (Part.own_val t (v₁ ∷ []))) ⊛
+    use1 𝓛 (later (some (λ (t : MutBor Inner.Denot). (alive ⊛ ‵ (Part.own_val t (v₁ ∷ []))) ⊛
     some (λ (ws : Unit {0} × Unit {0}). ‵ (lasts (Lends.ended X Y Z h dh e de p dp o dt q dq g dg dd) κs (map, tt) ws)
-    ⊛ ‵ (follows Self Tree γ t.ghost_name (λ last. last.entries)) ⊛ raw (fact 𝓤 (t.now.entries ≡ map.now)))))) (id⊢ 𝓤 _) $
+    ⊛ ‵ (follows Self Inner γ t.ghost_name (λ last. last.entries)) ⊛ raw (fact 𝓤 (t.now.entries ≡ map.now)))))) (id⊢ 𝓤 _) $
     await ! tt $ pick ! (λ t. split ! $ split ! $ move ! (2 ∷ []) $ pick ! (λ ws. split ! $ drop ! $ split ! $ move ! (1 ∷ []) $ heard ! _ (λ as_map.
-    -- [what the map is in the end; the tokens; the tree; the key]
+    -- [what the map is in the end; the tokens; the inner map; the key]
     move ! (2 ∷ []) $ peeks ! Part _ (shows 𝓛 Part) t (v₁ ∷ []) (λ seen₁.
-    let at₁ : v₁ ≡ vptr t.ref_ptr.0 t.ref_ptr.1 = ap only (mut_Tells (named 0) κ Tree t (v₁ ∷ []) seen₁) in
+    let at₁ : v₁ ≡ vptr t.ref_ptr.0 t.ref_ptr.1 = ap only (mut_Tells (named 0) κ Inner t (v₁ ∷ []) seen₁) in
     lands_as ! at₁ refl (tt, tt) $ rewrite ! 0 (λ (v : Val). ‵ (Part.own_val t (v ∷ []))) at₁ refl $
     sets ! (of_opd ! (get ! refl)) refl good $
     let G₂ = triple_of 𝓛 (Asks.signature X Y Z h dh e de p dp o dt q dq g dg cl dcl dk dd) (Asks.spec X Y Z h dh e de p dp o dt q dq g dg cl dcl dk dd 𝓛 𝓜.mem 𝓡.returns) in
@@ -121,11 +121,11 @@ entry_spec 𝓤 𝓛 𝓜 𝓡 wired X Y Z LX LY LZ h dh e de p dp o dt q dq g d
     (and_then ! (get ! refl) (and_then ! (get ! refl) (no_more !))) (λ v₂.
     use1 𝓛 (later (some (λ (r : There.Denot). (alive ⊛ ‵ (There.own_val r (v₂ ∷ []))) ⊛
     some (λ (ws : Unit {0} × (Unit {0} × Unit {0})). ‵ (lasts (Asks.ended X Y Z h dh e de p dp o dt q dq g dg cl dcl dk dd) κs (t, (key, tt)) ws)
-    ⊛ ‵ (tree_rests K V A g t r) ⊛ raw (fact 𝓤 (IfOk r (λ there. (entry_map_ref there).ghost_name ≡ t.ghost_name)))
+    ⊛ ‵ (inner_rests K V A g t r) ⊛ raw (fact 𝓤 (IfOk r (λ there. (entry_map_ref there).ghost_name ≡ t.ghost_name)))
     ⊛ raw (fact 𝓤 (IfOk r (IsPlaceOf o.cmp t.now.entries key))) ⊛ raw (fact 𝓤 (OnErr r (value_at (eq_by_cmp o.cmp) t.now.entries key ≡ None))))))) (id⊢ 𝓤 _) $
     await ! tt $ pick ! (λ r. split ! $ split ! $ move ! (2 ∷ []) $ pick ! (λ ws. split ! $ drop ! $ split ! $ move ! (1 ∷ []) $
     split ! $ heard ! _ (λ same_map. split ! $ heard ! _ (λ is_place. heard ! _ (λ is_absent.
-    -- [how the tree is left; the tokens; the answer; what the map is in the end]
+    -- [how the inner map is left; the tokens; the answer; what the map is in the end]
     move ! (2 ∷ []) $ peeks ! There _ (shows 𝓛 There) r (v₂ ∷ []) (λ seen₂.
     lands_as ! refl refl ((there_laws.lawful 𝓛).typed r (v₂ ∷ []) seen₂).0 $
     let G₃ = triple_of 𝓛 (Makes.signature X Y Z h dh e de p dp o dt q dq g dg dk dd) (Makes.spec X Y Z h dh e de p dp o dt q dq g dg dk dd 𝓛 𝓜.mem 𝓡.returns) in
@@ -133,14 +133,14 @@ entry_spec 𝓤 𝓛 𝓜 𝓡 wired X Y Z LX LY LZ h dh e de p dp o dt q dq g d
     nothing ! $ move ! (1 ∷ 0 ∷ []) $ join ! $ move ! (2 ∷ 0 ∷ []) $ join ! $ nothing ! $
     use0 𝓛 (raw (fact 𝓤 (κs.1.1.1.0 ⊑ Z.lives))) (fact_i 𝓤 _ (emp 𝓤) in_A) $ join ! $ use0 𝓛 (raw (fact 𝓤 (κs.1.1.0 ⊑ Y.lives))) (fact_i 𝓤 _ (emp 𝓤) in_V) $ join ! $
     use0 𝓛 (raw (fact 𝓤 (κs.1.0 ⊑ X.lives))) (fact_i 𝓤 _ (emp 𝓤) in_K) $ join ! $ move ! (1 ∷ 0 ∷ []) $ use2 𝓛 (raw (G₃.pre z₃)) (id⊢ 𝓤 _) $
-    calls_at ! (framed 𝓤 𝓛.H 𝓜 𝓣) G₃ (Made.met 𝓤 𝓛 𝓜 𝓡 (code.calls-wasmi_ordered::map::entry::of_tree 𝓡.env wired) X Y Z LX LY LZ h dh e de p dp o dt q dq g dg dk dd mh me mp mo mq mg mk md) z₃
+    calls_at ! (framed 𝓤 𝓛.H 𝓜 𝓣) G₃ (Made.met 𝓤 𝓛 𝓜 𝓡 (code.calls-wasmi_ordered::map::entry::of_inner 𝓡.env wired) X Y Z LX LY LZ h dh e de p dp o dt q dq g dg dk dd mh me mp mo mq mg mk md) z₃
     (and_then ! (get ! refl) (no_more !)) (λ v.
     use1 𝓛 (later (some (λ (res : Here.Denot). (alive ⊛ ‵ (Here.own_val res (v ∷ []))) ⊛
-    some (λ (ws : Lasts (Makes.ended X Y Z h dh e de p dp o dt q dq g dg dk dd) κs (r, tt)). ‵ (lasts (Makes.ended X Y Z h dh e de p dp o dt q dq g dg dk dd) κs (r, tt) ws) ⊛ raw (fact 𝓤 (IsOfTree r res)))))) (id⊢ 𝓤 _) $
+    some (λ (ws : Lasts (Makes.ended X Y Z h dh e de p dp o dt q dq g dg dk dd) κs (r, tt)). ‵ (lasts (Makes.ended X Y Z h dh e de p dp o dt q dq g dg dk dd) κs (r, tt) ws) ⊛ raw (fact 𝓤 (IsOfInner r res)))))) (id⊢ 𝓤 _) $
     await ! tt $ pick ! (λ res. split ! $ split ! $ move ! (2 ∷ []) $ pick ! (λ ws. split ! $ drop ! $ heard ! _ (λ made.
-    -- [the tokens; the answer; how the tree is left; what the map is in the end]
-    move ! (3 ∷ 2 ∷ []) $ use2 𝓛 (‵ (follows_if Self Tree γ (name_if_ok (λ entry. (entry_map_ref (place entry)).ghost_name) res) (λ last. last.entries) map.now))
-    (lent_on 𝓛 Self Tree (λ last. last.entries) γ t map.now (λ there. (entry_map_ref there).ghost_name) (λ now. now.entries ≡ t.now.entries) (λ now same. same ∙ as_map) r _ (of_names t.ghost_name r res made same_map)) $
+    -- [the tokens; the answer; how the inner map is left; what the map is in the end]
+    move ! (3 ∷ 2 ∷ []) $ use2 𝓛 (‵ (follows_if Self Inner γ (name_if_ok (λ entry. (entry_map_ref (place entry)).ghost_name) res) (λ last. last.entries) map.now))
+    (lent_on 𝓛 Self Inner (λ last. last.entries) γ t map.now (λ there. (entry_map_ref there).ghost_name) (λ now. now.entries ≡ t.now.entries) (λ now same. same ∙ as_map) r _ (of_names t.ghost_name r res made same_map)) $
     move ! (2 ∷ []) $ peeks ! Here _ (shows 𝓛 Here) res (v ∷ []) (λ seen.
     lands_as ! refl refl ((here_laws.lawful 𝓛).typed res (v ∷ []) seen).0 $
     returns ! (look_at ! 0 refl) $ free_all ! refl $

@@ -1,4 +1,4 @@
--- `or_insert_with_key` hands on what the table's place lends. Assumes `Logic`.
+-- `or_insert_with_key` hands on what the inner place lends. Assumes `Logic`.
 use Rattle.std.proofs.Common.{◌≡◌, List, [], ◌∷◌, Ok, refl, sym, ap, subst, MutBor, lit<, None}
 use Rattle.std.proofs.raw_atomic.Walks.{proved_at}
 use Rattle.std.specs.Prelude.{IsOk}
@@ -6,7 +6,7 @@ use Rattle.std.specs.Borrow.{Bor}
 use Rattle.std.specs.Fn.{FnOnceReturnsAt}
 use Rattle.std.specs.Option.{UnwrapsOrElse}
 use Rattle.std.specs.HashMap.Entry.{entry_map_ref, entry_key, entry_value, map_with_value}
-use Rattle.std.specs.contracts.collections.HashMap.{the_row as TableRow}
+use Rattle.std.specs.contracts.collections.HashMap.{the_row as InnerRow}
 use Rattle.std.specs.contracts.collections.hash_map.Entry as PlaceType
 use Rattle.std.specs.contracts.collections.hash_map.Entry.or_insert_with_key as Puts
 use Rattle.std.specs.contracts.result.Result as ResultType
@@ -45,13 +45,13 @@ use Rattle.wasmi_hashed.specs.MapEntry.{place}
 use Rattle.wasmi_arena.specs.declared.error.ArenaError.{ArenaError}
 use Rattle.wasmi_arena.specs.contracts.error.ArenaError as ErrorType
 use Rattle.wasmi_hashed.specs.contracts.map.entry.Entry as EntryType
-use Rattle.wasmi_hashed.specs.contracts.map.entry.Entry.into_table as Opens
+use Rattle.wasmi_hashed.specs.contracts.map.entry.Entry.into_inner as Opens
 use Rattle.wasmi_hashed.specs.contracts.map.entry.Entry.or_insert_with_key as F
 use Rattle.wasmi_arena.proofs.Frame.{let_go, gone}
 use Rattle.wasmi_map_specs.proofs.Handed.{sole, ok_of, lent_there}
 use Rattle.wasmi_hashed.proofs.Gone.{entry_goes}
 use Rattle.wasmi_hashed.proofs.map.entry.Entry.TheLaws as EntryLaws
-use Rattle.wasmi_hashed.proofs.map.entry.Entry.into_table.Met as Opened
+use Rattle.wasmi_hashed.proofs.map.entry.Entry.into_inner.Met as Opened
 use Rattle.wasmi_hashed.proofs.map.entry.Entry.or_insert_with_key.Code as code
 use Rattle.wasmi_hashed.proofs.map.entry.Entry.or_insert_with_key.Statement.{statement}
 
@@ -60,7 +60,7 @@ or_insert_with_key_spec 𝓤 𝓛 𝓜 𝓡 wired X Y S Z N U LX LY LS LZ LN LU 
     let K = param 0 X in let V = param 1 Y in let T = param 2 S in let A = param 3 Z in let H = param 4 N in let B = param 5 U in
     let args : Args = bounded (a_type ∷ a_type ∷ a_type ∷ a_type ∷ a_type ∷ a_type ∷ []) (X, (Y, (S, (Z, (N, (U, tt)))))) (dcons de (dcons dp (dcons dh (dcons ds (dcons dn (dcons dg (dcons dd (dcons dm (dcons df (dcons du dnil)))))))))) in
     let call = F.ended X Y S Z N U e de p dp h dh s ds n dn g dg dd dm f df du in let c = F.clauses X Y S Z N U e de p dp h dh s ds n dn g dg dd dm f df du 𝓛 𝓜.mem 𝓡.returns in
-    let Table = TableRow K V T A H p h s n g in let function = inst_fn args code.function in
+    let Inner = InnerRow K V T A H p h s n g in let function = inst_fn args code.function in
     let stayed : Stays call.signature.params call.kept = (stay_dropped _ no, (stay_dropped _ no, tt)) in
     let W = walk_of 𝓛 call stayed c in let 𝓣 = tables 𝓤 𝓛.H 𝓜 𝓡 𝓡.env in
     proved_at 𝓛 call stayed c 𝓜 𝓡 (entry_goes 𝓛 X Y S Z N p h s n g 7 (named_lft 7 0 tt), (Goes-dropped 𝓛 7 (plain (λ _. B)) no (λ κs x w. refl), tt))
@@ -90,7 +90,7 @@ or_insert_with_key_spec 𝓤 𝓛 𝓜 𝓡 wired X Y S Z N U LX LY LS LZ LN LU 
     -- [the tokens but the closure's; that; the closure; nothing; the place]
     move ! (4 ∷ 3 ∷ []) $ join ! $ move ! (1 ∷ 0 ∷ []) $ join ! $ nothing ! $
     use0 𝓛 (raw (fact 𝓤 (κs.1.1.1.1.1.0 ⊑ N.lives))) (fact_i 𝓤 _ (emp 𝓤) in_H) $ join ! $ use0 𝓛 (raw (fact 𝓤 (κs.1.1.1.1.0 ⊑ Z.lives))) (fact_i 𝓤 _ (emp 𝓤) in_A) $ join ! $ use0 𝓛 (raw (fact 𝓤 (κs.1.1.1.0 ⊑ S.lives))) (fact_i 𝓤 _ (emp 𝓤) in_S) $ join ! $ use0 𝓛 (raw (fact 𝓤 (κs.1.1.0 ⊑ Y.lives))) (fact_i 𝓤 _ (emp 𝓤) in_V) $ join ! $ use0 𝓛 (raw (fact 𝓤 (κs.1.0 ⊑ X.lives))) (fact_i 𝓤 _ (emp 𝓤) in_K) $ join ! $ move ! (1 ∷ 0 ∷ []) $ use2 𝓛 (raw (G₁.pre z₁)) (id⊢ 𝓤 _) $
-    calls_at ! (framed 𝓤 𝓛.H 𝓜 𝓣) G₁ (Opened.met 𝓤 𝓛 𝓜 𝓡 (code.calls-wasmi_hashed::map::entry::Entry::into_table 𝓡.env wired) X Y S Z N LX LY LS LZ LN e de p dp h dh s ds n dn g dg dd dm me mp mh ms mn mg md mm) z₁
+    calls_at ! (framed 𝓤 𝓛.H 𝓜 𝓣) G₁ (Opened.met 𝓤 𝓛 𝓜 𝓡 (code.calls-wasmi_hashed::map::entry::Entry::into_inner 𝓡.env wired) X Y S Z N LX LY LS LZ LN e de p dp h dh s ds n dn g dg dd dm me mp mh ms mn mg md mm) z₁
     (and_then ! (get ! refl) (no_more !)) (λ v₁.
     use1 𝓛 (later (some (λ (r : There.Denot). (alive₄ ⊛ ‵ (There.own_val r (v₁ ∷ []))) ⊛
     some (λ (ws : Lasts (Opens.ended X Y S Z N e de p dp h dh s ds n dn g dg dd dm) (κs.0, (κs.1.0, (κs.1.1.0, (κs.1.1.1.0, (κs.1.1.1.1.0, (κs.1.1.1.1.1.0, tt)))))) (entry, tt)). ‵ (lasts (Opens.ended X Y S Z N e de p dp h dh s ds n dn g dg dd dm) (κs.0, (κs.1.0, (κs.1.1.0, (κs.1.1.1.0, (κs.1.1.1.1.0, (κs.1.1.1.1.1.0, tt)))))) (entry, tt) ws) ⊛ raw (fact 𝓤 (r ≡ place entry)))))) (id⊢ 𝓤 _) $
@@ -100,7 +100,7 @@ or_insert_with_key_spec 𝓤 𝓛 𝓜 𝓡 wired X Y S Z N U LX LY LS LZ LN LU 
     sets ! (of_opd ! (get ! refl)) refl held'.2 $
     let G₂ = triple_of 𝓛 (Puts.signature X Y S Z N U e de p dp h dh s ds n dn g dg dd dm f df du) (Puts.spec X Y S Z N U e de p dp h dh s ds n dn g dg dd dm f df du 𝓛 𝓜.mem 𝓡.returns) in
     let z₂ : G₂.Ghost = ((κs, qs, bounds, (r, (default, tt)), (v₁ ∷ [], (d ∷ [], tt))), tt) in
-    -- [the table's place; the tokens but the closure's; that; the closure]
+    -- [the inner place; the tokens but the closure's; that; the closure]
     move ! (1 ∷ []) $ split ! $ move ! (1 ∷ []) $ split ! $ move ! (1 ∷ []) $ split ! $ move ! (1 ∷ []) $ split ! $ move ! (1 ∷ []) $ split ! $ move ! (1 ∷ []) $ split ! $ move ! (8 ∷ 1 ∷ []) $ join ! $ move ! (1 ∷ 0 ∷ []) $ join ! $ move ! (1 ∷ 0 ∷ []) $ join ! $ move ! (1 ∷ 0 ∷ []) $ join ! $ move ! (1 ∷ 0 ∷ []) $ join ! $ move ! (1 ∷ 0 ∷ []) $ join ! $ move ! (1 ∷ 0 ∷ []) $ join ! $
     nothing ! $ move ! (3 ∷ 0 ∷ []) $ join ! $ move ! (2 ∷ 0 ∷ []) $ join ! $ move ! (1 ∷ 0 ∷ []) $ join ! $
     use0 𝓛 (raw (fact 𝓤 (entry_value r ≡ None → (b : Bor X.Denot) → b.now ≡ entry_key r → F.F-pre X Y S Z N U e de p dp h dh s ds n dn g dg dd dm f df du default b))) (fact_i 𝓤 _ (emp 𝓤) (subst (λ there. entry_value there ≡ None → (b : Bor X.Denot) → b.now ≡ entry_key there → F.F-pre X Y S Z N U e de p dp h dh s ds n dn g dg dd dm f df du default b) (sym same) may_call)) $
@@ -109,9 +109,9 @@ or_insert_with_key_spec 𝓤 𝓛 𝓜 𝓡 wired X Y S Z N U LX LY LS LZ LN LU 
     (and_then ! (get ! refl) (and_then ! (get ! refl) (no_more !))) (λ v₂.
     use1 𝓛 (later (some (λ (t : MutBor V.Denot). (alive ⊛ ‵ (Lent.own_val t (v₂ ∷ []))) ⊛
     some (λ (ws : Lasts (Puts.ended X Y S Z N U e de p dp h dh s ds n dn g dg dd dm f df du) κs (r, (default, tt))). ‵ (lasts (Puts.ended X Y S Z N U e de p dp h dh s ds n dn g dg dd dm f df du) κs (r, (default, tt)) ws)
-    ⊛ ‵ (follows Table V (entry_map_ref r).ghost_name t.ghost_name (map_with_value r)) ⊛ raw (fact 𝓤 (UnwrapsOrElse (entry_value r) (FnOnceReturnsAt f default (entry_key r)) t.now)))))) (id⊢ 𝓤 _) $
+    ⊛ ‵ (follows Inner V (entry_map_ref r).ghost_name t.ghost_name (map_with_value r)) ⊛ raw (fact 𝓤 (UnwrapsOrElse (entry_value r) (FnOnceReturnsAt f default (entry_key r)) t.now)))))) (id⊢ 𝓤 _) $
     await ! tt $ pick ! (λ t. split ! $ split ! $ move ! (2 ∷ []) $ pick ! (λ ws. split ! $ drop ! $ split ! $ move ! (1 ∷ []) $ heard ! _ (λ value_is.
-    -- [what the table is in the end; the tokens; the reference]
+    -- [what the inner map is in the end; the tokens; the reference]
     move ! (2 ∷ []) $ peeks ! Lent _ (shows 𝓛 Lent) t (v₂ ∷ []) (λ seen₂.
     let ref = vptr t.ref_ptr.0 t.ref_ptr.1 in let at₂ : v₂ ≡ ref = ap only (mut_Tells (named 0) κ V t (v₂ ∷ []) seen₂) in
     lands_as ! at₂ refl (tt, tt) $ rewrite ! 0 (λ (v : Val). ‵ (Lent.own_val t (v ∷ []))) at₂ refl $
@@ -120,9 +120,9 @@ or_insert_with_key_spec 𝓤 𝓛 𝓜 𝓡 wired X Y S Z N U LX LY LS LZ LN LU 
     let v : Val = live 0 (of_list (ref ∷ [])) in let Answer = ResultType.the_row Lent ErrorType.the_row in
     suffices ! _ (ends_at 𝓛 call stayed c y v (Ok t) (rest (Here.exit no) entry, (tt, tt)) (tt, (tt, tt))) $
     use1 𝓛 (‵ (Answer.own_val (Ok t) (v ∷ []))) (ok_of 𝓛 Lent ErrorType.the_row t ref) $ move ! (1 ∷ []) $
-    rewrite ! 0 (λ (there : There.Denot). ‵ (follows Table V (entry_map_ref there).ghost_name t.ghost_name (map_with_value there))) same refl $
-    use1 𝓛 (‵ (follows_if Table V (entry_map_ref (place entry)).ghost_name (name t.ghost_name) (map_with_value (place entry)) (entry_map_ref (place entry)).now))
-    (lent_there 𝓛 Table V (entry_map_ref (place entry)).ghost_name t.ghost_name (map_with_value (place entry)) (entry_map_ref (place entry)).now) $
+    rewrite ! 0 (λ (there : There.Denot). ‵ (follows Inner V (entry_map_ref there).ghost_name t.ghost_name (map_with_value there))) same refl $
+    use1 𝓛 (‵ (follows_if Inner V (entry_map_ref (place entry)).ghost_name (name t.ghost_name) (map_with_value (place entry)) (entry_map_ref (place entry)).now))
+    (lent_there 𝓛 Inner V (entry_map_ref (place entry)).ghost_name t.ghost_name (map_with_value (place entry)) (entry_map_ref (place entry)).now) $
     use0 𝓛 (raw (fact 𝓤 (IsOk {E = ArenaError} (Ok t)))) (fact_i 𝓤 _ (emp 𝓤) refl) $
     use0 𝓛 (raw (fact 𝓤 (UnwrapsOrElse (entry_value (place entry)) (FnOnceReturnsAt f default (entry_key (place entry))) t.now))) (fact_i 𝓤 _ (emp 𝓤) (subst (λ there. UnwrapsOrElse (entry_value there) (FnOnceReturnsAt f default (entry_key there)) t.now) same value_is)) $
     use0 𝓛 (‵ (let_go 2)) (gone 𝓛 2) $ move ! (5 ∷ 0 ∷ 4 ∷ []) $ group ! 3 $ move ! (0 ∷ 3 ∷ []) $ done !))))))))))))))))))))

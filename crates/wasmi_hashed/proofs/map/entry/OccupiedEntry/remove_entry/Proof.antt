@@ -1,4 +1,4 @@
--- `remove_entry` leaves the table without the key. Assumes `Logic`.
+-- `remove_entry` leaves the inner map without the key. Assumes `Logic`.
 use Rattle.std.proofs.Common.{◌≡◌, List, [], ◌∷◌, refl, sym, subst}
 use Rattle.std.proofs.raw_atomic.Walks.{proved_at}
 use Rattle.std.specs.HashMap.{IsUnchanged}
@@ -36,15 +36,15 @@ use types.Kit.{‵, raw, ◌⊛◌, some, later, ◌$◌, ◌∵◌, !, qed, don
 use types.Run.{enter, of_opd, and_then, no_more, returns}
 use Rattle.std.specs.declared.collections.hash_map.Entry.TheVariants.{Occupied}
 use Rattle.wasmi_hashed.specs.contracts.map.entry.OccupiedEntry as EntryType
-use Rattle.wasmi_hashed.specs.contracts.map.entry.OccupiedEntry.into_table as Opens
+use Rattle.wasmi_hashed.specs.contracts.map.entry.OccupiedEntry.into_inner as Opens
 use Rattle.wasmi_hashed.specs.contracts.map.entry.OccupiedEntry.remove_entry as F
 use Rattle.wasmi_arena.proofs.Frame.{let_go, gone}
 use Rattle.wasmi_map_specs.proofs.Handed.{sole}
 use Rattle.wasmi_hashed.proofs.Gone.{occupied_goes}
 use Rattle.wasmi_hashed.proofs.Ended.{goes_without}
-use Rattle.wasmi_hashed.specs.MapEntry.{table_without}
+use Rattle.wasmi_hashed.specs.MapEntry.{inner_without}
 use Rattle.wasmi_hashed.proofs.map.entry.OccupiedEntry.TheLaws as EntryLaws
-use Rattle.wasmi_hashed.proofs.map.entry.OccupiedEntry.into_table.Met as Opened
+use Rattle.wasmi_hashed.proofs.map.entry.OccupiedEntry.into_inner.Met as Opened
 use Rattle.wasmi_hashed.proofs.map.entry.OccupiedEntry.remove_entry.Code as code
 use Rattle.wasmi_hashed.proofs.map.entry.OccupiedEntry.remove_entry.Statement.{statement}
 
@@ -80,7 +80,7 @@ remove_entry_spec 𝓤 𝓛 𝓜 𝓡 wired X Y S Z N LX LY LS LZ LN e de p dp h
     let z₁ : G₁.Ghost = ((κs, qs, bounds, (entry, tt), (b ∷ [], tt)), tt) in
     join ! $ move ! (1 ∷ 0 ∷ []) $ join ! $ nothing ! $
     use0 𝓛 (raw (fact 𝓤 (κs.1.1.1.1.1.0 ⊑ N.lives))) (fact_i 𝓤 _ (emp 𝓤) in_H) $ join ! $ use0 𝓛 (raw (fact 𝓤 (κs.1.1.1.1.0 ⊑ Z.lives))) (fact_i 𝓤 _ (emp 𝓤) in_A) $ join ! $ use0 𝓛 (raw (fact 𝓤 (κs.1.1.1.0 ⊑ S.lives))) (fact_i 𝓤 _ (emp 𝓤) in_S) $ join ! $ use0 𝓛 (raw (fact 𝓤 (κs.1.1.0 ⊑ Y.lives))) (fact_i 𝓤 _ (emp 𝓤) in_V) $ join ! $ use0 𝓛 (raw (fact 𝓤 (κs.1.0 ⊑ X.lives))) (fact_i 𝓤 _ (emp 𝓤) in_K) $ join ! $ move ! (1 ∷ 0 ∷ []) $ use2 𝓛 (raw (G₁.pre z₁)) (id⊢ 𝓤 _) $
-    calls_at ! (framed 𝓤 𝓛.H 𝓜 𝓣) G₁ (Opened.met 𝓤 𝓛 𝓜 𝓡 (code.calls-wasmi_hashed::map::entry::OccupiedEntry::into_table 𝓡.env wired) X Y S Z N LX LY LS LZ LN e de p dp h dh s ds n dn g dg dd dm me mp mh ms mn mg md mm) z₁
+    calls_at ! (framed 𝓤 𝓛.H 𝓜 𝓣) G₁ (Opened.met 𝓤 𝓛 𝓜 𝓡 (code.calls-wasmi_hashed::map::entry::OccupiedEntry::into_inner 𝓡.env wired) X Y S Z N LX LY LS LZ LN e de p dp h dh s ds n dn g dg dd dm me mp mh ms mn mg md mm) z₁
     (and_then ! (get ! refl) (no_more !)) (λ v₁.
     use1 𝓛 (later (some (λ (r : There.Denot). (alive ⊛ ‵ (There.own_val r (v₁ ∷ []))) ⊛
     some (λ (ws : Lasts (Opens.ended X Y S Z N e de p dp h dh s ds n dn g dg dd dm) κs (entry, tt)). ‵ (lasts (Opens.ended X Y S Z N e de p dp h dh s ds n dn g dg dd dm) κs (entry, tt) ws) ⊛ raw (fact 𝓤 (r ≡ entry.entry)))))) (id⊢ 𝓤 _) $
@@ -100,13 +100,13 @@ remove_entry_spec 𝓤 𝓛 𝓜 𝓡 wired X Y S Z N LX LY LS LZ LN e de p dp h
     await ! tt $ pick ! (λ pair. split ! $ split ! $ move ! (2 ∷ []) $ pick ! (λ ws. split ! $ move ! (1 ∷ []) $
     split ! $ heard ! _ (λ key_is. split ! $ heard ! _ (λ value_is. heard ! _ (λ removed. fsplit ! $ move ! (1 ∷ []) $ drop ! $
     -- [how the place is left; the tokens; the answer]
-    use1 𝓛 (‵ (table_without K V T A H g (Occupied r))) (goes_without 𝓛 K V T A H p h s n g ℓ r ws.0 removed) $
-    rewrite ! 0 (λ (there : There.Denot). ‵ (table_without K V T A H g (Occupied there))) same refl $
+    use1 𝓛 (‵ (inner_without K V T A H g (Occupied r))) (goes_without 𝓛 K V T A H p h s n g ℓ r ws.0 removed) $
+    rewrite ! 0 (λ (there : There.Denot). ‵ (inner_without K V T A H g (Occupied there))) same refl $
     move ! (2 ∷ []) $ peeks ! Answer _ (shows 𝓛 Answer) pair (v ∷ []) (λ shown.
     lands_as ! refl refl ((answer_laws.lawful 𝓛).typed pair (v ∷ []) shown).0 $
     returns ! (look_at ! 0 refl) $ free_all ! refl $
     suffices ! _ (ends_at 𝓛 call stayed c y v pair (rest (Here.exit no) entry, tt) (tt, tt)) $
     use0 𝓛 (raw (fact 𝓤 (entry_value (Occupied entry.entry) ≡ Some pair.1))) (fact_i 𝓤 _ (emp 𝓤) (subst (λ (there : There.Denot). entry_value (Occupied there) ≡ Some pair.1) same value_is)) $
     use0 𝓛 (raw (fact 𝓤 (pair.0 ≡ entry_key (Occupied entry.entry)))) (fact_i 𝓤 _ (emp 𝓤) (subst (λ (there : There.Denot). pair.0 ≡ entry_key (Occupied there)) same key_is)) $
-    -- [the key's clause; the value's; the answer; how the table is left; the tokens]
+    -- [the key's clause; the value's; the answer; how the inner map is left; the tokens]
     use0 𝓛 (‵ (let_go 1)) (gone 𝓛 1) $ move ! (5 ∷ 0 ∷ 3 ∷ []) $ group ! 3 $ move ! (0 ∷ 3 ∷ []) $ done !))))))))))))))))))))

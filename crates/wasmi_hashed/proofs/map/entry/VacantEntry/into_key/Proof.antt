@@ -1,4 +1,4 @@
--- `into_key` gives back the table as it is. Assumes `Logic`.
+-- `into_key` gives back the inner map as it is. Assumes `Logic`.
 use Rattle.std.proofs.Common.{◌≡◌, List, [], ◌∷◌, refl, sym, subst}
 use Rattle.std.proofs.raw_atomic.Walks.{proved_at}
 use Rattle.std.specs.HashMap.Entry.{entry_key, entry_map_ref}
@@ -33,15 +33,15 @@ use types.Kit.{‵, raw, ◌⊛◌, some, later, ◌$◌, ◌∵◌, !, qed, don
 use types.Run.{enter, of_opd, and_then, no_more, returns}
 use Rattle.std.specs.declared.collections.hash_map.Entry.TheVariants.{Vacant}
 use Rattle.wasmi_hashed.specs.contracts.map.entry.VacantEntry as EntryType
-use Rattle.wasmi_hashed.specs.contracts.map.entry.VacantEntry.into_table as Opens
+use Rattle.wasmi_hashed.specs.contracts.map.entry.VacantEntry.into_inner as Opens
 use Rattle.wasmi_hashed.specs.contracts.map.entry.VacantEntry.into_key as F
 use Rattle.wasmi_arena.proofs.Frame.{let_go, gone}
 use Rattle.wasmi_map_specs.proofs.Handed.{sole}
 use Rattle.wasmi_hashed.proofs.Gone.{vacant_goes}
 use Rattle.wasmi_hashed.proofs.Ended.{comes_back}
-use Rattle.wasmi_hashed.specs.MapEntry.{table_stays}
+use Rattle.wasmi_hashed.specs.MapEntry.{inner_stays}
 use Rattle.wasmi_hashed.proofs.map.entry.VacantEntry.TheLaws as EntryLaws
-use Rattle.wasmi_hashed.proofs.map.entry.VacantEntry.into_table.Met as Opened
+use Rattle.wasmi_hashed.proofs.map.entry.VacantEntry.into_inner.Met as Opened
 use Rattle.wasmi_hashed.proofs.map.entry.VacantEntry.into_key.Code as code
 use Rattle.wasmi_hashed.proofs.map.entry.VacantEntry.into_key.Statement.{statement}
 
@@ -77,7 +77,7 @@ into_key_spec 𝓤 𝓛 𝓜 𝓡 wired X Y S Z N LX LY LS LZ LN e de p dp h dh 
     let z₁ : G₁.Ghost = ((κs, qs, bounds, (entry, tt), (b ∷ [], tt)), tt) in
     join ! $ move ! (1 ∷ 0 ∷ []) $ join ! $ nothing ! $
     use0 𝓛 (raw (fact 𝓤 (κs.1.1.1.1.1.0 ⊑ N.lives))) (fact_i 𝓤 _ (emp 𝓤) in_H) $ join ! $ use0 𝓛 (raw (fact 𝓤 (κs.1.1.1.1.0 ⊑ Z.lives))) (fact_i 𝓤 _ (emp 𝓤) in_A) $ join ! $ use0 𝓛 (raw (fact 𝓤 (κs.1.1.1.0 ⊑ S.lives))) (fact_i 𝓤 _ (emp 𝓤) in_S) $ join ! $ use0 𝓛 (raw (fact 𝓤 (κs.1.1.0 ⊑ Y.lives))) (fact_i 𝓤 _ (emp 𝓤) in_V) $ join ! $ use0 𝓛 (raw (fact 𝓤 (κs.1.0 ⊑ X.lives))) (fact_i 𝓤 _ (emp 𝓤) in_K) $ join ! $ move ! (1 ∷ 0 ∷ []) $ use2 𝓛 (raw (G₁.pre z₁)) (id⊢ 𝓤 _) $
-    calls_at ! (framed 𝓤 𝓛.H 𝓜 𝓣) G₁ (Opened.met 𝓤 𝓛 𝓜 𝓡 (code.calls-wasmi_hashed::map::entry::VacantEntry::into_table 𝓡.env wired) X Y S Z N LX LY LS LZ LN e de p dp h dh s ds n dn g dg dd dm me mp mh ms mn mg md mm) z₁
+    calls_at ! (framed 𝓤 𝓛.H 𝓜 𝓣) G₁ (Opened.met 𝓤 𝓛 𝓜 𝓡 (code.calls-wasmi_hashed::map::entry::VacantEntry::into_inner 𝓡.env wired) X Y S Z N LX LY LS LZ LN e de p dp h dh s ds n dn g dg dd dm me mp mh ms mn mg md mm) z₁
     (and_then ! (get ! refl) (no_more !)) (λ v₁.
     use1 𝓛 (later (some (λ (r : There.Denot). (alive ⊛ ‵ (There.own_val r (v₁ ∷ []))) ⊛
     some (λ (ws : Lasts (Opens.ended X Y S Z N e de p dp h dh s ds n dn g dg dd dm) κs (entry, tt)). ‵ (lasts (Opens.ended X Y S Z N e de p dp h dh s ds n dn g dg dd dm) κs (entry, tt) ws) ⊛ raw (fact 𝓤 (r ≡ entry.entry)))))) (id⊢ 𝓤 _) $
@@ -97,12 +97,12 @@ into_key_spec 𝓤 𝓛 𝓜 𝓡 wired X Y S Z N LX LY LS LZ LN e de p dp h dh 
     await ! tt $ pick ! (λ key. split ! $ split ! $ move ! (2 ∷ []) $ pick ! (λ ws. split ! $ move ! (1 ∷ []) $
     split ! $ heard ! _ (λ key_is. heard ! _ (λ unchanged. fsplit ! $ move ! (1 ∷ []) $ drop ! $
     -- [how the place is left; the tokens; the key]
-    use1 𝓛 (‵ (table_stays K V T A H g (Vacant r))) (comes_back 𝓛 K V T A H p h s n g ℓ r ws.0 unchanged) $
-    rewrite ! 0 (λ (there : There.Denot). ‵ (table_stays K V T A H g (Vacant there))) same refl $
+    use1 𝓛 (‵ (inner_stays K V T A H g (Vacant r))) (comes_back 𝓛 K V T A H p h s n g ℓ r ws.0 unchanged) $
+    rewrite ! 0 (λ (there : There.Denot). ‵ (inner_stays K V T A H g (Vacant there))) same refl $
     move ! (2 ∷ []) $ peeks ! K _ (shows 𝓛 K) key (v ∷ []) (λ shown.
     lands_as ! refl refl ((LK.lawful 𝓛).typed key (v ∷ []) shown).0 $
     returns ! (look_at ! 0 refl) $ free_all ! refl $
     suffices ! _ (ends_at 𝓛 call stayed c y v key (rest (Here.exit no) entry, tt) (tt, tt)) $
     use0 𝓛 (raw (fact 𝓤 (key ≡ entry_key (Vacant entry.entry)))) (fact_i 𝓤 _ (emp 𝓤) (subst (λ (there : There.Denot). key ≡ entry_key (Vacant there)) same key_is)) $
-    -- [the key is that; the key; how the table is left; the tokens]
+    -- [the key is that; the key; how the inner map is left; the tokens]
     use0 𝓛 (‵ (let_go 1)) (gone 𝓛 1) $ move ! (4 ∷ 0 ∷ 2 ∷ []) $ group ! 3 $ move ! (0 ∷ 2 ∷ []) $ done !)))))))))))))))))))

@@ -1,9 +1,9 @@
--- `into_mut` hands on what the tree's place lends. Assumes `Logic`.
+-- `into_mut` hands on what the inner place lends. Assumes `Logic`.
 use Rattle.std.proofs.Common.{◌≡◌, List, [], ◌∷◌, refl, sym, ap, subst, MutBor}
 use Rattle.std.proofs.raw_atomic.Walks.{proved_at}
 use Rattle.std.specs.Prelude.{Some}
 use Rattle.std.specs.BTreeMap.Entry.{entry_map_ref, entry_value, map_with_value}
-use Rattle.std.specs.contracts.collections.BTreeMap.{the_row as TreeRow}
+use Rattle.std.specs.contracts.collections.BTreeMap.{the_row as InnerRow}
 use Rattle.std.specs.contracts.collections.btree_map.OccupiedEntry as PlaceType
 use Rattle.std.specs.contracts.collections.btree_map.OccupiedEntry.into_mut as Lends
 use Rattle.std.proofs.collections.btree_map.OccupiedEntry.TheLaws as PlaceLaws
@@ -36,13 +36,13 @@ use types.Kit.{‵, raw, ◌⊛◌, some, later, ◌$◌, ◌∵◌, !, qed, don
 use types.Run.{enter, of_opd, and_then, no_more, returns}
 use Rattle.std.specs.declared.collections.btree_map.Entry.TheVariants.{Occupied}
 use Rattle.wasmi_ordered.specs.contracts.map.entry.OccupiedEntry as EntryType
-use Rattle.wasmi_ordered.specs.contracts.map.entry.OccupiedEntry.into_tree as Opens
+use Rattle.wasmi_ordered.specs.contracts.map.entry.OccupiedEntry.into_inner as Opens
 use Rattle.wasmi_ordered.specs.contracts.map.entry.OccupiedEntry.into_mut as F
 use Rattle.wasmi_arena.proofs.Frame.{let_go, gone}
 use Rattle.wasmi_map_specs.proofs.Handed.{sole}
 use Rattle.wasmi_ordered.proofs.Gone.{occupied_goes}
 use Rattle.wasmi_ordered.proofs.map.entry.OccupiedEntry.TheLaws as EntryLaws
-use Rattle.wasmi_ordered.proofs.map.entry.OccupiedEntry.into_tree.Met as Opened
+use Rattle.wasmi_ordered.proofs.map.entry.OccupiedEntry.into_inner.Met as Opened
 use Rattle.wasmi_ordered.proofs.map.entry.OccupiedEntry.into_mut.Code as code
 use Rattle.wasmi_ordered.proofs.map.entry.OccupiedEntry.into_mut.Statement.{statement}
 
@@ -51,7 +51,7 @@ into_mut_spec 𝓤 𝓛 𝓜 𝓡 wired X Y Z LX LY LZ h dh e de p dp o dt q dq 
     let K = param 0 X in let V = param 1 Y in let A = param 2 Z in
     let args : Args = bounded (a_type ∷ a_type ∷ a_type ∷ []) (X, (Y, (Z, tt))) (dcons dh (dcons de (dcons dp (dcons dt (dcons dq (dcons dg (dcons dd dnil))))))) in
     let call = F.ended X Y Z h dh e de p dp o dt q dq g dg dd in let c = F.clauses X Y Z h dh e de p dp o dt q dq g dg dd 𝓛 𝓜.mem 𝓡.returns in
-    let Tree = TreeRow K V A o p q g in let function = inst_fn args code.function in
+    let Inner = InnerRow K V A o p q g in let function = inst_fn args code.function in
     let stayed : Stays call.signature.params call.kept = (stay_dropped _ no, tt) in
     let W = walk_of 𝓛 call stayed c in let 𝓣 = tables 𝓤 𝓛.H 𝓜 𝓡 𝓡.env in
     proved_at 𝓛 call stayed c 𝓜 𝓡 (occupied_goes 𝓛 X Y Z p o q g 4 (named_lft 4 0 tt), tt)
@@ -78,7 +78,7 @@ into_mut_spec 𝓤 𝓛 𝓜 𝓡 wired X Y Z LX LY LZ h dh e de p dp o dt q dq 
     let z₁ : G₁.Ghost = ((κs, qs, bounds, (entry, tt), (b ∷ [], tt)), tt) in
     join ! $ move ! (1 ∷ 0 ∷ []) $ join ! $ nothing ! $
     use0 𝓛 (raw (fact 𝓤 (κs.1.1.1.0 ⊑ Z.lives))) (fact_i 𝓤 _ (emp 𝓤) in_A) $ join ! $ use0 𝓛 (raw (fact 𝓤 (κs.1.1.0 ⊑ Y.lives))) (fact_i 𝓤 _ (emp 𝓤) in_V) $ join ! $ use0 𝓛 (raw (fact 𝓤 (κs.1.0 ⊑ X.lives))) (fact_i 𝓤 _ (emp 𝓤) in_K) $ join ! $ move ! (1 ∷ 0 ∷ []) $ use2 𝓛 (raw (G₁.pre z₁)) (id⊢ 𝓤 _) $
-    calls_at ! (framed 𝓤 𝓛.H 𝓜 𝓣) G₁ (Opened.met 𝓤 𝓛 𝓜 𝓡 (code.calls-wasmi_ordered::map::entry::OccupiedEntry::into_tree 𝓡.env wired) X Y Z LX LY LZ h dh e de p dp o dt q dq g dg dd mh me mp mo mq mg md) z₁
+    calls_at ! (framed 𝓤 𝓛.H 𝓜 𝓣) G₁ (Opened.met 𝓤 𝓛 𝓜 𝓡 (code.calls-wasmi_ordered::map::entry::OccupiedEntry::into_inner 𝓡.env wired) X Y Z LX LY LZ h dh e de p dp o dt q dq g dg dd mh me mp mo mq mg md) z₁
     (and_then ! (get ! refl) (no_more !)) (λ v₁.
     use1 𝓛 (later (some (λ (r : There.Denot). (alive ⊛ ‵ (There.own_val r (v₁ ∷ []))) ⊛
     some (λ (ws : Lasts (Opens.ended X Y Z h dh e de p dp o dt q dq g dg dd) κs (entry, tt)). ‵ (lasts (Opens.ended X Y Z h dh e de p dp o dt q dq g dg dd) κs (entry, tt) ws) ⊛ raw (fact 𝓤 (r ≡ entry.entry)))))) (id⊢ 𝓤 _) $
@@ -93,15 +93,15 @@ into_mut_spec 𝓤 𝓛 𝓜 𝓡 wired X Y Z LX LY LZ h dh e de p dp o dt q dq 
     (and_then ! (get ! refl) (no_more !)) (λ v.
     use1 𝓛 (later (some (λ (t : MutBor V.Denot). (alive ⊛ ‵ (Answer.own_val t (v ∷ []))) ⊛
     some (λ (ws : Lasts (Lends.ended X Y Z o dt e de p dp q dq g dg dd) κs (r, tt)). ‵ (lasts (Lends.ended X Y Z o dt e de p dp q dq g dg dd) κs (r, tt) ws)
-    ⊛ ‵ (follows Tree V (entry_map_ref (Occupied r)).ghost_name t.ghost_name (map_with_value (Occupied r))) ⊛ raw (fact 𝓤 (entry_value (Occupied r) ≡ Some t.now)))))) (id⊢ 𝓤 _) $
+    ⊛ ‵ (follows Inner V (entry_map_ref (Occupied r)).ghost_name t.ghost_name (map_with_value (Occupied r))) ⊛ raw (fact 𝓤 (entry_value (Occupied r) ≡ Some t.now)))))) (id⊢ 𝓤 _) $
     await ! tt $ pick ! (λ t. split ! $ split ! $ move ! (2 ∷ []) $ pick ! (λ ws. split ! $ drop ! $ split ! $ move ! (1 ∷ []) $ heard ! _ (λ value_is.
-    rewrite ! 0 (λ (there : There.Denot). ‵ (follows Tree V (entry_map_ref (Occupied there)).ghost_name t.ghost_name (map_with_value (Occupied there)))) same refl $
-    -- [what the tree is in the end; the tokens; the reference]
+    rewrite ! 0 (λ (there : There.Denot). ‵ (follows Inner V (entry_map_ref (Occupied there)).ghost_name t.ghost_name (map_with_value (Occupied there)))) same refl $
+    -- [what the inner map is in the end; the tokens; the reference]
     move ! (2 ∷ []) $ peeks ! Answer _ (shows 𝓛 Answer) t (v ∷ []) (λ told.
     let ref = vptr t.ref_ptr.0 t.ref_ptr.1 in let at : v ≡ ref = ap only (mut_Tells (named 0) κ V t (v ∷ []) told) in
     lands_as ! at refl (tt, tt) $ rewrite ! 0 (λ (u : Val). ‵ (Answer.own_val t (u ∷ []))) at refl $
     returns ! (look_at ! 0 refl) $ free_all ! refl $
     suffices ! _ (ends_at 𝓛 call stayed c y ref t (rest (Here.exit no) entry, tt) (tt, tt)) $
     use0 𝓛 (raw (fact 𝓤 (entry_value (Occupied entry.entry) ≡ Some t.now))) (fact_i 𝓤 _ (emp 𝓤) (subst (λ (there : There.Denot). entry_value (Occupied there) ≡ Some t.now) same value_is)) $
-    -- [the value's clause; the reference; what the tree is in the end; the tokens]
+    -- [the value's clause; the reference; what the inner map is in the end; the tokens]
     use0 𝓛 (‵ (let_go 1)) (gone 𝓛 1) $ move ! (4 ∷ 0 ∷ 2 ∷ []) $ group ! 3 $ move ! (0 ∷ 2 ∷ []) $ done !))))))))))))))))

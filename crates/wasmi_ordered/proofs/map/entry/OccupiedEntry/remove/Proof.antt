@@ -1,4 +1,4 @@
--- `remove` leaves the tree without the key. Assumes `Logic`.
+-- `remove` leaves the inner map without the key. Assumes `Logic`.
 use Rattle.std.proofs.Common.{◌≡◌, List, [], ◌∷◌, refl, sym, subst}
 use Rattle.std.proofs.raw_atomic.Walks.{proved_at}
 use Rattle.std.specs.BTreeMap.{IsUnchanged}
@@ -35,15 +35,15 @@ use types.Kit.{‵, raw, ◌⊛◌, some, later, ◌$◌, ◌∵◌, !, qed, don
 use types.Run.{enter, of_opd, and_then, no_more, returns}
 use Rattle.std.specs.declared.collections.btree_map.Entry.TheVariants.{Occupied}
 use Rattle.wasmi_ordered.specs.contracts.map.entry.OccupiedEntry as EntryType
-use Rattle.wasmi_ordered.specs.contracts.map.entry.OccupiedEntry.into_tree as Opens
+use Rattle.wasmi_ordered.specs.contracts.map.entry.OccupiedEntry.into_inner as Opens
 use Rattle.wasmi_ordered.specs.contracts.map.entry.OccupiedEntry.remove as F
 use Rattle.wasmi_arena.proofs.Frame.{let_go, gone}
 use Rattle.wasmi_map_specs.proofs.Handed.{sole}
 use Rattle.wasmi_ordered.proofs.Gone.{occupied_goes}
 use Rattle.wasmi_ordered.proofs.Ended.{goes_without}
-use Rattle.wasmi_ordered.specs.MapEntry.{tree_without}
+use Rattle.wasmi_ordered.specs.MapEntry.{inner_without}
 use Rattle.wasmi_ordered.proofs.map.entry.OccupiedEntry.TheLaws as EntryLaws
-use Rattle.wasmi_ordered.proofs.map.entry.OccupiedEntry.into_tree.Met as Opened
+use Rattle.wasmi_ordered.proofs.map.entry.OccupiedEntry.into_inner.Met as Opened
 use Rattle.wasmi_ordered.proofs.map.entry.OccupiedEntry.remove.Code as code
 use Rattle.wasmi_ordered.proofs.map.entry.OccupiedEntry.remove.Statement.{statement}
 
@@ -79,7 +79,7 @@ remove_spec 𝓤 𝓛 𝓜 𝓡 wired X Y Z LX LY LZ h dh e de p dp o dt q dq g 
     let z₁ : G₁.Ghost = ((κs, qs, bounds, (entry, tt), (b ∷ [], tt)), tt) in
     join ! $ move ! (1 ∷ 0 ∷ []) $ join ! $ nothing ! $
     use0 𝓛 (raw (fact 𝓤 (κs.1.1.1.0 ⊑ Z.lives))) (fact_i 𝓤 _ (emp 𝓤) in_A) $ join ! $ use0 𝓛 (raw (fact 𝓤 (κs.1.1.0 ⊑ Y.lives))) (fact_i 𝓤 _ (emp 𝓤) in_V) $ join ! $ use0 𝓛 (raw (fact 𝓤 (κs.1.0 ⊑ X.lives))) (fact_i 𝓤 _ (emp 𝓤) in_K) $ join ! $ move ! (1 ∷ 0 ∷ []) $ use2 𝓛 (raw (G₁.pre z₁)) (id⊢ 𝓤 _) $
-    calls_at ! (framed 𝓤 𝓛.H 𝓜 𝓣) G₁ (Opened.met 𝓤 𝓛 𝓜 𝓡 (code.calls-wasmi_ordered::map::entry::OccupiedEntry::into_tree 𝓡.env wired) X Y Z LX LY LZ h dh e de p dp o dt q dq g dg dd mh me mp mo mq mg md) z₁
+    calls_at ! (framed 𝓤 𝓛.H 𝓜 𝓣) G₁ (Opened.met 𝓤 𝓛 𝓜 𝓡 (code.calls-wasmi_ordered::map::entry::OccupiedEntry::into_inner 𝓡.env wired) X Y Z LX LY LZ h dh e de p dp o dt q dq g dg dd mh me mp mo mq mg md) z₁
     (and_then ! (get ! refl) (no_more !)) (λ v₁.
     use1 𝓛 (later (some (λ (r : There.Denot). (alive ⊛ ‵ (There.own_val r (v₁ ∷ []))) ⊛
     some (λ (ws : Lasts (Opens.ended X Y Z h dh e de p dp o dt q dq g dg dd) κs (entry, tt)). ‵ (lasts (Opens.ended X Y Z h dh e de p dp o dt q dq g dg dd) κs (entry, tt) ws) ⊛ raw (fact 𝓤 (r ≡ entry.entry)))))) (id⊢ 𝓤 _) $
@@ -99,12 +99,12 @@ remove_spec 𝓤 𝓛 𝓜 𝓡 wired X Y Z LX LY LZ h dh e de p dp o dt q dq g 
     await ! tt $ pick ! (λ value. split ! $ split ! $ move ! (2 ∷ []) $ pick ! (λ ws. split ! $ move ! (1 ∷ []) $
     split ! $ heard ! _ (λ value_is. heard ! _ (λ removed. fsplit ! $ move ! (1 ∷ []) $ drop ! $
     -- [how the place is left; the tokens; the value]
-    use1 𝓛 (‵ (tree_without K V A g (Occupied r))) (goes_without 𝓛 K V A o p q g ℓ r ws.0 removed) $
-    rewrite ! 0 (λ (there : There.Denot). ‵ (tree_without K V A g (Occupied there))) same refl $
+    use1 𝓛 (‵ (inner_without K V A g (Occupied r))) (goes_without 𝓛 K V A o p q g ℓ r ws.0 removed) $
+    rewrite ! 0 (λ (there : There.Denot). ‵ (inner_without K V A g (Occupied there))) same refl $
     move ! (2 ∷ []) $ peeks ! V _ (shows 𝓛 V) value (v ∷ []) (λ shown.
     lands_as ! refl refl ((LV.lawful 𝓛).typed value (v ∷ []) shown).0 $
     returns ! (look_at ! 0 refl) $ free_all ! refl $
     suffices ! _ (ends_at 𝓛 call stayed c y v value (rest (Here.exit no) entry, tt) (tt, tt)) $
     use0 𝓛 (raw (fact 𝓤 (entry_value (Occupied entry.entry) ≡ Some value))) (fact_i 𝓤 _ (emp 𝓤) (subst (λ (there : There.Denot). entry_value (Occupied there) ≡ Some value) same value_is)) $
-    -- [the clause; the value; how the tree is left; the tokens]
+    -- [the clause; the value; how the inner map is left; the tokens]
     use0 𝓛 (‵ (let_go 1)) (gone 𝓛 1) $ move ! (4 ∷ 0 ∷ 2 ∷ []) $ group ! 3 $ move ! (0 ∷ 2 ∷ []) $ done !)))))))))))))))))
