@@ -12,7 +12,7 @@ use denote.Follow.{follows, follows_so, follows_by, such_by, followed}
 use Rattle.std.specs.Borrow.{name_if_ok, RestsIfErr}
 use Rattle.std.specs.HashMap.{HashMap, get_key}
 use Rattle.std.specs.HashMap.Entry.{entry_key, entry_map_ref, entry_value, IsEntryFor, IsRemovalFor, MatchEntry}
-use Rattle.std.specs.Prelude.{None, Some, Result, Ok, Err, IfOk, IsSome, OnOk, OnErr, IsOkUnless}
+use Rattle.std.specs.Prelude.{None, Some, Result, Ok, Err, IfOk, IsSome, OnOk, OnErr}
 use Rattle.std.specs.declared.alloc.AllocFailed.{AllocFailed}
 use Rattle.std.specs.declared.collections.hash_map.Entry.{Entry as Place}
 use Rattle.std.specs.declared.collections.hash_map.Entry.TheVariants.{Occupied, Vacant}
@@ -23,7 +23,6 @@ use Rattle.std.specs.declared.hash.BuildHasher as builder
 use Rattle.wasmi_map_specs.specs.Maps.{value_at}
 use Rattle.wasmi_hashed.specs.MapEntry.{map_of, place, IsPlaceOf, IsOfInner}
 use Rattle.wasmi_arena.specs.declared.error.ArenaError.{ArenaError}
-use Rattle.wasmi_arena.specs.declared.error.ArenaError.TheVariants.{OutOfSystemMemory}
 use Rattle.wasmi_hashed.specs.declared.map.entry.Entry.{Entry}
 
 module _ {K V S A H : Type 0} {g : eq.Ghosts K} {h : hash.Ghosts K} {b : builder.Ghosts S H} {w : hasher.Ghosts H} where
@@ -40,24 +39,6 @@ module _ {K V S A H : Type 0} {g : eq.Ghosts K} {h : hash.Ghosts K} {b : builder
       → IfOk r (IsPlaceOf same (map_of table) key)
   is_place same table key (Ok e) is_key is_same is_value found entries written removed = (is_key, is_same, is_value, is_found _ _ _ e found, entries, written.1, written.3, removed.1)
   is_place same table key (Err failed) is_key is_same is_value found entries written removed = tt
-
-  pub of_place : (P : Place K V S A H g h b w → Type 0) (there : Result (Place K V S A H g h b w) (AllocFailed K)) (here : Result (Entry K V S A H g h b w) ArenaError) → IsOfInner there here → IfOk there P → IfOk here (λ entry. P (place entry))
-  of_place P (Ok p) (Ok entry) same known = subst P (sym same) known
-  of_place P (Ok p) (Err e) same known = absurd same
-  of_place P (Err failed) (Ok entry) same known = absurd same
-  of_place P (Err failed) (Err e) same known = tt
-
-  pub of_absence : (P : Type 0) (there : Result (Place K V S A H g h b w) (AllocFailed K)) (here : Result (Entry K V S A H g h b w) ArenaError) → IsOfInner there here → OnErr there P → OnErr here P
-  of_absence P (Ok p) (Ok entry) same known = tt
-  of_absence P (Ok p) (Err e) same known = absurd same
-  of_absence P (Err failed) (Ok entry) same known = absurd same
-  of_absence P (Err failed) (Err e) same known = known
-
-  pub of_failure : (there : Result (Place K V S A H g h b w) (AllocFailed K)) (here : Result (Entry K V S A H g h b w) ArenaError) → IsOfInner there here → IsOkUnless here OutOfSystemMemory
-  of_failure (Ok p) (Ok entry) same = tt
-  of_failure (Ok p) (Err e) same = absurd same
-  of_failure (Err failed) (Ok entry) same = absurd same
-  of_failure (Err failed) (Err e) same = same
 
   -- what the map is once the table, lent on to a place, has come back
   module _ {M : Type 1} {𝓤 : Ura M} (𝓛 : Logic 𝓤) (R T : RattleType) (F : T.Denot → R.Denot) (γ : GName) (part : MutBor T.Denot) (last : R.Denot)

@@ -15,7 +15,8 @@ use Rattle.std.specs.HashMap.Entry.{entry_key, entry_map_ref, entry_value, map_w
 use Rattle.std.specs.HashMap.Lent.{HashMembers}
 use Rattle.std.specs.List.Sorted.{IsPermutation}
 use Rattle.std.specs.Map.{remove_entry, set_value}
-use Rattle.std.specs.Prelude.{◌≡◌, Bool, true, ◌∷◌, Result, Ok, Err, OnErr, None, IsSome, MatchOption}
+use Rattle.std.specs.Prelude.{◌≡◌, Bool, true, ◌∷◌, Result, OnErr, None, IsSome, MatchOption}
+use Rattle.wasmi_map_specs.specs.Made.{IsMadeOf}
 use Rattle.wasmi_map_specs.specs.Maps.{value_at}
 use Rattle.wasmi_hashed.specs.Entries.{Entries}
 use Rattle.wasmi_hashed.specs.contracts.map.Map.{the_row as MapRow}
@@ -47,12 +48,9 @@ module _ {K V S A H : Type 0} {g : eq.Ghosts K} {h : hash.Ghosts K} {b : builder
       × ((last : V) → hasher_of (map_with_value there last) ≡ map.hasher)
       × IsPermutation (remove_entry (same key) map.entries) (map_without_entry there).entries
 
-  -- what is made of the table's answer
+  -- what a map returns where the map of the standard library returns this
   abbrev pub IsOfInner : Result (Place K V S A H g h b w) (AllocFailed K) → Result (Entry K V S A H g h b w) ArenaError → Type 0
-  IsOfInner (Ok there) (Ok entry) = place entry ≡ there
-  IsOfInner (Err failed) (Err error) = error ≡ OutOfSystemMemory
-  IsOfInner (Ok there) (Err error) = ⊥
-  IsOfInner (Err failed) (Ok entry) = ⊥
+  IsOfInner = IsMadeOf place OutOfSystemMemory
 
 module _ (K V S A H : RattleType) {g : eq.Ghosts K.Denot} {h : hash.Ghosts K.Denot} {b : builder.Ghosts S.Denot H.Denot} {w : hasher.Ghosts H.Denot} (heap : alloc.Ghosts A.Denot) where
   -- where the call failed, the table has its entries

@@ -1,3 +1,4 @@
+pub mod Made
 pub mod Maps
 pub mod Same
 pub mod Sets

@@ -13,9 +13,10 @@ use Rattle.std.specs.BTreeMap.{BTreeMap, insert_entry, IsUnchanged}
 use Rattle.std.specs.BTreeMap.Entry.{entry_map_ref, entry_key, entry_value, map_with_value, map_without_entry, MatchEntry}
 use Rattle.std.specs.Map.{remove_entry}
 use Rattle.std.specs.Ordering.{eq_by_cmp}
+use Rattle.wasmi_map_specs.specs.Made.{IsMadeOf}
 use Rattle.wasmi_map_specs.specs.Maps.{value_at}
 use Rattle.std.specs.BTreeMap.Lent.{OrdMembers}
-use Rattle.std.specs.Prelude.{◌≡◌, List, Result, Ok, Err, None, IsSome}
+use Rattle.std.specs.Prelude.{◌≡◌, List, Result, None, IsSome}
 use Rattle.std.specs.Borrow.{Fml, RattleType, MutBor, RestsIfErr, Lends, follows_if, follows_so, name_if_ok}
 use mathlib.Core.Option.{none}
 use Rattle.std.specs.contracts.collections.BTreeMap.{the_row as InnerRow}
@@ -41,12 +42,9 @@ module _ {Key Value Heap : Type 0} {equal : eq.Ghosts Key} {total : ord.Ghosts K
       × ((last : Value) → (map_with_value there last).entries ≡ insert_entry cmp entries key last)
       × ((map_without_entry there).entries ≡ remove_entry (eq_by_cmp cmp key) entries)
 
-  -- what is made of the tree's answer
+  -- what a map returns where the map of the standard library returns this
   abbrev pub IsOfInner : Result (Place Key Value Heap total equal order) (AllocFailed Key) → Result (Entry Key Value Heap equal total order) ArenaError → Type 0
-  IsOfInner (Ok there) (Ok entry) = place entry ≡ there
-  IsOfInner (Err failed) (Err error) = error ≡ OutOfSystemMemory
-  IsOfInner (Ok there) (Err error) = ⊥
-  IsOfInner (Err failed) (Ok entry) = ⊥
+  IsOfInner = IsMadeOf place OutOfSystemMemory
 
 module _ (K V A : RattleType) {g : ord.Ghosts K.Denot} {g' : eq.Ghosts K.Denot} {g'' : partial.Ghosts K.Denot} (heap : alloc.Ghosts A.Denot) where
   -- where the call failed, the tree has its entries

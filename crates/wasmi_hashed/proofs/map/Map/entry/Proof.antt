@@ -60,7 +60,8 @@ use Rattle.wasmi_hashed.proofs.map.entry.of_inner.Met as Made
 use Rattle.wasmi_hashed.proofs.map.Map.entry.Statement.{statement}
 use Rattle.wasmi_hashed.proofs.map.Map.entry.Code as code
 use Rattle.wasmi_arena.proofs.Frame.{let_go, gone}
-use Rattle.wasmi_hashed.proofs.Places.{of_place, of_absence, of_failure, lent_on}
+use Rattle.wasmi_map_specs.proofs.Made.{of_place, of_absence, of_failure}
+use Rattle.wasmi_hashed.proofs.Places.{lent_on}
 use Rattle.wasmi_hashed.specs.Entries.{Entries}
 
 pub entry_spec : {M : Type 1} → statement M
@@ -147,10 +148,10 @@ entry_spec 𝓤 𝓛 𝓜 𝓡 wired X Y S Z N LX LY LS LZ LN e de p dp h dh s d
     returns ! (look_at ! 0 refl) $ free_all ! refl $
     suffices ! _ (ends_at 𝓛 call stayed c y v res (tt, (tt, tt)) (tt, (tt, tt))) $
     let is : IfOk res (λ entry. IsPlaceOf p.eq map.now key (place entry)) =
-    subst (λ (m : Entries X.Denot Y.Denot S.Denot). IfOk res (λ entry. IsPlaceOf p.eq m key (place entry))) as_map (of_place (IsPlaceOf p.eq (map_of t.now) key) r res made is_place) in
-    use0 𝓛 (raw (fact 𝓤 (IsOkUnless res OutOfSystemMemory))) (fact_i 𝓤 _ (emp 𝓤) (of_failure r res made)) $
+    subst (λ (m : Entries X.Denot Y.Denot S.Denot). IfOk res (λ entry. IsPlaceOf p.eq m key (place entry))) as_map (of_place place OutOfSystemMemory (IsPlaceOf p.eq (map_of t.now) key) r res made is_place) in
+    use0 𝓛 (raw (fact 𝓤 (IsOkUnless res OutOfSystemMemory))) (fact_i 𝓤 _ (emp 𝓤) (of_failure place OutOfSystemMemory r res made)) $
     use0 𝓛 (raw (fact 𝓤 (OnErr res (value_at p.eq map.now.entries key ≡ None)))) (fact_i 𝓤 _ (emp 𝓤)
-    (subst (λ (m : Entries X.Denot Y.Denot S.Denot). OnErr res (value_at p.eq m.entries key ≡ None)) as_map (of_absence _ r res made is_absent))) $
+    (subst (λ (m : Entries X.Denot Y.Denot S.Denot). OnErr res (value_at p.eq m.entries key ≡ None)) as_map (of_absence place OutOfSystemMemory _ r res made is_absent))) $
     use0 𝓛 (raw (fact 𝓤 (IfOk res (λ entry. IsPermutation (remove_entry (p.eq key) map.now.entries) (map_without_entry (place entry)).entries)))) (fact_i 𝓤 _ (emp 𝓤) (each_ok res is (λ entry told. told.7))) $
     use0 𝓛 (raw (fact 𝓤 (IfOk res (λ entry. (last : Y.Denot) → hasher_of (map_with_value (place entry) last) ≡ map.now.hasher)))) (fact_i 𝓤 _ (emp 𝓤) (each_ok res is (λ entry told. told.6))) $
     use0 𝓛 (raw (fact 𝓤 (IfOk res (λ entry. (last : Y.Denot) → MatchOption (value_at p.eq map.now.entries key) (IsPermutation ((key, last) ∷ map.now.entries) (map_with_value (place entry) last).entries) (λ _. (map_with_value (place entry) last).entries ≡ set_value (p.eq key) map.now.entries last))))) (fact_i 𝓤 _ (emp 𝓤) (each_ok res is (λ entry told. told.5))) $

@@ -61,7 +61,7 @@ use Rattle.wasmi_ordered.proofs.map.Map.entry.Statement.{statement}
 use Rattle.wasmi_ordered.proofs.map.Map.entry.Code as code
 use Rattle.wasmi_arena.proofs.Frame.{let_go, gone}
 use Rattle.wasmi_map_specs.proofs.Handed.{lent_on, each_ok}
-use Rattle.wasmi_ordered.proofs.Places.{of_place, of_absence, of_failure, of_names}
+use Rattle.wasmi_map_specs.proofs.Made.{of_place, of_absence, of_failure, of_names}
 
 pub entry_spec : {M : Type 1} → statement M
 entry_spec 𝓤 𝓛 𝓜 𝓡 wired X Y Z LX LY LZ h dh e de p dp o dt q dq g dg dd cl dcl dk mh me mp mo mq mg md mcl mk =
@@ -140,16 +140,16 @@ entry_spec 𝓤 𝓛 𝓜 𝓡 wired X Y Z LX LY LZ h dh e de p dp o dt q dq g d
     await ! tt $ pick ! (λ res. split ! $ split ! $ move ! (2 ∷ []) $ pick ! (λ ws. split ! $ drop ! $ heard ! _ (λ made.
     -- [the tokens; the answer; how the inner map is left; what the map is in the end]
     move ! (3 ∷ 2 ∷ []) $ use2 𝓛 (‵ (follows_if Self Inner γ (name_if_ok (λ entry. (entry_map_ref (place entry)).ghost_name) res) (λ last. last.entries) map.now))
-    (lent_on 𝓛 Self Inner (λ last. last.entries) γ t map.now (λ there. (entry_map_ref there).ghost_name) (λ now. now.entries ≡ t.now.entries) (λ now same. same ∙ as_map) r _ (of_names t.ghost_name r res made same_map)) $
+    (lent_on 𝓛 Self Inner (λ last. last.entries) γ t map.now (λ there. (entry_map_ref there).ghost_name) (λ now. now.entries ≡ t.now.entries) (λ now same. same ∙ as_map) r _ (of_names place OutOfSystemMemory (λ there. (entry_map_ref there).ghost_name) t.ghost_name r res made same_map)) $
     move ! (2 ∷ []) $ peeks ! Here _ (shows 𝓛 Here) res (v ∷ []) (λ seen.
     lands_as ! refl refl ((here_laws.lawful 𝓛).typed res (v ∷ []) seen).0 $
     returns ! (look_at ! 0 refl) $ free_all ! refl $
     suffices ! _ (ends_at 𝓛 call stayed c y v res (tt, (tt, tt)) (tt, (tt, tt))) $
     let is : IfOk res (λ entry. IsPlaceOf o.cmp map.now key (place entry)) =
-    subst (λ entries. IfOk res (λ entry. IsPlaceOf o.cmp entries key (place entry))) as_map (of_place (IsPlaceOf o.cmp t.now.entries key) r res made is_place) in
-    use0 𝓛 (raw (fact 𝓤 (IsOkUnless res OutOfSystemMemory))) (fact_i 𝓤 _ (emp 𝓤) (of_failure r res made)) $
+    subst (λ entries. IfOk res (λ entry. IsPlaceOf o.cmp entries key (place entry))) as_map (of_place place OutOfSystemMemory (IsPlaceOf o.cmp t.now.entries key) r res made is_place) in
+    use0 𝓛 (raw (fact 𝓤 (IsOkUnless res OutOfSystemMemory))) (fact_i 𝓤 _ (emp 𝓤) (of_failure place OutOfSystemMemory r res made)) $
     use0 𝓛 (raw (fact 𝓤 (OnErr res (value_at (eq_by_cmp o.cmp) map.now key ≡ None)))) (fact_i 𝓤 _ (emp 𝓤)
-    (subst (λ entries. OnErr res (value_at (eq_by_cmp o.cmp) entries key ≡ None)) as_map (of_absence _ r res made is_absent))) $
+    (subst (λ entries. OnErr res (value_at (eq_by_cmp o.cmp) entries key ≡ None)) as_map (of_absence place OutOfSystemMemory _ r res made is_absent))) $
     use0 𝓛 (raw (fact 𝓤 (IfOk res (λ entry. (map_without_entry (place entry)).entries ≡ remove_entry (eq_by_cmp o.cmp key) map.now)))) (fact_i 𝓤 _ (emp 𝓤) (each_ok res is (λ entry told. told.6))) $
     use0 𝓛 (raw (fact 𝓤 (IfOk res (λ entry. (last : Y.Denot) → (map_with_value (place entry) last).entries ≡ insert_entry o.cmp map.now key last)))) (fact_i 𝓤 _ (emp 𝓤) (each_ok res is (λ entry told. told.5))) $
     use0 𝓛 (raw (fact 𝓤 (IfOk res (λ entry. (entry_map_ref (place entry)).now.entries ≡ map.now)))) (fact_i 𝓤 _ (emp 𝓤) (each_ok res is (λ entry told. told.4))) $
