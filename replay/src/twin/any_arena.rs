@@ -1,6 +1,7 @@
 //! Calls on both arenas of the Rust crate, and those that they have in common.
 
 use crate::call::{Call, ItemCall};
+use crate::line::Line;
 use crate::twin::answers::{bad, counted, result, step, unless_it_panics};
 use crate::twin::Container;
 use std::fmt::{self, Debug};

@@ -1,6 +1,7 @@
 //! Calls on the Rust crate's `DedupArena`.
 
 use crate::call::{Call, ItemCall};
+use crate::line::Line;
 use crate::twin::answers::{bad, counted, option, result, step, unless_it_panics};
 use crate::twin::Container;
 use std::fmt::{self, Debug};

@@ -1,6 +1,7 @@
 //! Calls on the Rust crate's `StableVec`.
 
 use crate::call::{Call, ItemCall};
+use crate::line::Line;
 use crate::twin::answers::{bad, counted, option, result};
 use crate::twin::{answers, buckets, Container};
 use std::hash::{DefaultHasher, Hash, Hasher};
