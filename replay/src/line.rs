@@ -71,7 +71,9 @@ const HINTS: [(&str, InternHint); 3] = [
 impl Argument for InternHint {
     fn read(words: &mut Split<'_, char>) -> Option<Self> {
         let word = words.next()?;
-        HINTS.into_iter().find_map(|(name, hint)| (name == word).then_some(hint))
+        HINTS
+            .into_iter()
+            .find_map(|(name, hint)| (name == word).then_some(hint))
     }
 
     fn write(&self, f: &mut Formatter<'_>) -> fmt::Result {

@@ -69,9 +69,11 @@ impl Generator {
         self.len += 1;
         let key = self.new_key(target);
         if !self.is_map() {
-            let call = self
-                .random
-                .one_of(&[KeyCall::Insert(None), KeyCall::Insert(None), KeyCall::Replace]);
+            let call = self.random.one_of(&[
+                KeyCall::Insert(None),
+                KeyCall::Insert(None),
+                KeyCall::Replace,
+            ]);
             return TableCall::Key(key, call);
         }
         let (item, new) = (self.value(), self.value());

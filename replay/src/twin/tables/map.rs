@@ -1,8 +1,8 @@
 //! Calls on maps.
 
 use super::{braced, stepped, walk};
-use crate::table_call::{EntryCall, KeyCall, TableCall, WalkCall};
 use crate::line::Line;
+use crate::table_call::{EntryCall, KeyCall, TableCall, WalkCall};
 use crate::twin::answers::{bad, counted, option, unless_it_panics};
 use crate::twin::Container;
 use std::collections::{hash_map, HashMap};
@@ -44,7 +44,10 @@ macro_rules! map_twin {
                     },
                     KeyCall::Remove => option(out, map.remove(&key)),
                     KeyCall::RemoveEntry => option(out, map.remove_entry(&key).map(owned_text)),
-                    KeyCall::Insert(None) | KeyCall::Contains | KeyCall::Replace | KeyCall::Take => bad(out),
+                    KeyCall::Insert(None)
+                    | KeyCall::Contains
+                    | KeyCall::Replace
+                    | KeyCall::Take => bad(out),
                 }
             }
 

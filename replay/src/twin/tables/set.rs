@@ -1,8 +1,8 @@
 //! Calls on sets.
 
 use super::{braced, stepped, walk, walk_all};
-use crate::table_call::{BothCall, KeyCall, TableCall, WalkCall};
 use crate::line::Line;
+use crate::table_call::{BothCall, KeyCall, TableCall, WalkCall};
 use crate::twin::answers::{bad, option};
 use crate::twin::Container;
 use std::collections::HashSet;
