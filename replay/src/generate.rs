@@ -9,6 +9,7 @@ mod string_interner;
 mod tables;
 
 use crate::call::{Call, ItemCall};
+use crate::line::Steps;
 use crate::random::Random;
 use crate::table_call::TableCall;
 use std::fmt::Write;
@@ -404,20 +405,20 @@ impl Generator {
     }
 
     /// Few steps, or about as many as there are items.
-    fn steps(&mut self) -> String {
+    fn steps(&mut self) -> Steps {
         let many = self.len <= LONG && self.seldom();
         let count = if many {
             self.len + self.random.below(3)
         } else {
             self.random.below(9)
         };
-        match self.random.below(4) {
+        Steps(match self.random.below(4) {
             0 => "f".repeat(count),
             1 => "b".repeat(count),
             _ => (0..count)
                 .map(|_| self.random.one_of(&['f', 'b']))
                 .collect(),
-        }
+        })
     }
 
     /// True once in four times, and less often the more items there are past a few.

@@ -7,6 +7,7 @@ mod call;
 mod compare;
 mod generate;
 mod interner_call;
+mod line;
 mod public_calls;
 mod random;
 mod table_call;

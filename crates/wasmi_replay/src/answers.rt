@@ -3,7 +3,7 @@
 use std::fmt::{Debug, Display};
 use std::io;
 use std::io::{ErrorKind, Write};
-use wasmi_arena::{ArenaError, ArenaKey};
+use wasmi_arena::ArenaError;
 
 /// Writes what a call returned.
 pub fn value<W: Write, V: Display + Drop>(out: &mut W, value: V) -> io::Result<()> {
@@ -42,15 +42,27 @@ pub fn refusal<W: Write>(out: &mut W, error: ArenaError) -> io::Result<()> {
     }
 }
 
-/// Writes an item with the number of its key, or `none`, and a space.
-pub fn entry<Key: ArenaKey, W: Write>(out: &mut W, given: Option<(Key, &i64)>) -> io::Result<()> {
-    match given {
-        Some((key, item)) => write!(out, "{}={item} ", key.into_usize()),
-        None => write!(out, "none "),
+/// Writes `done`, or `error` and the text of the error.
+pub fn done<W: Write>(out: &mut W, outcome: Result<(), ArenaError>) -> io::Result<()> {
+    result(out, outcome.map(|()| "done"))
+}
+
+/// Puts a container that was made in the place of another one, and writes the same.
+pub fn keep<W: Write, C: Drop>(
+    out: &mut W,
+    made: Result<C, ArenaError>,
+    place: &mut C,
+) -> io::Result<()> {
+    match made {
+        Ok(made) => {
+            *place = made;
+            value(out, "done")
+        }
+        Err(error) => refusal(out, error),
     }
 }
 
-/// The same of a call that may give nothing, for which `none` is written.
+/// Writes the value, `none` where there is none, or `error` and the text of the error.
 pub fn found<W: Write, V: Display + Drop>(
     out: &mut W,
     outcome: Result<Option<V>, ArenaError>,

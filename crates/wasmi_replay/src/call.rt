@@ -1,5 +1,6 @@
 //! What a line asks for.
 
+use crate::counted::Counted;
 use std::str::{FromStr, Split};
 
 /// A call on a container, named as the method is.
@@ -26,20 +27,15 @@ pub enum Call<'a> {
     /// Write the items under two keys: a number, and the one after it.
     GetDisjointMut(usize, usize, i64),
     /// So many numbers, from the first one on.
-    Extend(i64, u16),
-    FromIter(i64, u16),
+    Extend(Counted),
+    FromIter(Counted),
     /// A clone, in the place of the other container.
     Clone,
     /// The same, by the call that takes the allocator.
     CloneIn,
-    /// Go on with the other container.
-    Exchange,
-    /// `==`, with the other container.
-    Eq,
     PartialCmp,
     Cmp,
     Hash,
-    Debug,
     /// Take items from an iterator: an `f` from the front, a `b` from the back.
     Iter(&'a str),
     /// Take buckets from an iterator of slices, likewise.
@@ -83,12 +79,8 @@ impl<'a> Call<'a> {
     /// Reads a line, given without its line feed. `None` if it names no call, or not with its numbers.
     pub fn parse(line: &'a str) -> Option<Call<'a>> {
         let mut words = line.split(' ');
-        let name = words.next()?;
-        let call = Call::named(name, &mut words)?;
-        match words.next() {
-            None => Some(call),
-            Some(_) => None,
-        }
+        let call = Call::named(words.next()?, &mut words)?;
+        ended(call, &mut words)
     }
 
     // The call of a name, with its numbers.
@@ -102,12 +94,9 @@ impl<'a> Call<'a> {
             "last" => Call::Last,
             "clone" => Call::Clone,
             "clone_in" => Call::CloneIn,
-            "exchange" => Call::Exchange,
-            "eq" => Call::Eq,
             "partial_cmp" => Call::PartialCmp,
             "cmp" => Call::Cmp,
             "hash" => Call::Hash,
-            "debug" => Call::Debug,
             "for" => Call::For,
             "next_key" => Call::NextKey,
             "room" => Call::Room,
@@ -142,8 +131,8 @@ impl<'a> Call<'a> {
             "get_disjoint_mut" => {
                 Call::GetDisjointMut(number(words)?, number(words)?, number(words)?)
             }
-            "extend" => Call::Extend(number(words)?, number(words)?),
-            "from_iter" => Call::FromIter(number(words)?, number(words)?),
+            "extend" => Call::Extend(counted(words)?),
+            "from_iter" => Call::FromIter(counted(words)?),
             "slices" => Call::Slices(steps(words)?),
             "iter" => Call::Iter(steps(words)?),
             "iter_mut" => Call::IterMut(steps(words)?, number(words)?),
@@ -171,6 +160,17 @@ impl ItemCall {
     }
 }
 
+/// What was read, if no word is left.
+pub fn ended<C>(call: C, words: &mut Split<'_, char>) -> Option<C>
+where
+    C: Copy,
+{
+    match words.next() {
+        None => Some(call),
+        Some(_) => None,
+    }
+}
+
 /// The number that the next word is.
 pub fn number<N: FromStr>(words: &mut Split<'_, char>) -> Option<N>
 where
@@ -187,4 +187,12 @@ fn steps<'a>(words: &mut Split<'a, char>) -> Option<&'a str> {
     } else {
         None
     }
+}
+
+// The first of so many numbers, and how many there are.
+fn counted(words: &mut Split<'_, char>) -> Option<Counted> {
+    Some(Counted {
+        next: number(words)?,
+        left: number(words)?,
+    })
 }

@@ -1,6 +1,6 @@
-//! Calls on a `ComponentVec`.
+//! Calls on a `ComponentVec`. A line names a key by its number.
 
-use crate::answers::{bad, debug, option, refusal, value};
+use crate::answers::{bad, option, refusal, value};
 use crate::call::{Call, ItemCall};
 use crate::replay::Container;
 use std::alloc::Global;
@@ -9,72 +9,60 @@ use std::{io, mem};
 use wasmi_arena::ArenaKey;
 use wasmi_dense::ComponentVec;
 
-/// Numbers as components, and others beside them. A line names a key by its number.
-#[derive(Drop)]
-pub struct ComponentReplay<Key: ArenaKey> {
-    components: ComponentVec<Key, i64>,
-    other: ComponentVec<Key, i64>,
-}
-
-impl<Key: ArenaKey> ComponentReplay<Key> {
-    pub fn new(alloc: Global) -> Self {
-        ComponentReplay {
-            components: ComponentVec::new(alloc),
-            other: ComponentVec::new(alloc),
-        }
+impl<Key: ArenaKey> Container for ComponentVec<Key, i64> {
+    fn empty(alloc: Global) -> Self {
+        ComponentVec::new(alloc)
     }
 
-    // Puts `new` in the place of a component, which it returns.
-    fn write(&mut self, key: Key, new: i64) -> Option<i64> {
-        let component = self.components.get_mut(key)?;
-        Some(mem::replace(component, new))
-    }
-
-    // Makes a call on the component under a key.
-    fn answer_item<W: Write>(&mut self, key: Key, call: ItemCall, out: &mut W) -> io::Result<()> {
-        match call {
-            ItemCall::Get => option(out, self.components.get(key)),
-            ItemCall::GetMut(new) => option(out, self.write(key, new)),
-            ItemCall::Set(new) => match self.components.set(key, new) {
-                Ok(old) => option(out, old),
-                Err(error) => refusal(out, error),
-            },
-            ItemCall::Unset => option(out, self.components.unset(key)),
-            ItemCall::Index if self.components.get(key).is_some() => {
-                value(out, self.components[key])
-            }
-            ItemCall::IndexMut(new) if self.components.get(key).is_some() => {
-                self.components[key] = new;
-                value(out, "written")
-            }
-            ItemCall::Index | ItemCall::IndexMut(_) => value(out, "no item"),
-            ItemCall::Put(_) | ItemCall::Has => bad(out),
-        }
-    }
-}
-
-impl<Key: ArenaKey> Container for ComponentReplay<Key> {
-    fn answer<W: Write>(&mut self, line: &str, out: &mut W) -> io::Result<()> {
+    fn answer<W: Write>(
+        &mut self,
+        _other: &mut Self,
+        _alloc: Global,
+        line: &str,
+        out: &mut W,
+    ) -> io::Result<()> {
         let Some(call) = Call::parse(line) else {
             return bad(out);
         };
         match call {
-            Call::Extent => value(out, self.components.extent()),
+            Call::Extent => value(out, self.extent()),
             Call::Clear => {
-                self.components.clear();
+                self.clear();
                 value(out, "done")
             }
             Call::Item(number, call) => match Key::from_usize(number) {
-                Some(key) => self.answer_item(key, call, out),
+                Some(key) => answer_item(self, key, call, out),
                 None => value(out, "no key"),
             },
-            Call::Exchange => {
-                mem::swap(&mut self.components, &mut self.other);
-                value(out, "done")
-            }
-            Call::Eq => value(out, self.components == self.other),
-            Call::Debug => debug(out, &self.components),
             _ => bad(out),
         }
+    }
+}
+
+// Makes a call on the component under a key.
+fn answer_item<Key: ArenaKey, W: Write>(
+    components: &mut ComponentVec<Key, i64>,
+    key: Key,
+    call: ItemCall,
+    out: &mut W,
+) -> io::Result<()> {
+    match call {
+        ItemCall::Get => option(out, components.get(key)),
+        ItemCall::GetMut(new) => {
+            let component = components.get_mut(key);
+            option(out, component.map(|component| mem::replace(component, new)))
+        }
+        ItemCall::Set(new) => match components.set(key, new) {
+            Ok(old) => option(out, old),
+            Err(error) => refusal(out, error),
+        },
+        ItemCall::Unset => option(out, components.unset(key)),
+        ItemCall::Index if components.get(key).is_some() => value(out, components[key]),
+        ItemCall::IndexMut(new) if components.get(key).is_some() => {
+            components[key] = new;
+            value(out, "written")
+        }
+        ItemCall::Index | ItemCall::IndexMut(_) => value(out, "no item"),
+        ItemCall::Put(_) | ItemCall::Has => bad(out),
     }
 }

@@ -2,7 +2,7 @@
 ghost use Rattle.std.specs.Iterator.{at_most};
 
 /// So many numbers, each one more than the one before, and `i64::MIN` after `i64::MAX`.
-#[derive(Drop)]
+#[derive(Clone, Copy)]
 pub struct Counted {
     pub next: i64,
     pub left: u16,
@@ -49,7 +49,7 @@ impl Iterator for Stepped {
 }
 
 /// Such numbers as keys, each with an item: these are a number and the ones after it.
-#[derive(Drop)]
+#[derive(Clone, Copy)]
 pub struct Pairs {
     pub key: i64,
     pub step: i64,
@@ -71,5 +71,16 @@ impl Iterator for Pairs {
         self.item = pair.1.wrapping_add(1);
         self.left -= 1;
         Some(pair)
+    }
+}
+
+impl Pairs {
+    /// The keys alone.
+    pub fn keys(self) -> Stepped {
+        Stepped {
+            next: self.key,
+            step: self.step,
+            left: self.left,
+        }
     }
 }

@@ -1,6 +1,6 @@
 //! What a line asks of an interner.
 
-use crate::call::number;
+use crate::call::{ended, number};
 use std::str::Split;
 use wasmi_collections::string_interner::InternHint;
 
@@ -19,11 +19,6 @@ pub enum InternerCall<'a> {
     Symbols(u32, u32),
     /// A clone, in the place of the other interner.
     Clone,
-    /// Go on with the other interner.
-    Exchange,
-    /// `==`, with the other interner.
-    Eq,
-    Debug,
 }
 
 impl<'a> InternerCall<'a> {
@@ -31,12 +26,8 @@ impl<'a> InternerCall<'a> {
     /// numbers.
     pub fn parse(line: &'a str) -> Option<InternerCall<'a>> {
         let mut words = line.split(' ');
-        let name = words.next()?;
-        let call = InternerCall::named(name, &mut words)?;
-        match words.next() {
-            None => Some(call),
-            Some(_) => None,
-        }
+        let call = InternerCall::named(words.next()?, &mut words)?;
+        ended(call, &mut words)
     }
 
     // The call of a name, with its text or numbers.
@@ -53,9 +44,6 @@ impl<'a> InternerCall<'a> {
             "resolve" => InternerCall::Resolve(number(words)?),
             "symbols" => InternerCall::Symbols(number(words)?, number(words)?),
             "clone" => InternerCall::Clone,
-            "exchange" => InternerCall::Exchange,
-            "eq" => InternerCall::Eq,
-            "debug" => InternerCall::Debug,
             _ => return None,
         };
         Some(call)

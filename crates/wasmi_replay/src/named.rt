@@ -1,5 +1,7 @@
 //! The container that a line names.
 
+use crate::call::ended;
+
 /// What a line `on ..` names.
 #[derive(Clone, Copy)]
 pub enum Named {
@@ -53,10 +55,7 @@ impl Named {
             "component_vec" => Named::Keyed(Keyed::ComponentVec, Keys::parse(words.next()?)?),
             _ => return None,
         };
-        match words.next() {
-            None => Some(named),
-            Some(_) => None,
-        }
+        ended(named, &mut words)
     }
 }
 

@@ -1,31 +1,33 @@
 //! The loop over the input.
 
-use crate::answers::{bad, value};
-use crate::arena::ArenaReplay;
-use crate::component_vec::ComponentReplay;
-use crate::dedup_arena::DedupReplay;
-use wasmi_vectors::few_keys::FewKeys;
-use crate::hashed_map::HashedMapReplay;
-use crate::hashed_set::HashedSetReplay;
-use crate::head_vec::HeadReplay;
+use crate::answers::{bad, debug, value};
 use crate::lines::Lines;
 use crate::named::{Keyed, Keys, Named};
-use crate::ordered_map::OrderedMapReplay;
-use crate::ordered_set::OrderedSetReplay;
 use crate::pair_key::PairKey;
-use crate::stable_arena::StableArenaReplay;
-use crate::stable_vec::VecReplay;
-use crate::string_interner::InternerReplay;
 use std::alloc::Global;
 use std::fmt::Debug;
-use std::io;
 use std::io::{BufWriter, Read, Write};
 use std::num::NonZero;
+use std::{io, mem};
+use wasmi_arena::{StableArena, StableVec};
+use wasmi_collections::{DedupArena, HeadVec, StringInterner};
+use wasmi_dense::{Arena, ComponentVec};
+use wasmi_hashed as hashed;
+use wasmi_ordered as ordered;
+use wasmi_vectors::few_keys::FewKeys;
 
-/// A container at work.
-pub trait Container {
-    /// Makes the call that a line names, and writes the line of its answer.
-    fn answer<W: Write>(&mut self, line: &str, out: &mut W) -> io::Result<()>;
+/// A container that calls are made on.
+pub trait Container: Sized {
+    fn empty(alloc: Global) -> Self;
+
+    /// Makes the call that a line names, and writes the line of its answer. The other container lies beside this one.
+    fn answer<W: Write>(
+        &mut self,
+        other: &mut Self,
+        alloc: Global,
+        line: &str,
+        out: &mut W,
+    ) -> io::Result<()>;
 }
 
 /// Makes the calls of the input on the containers that it names, and writes one line for each of its
@@ -41,16 +43,7 @@ pub fn run<R: Read + Drop, W: Write + Drop>(alloc: Global, reader: R, writer: W)
             break;
         }
         more = match Named::parse(lines.text().unwrap_or("")) {
-            Some(Named::StableVec) => serve(VecReplay::new(alloc), &mut lines, &mut out)?,
-            Some(Named::HeadVec) => serve(HeadReplay::new(alloc), &mut lines, &mut out)?,
-            Some(Named::Keyed(keyed, keys)) => {
-                serve_under(keyed, keys, alloc, &mut lines, &mut out)?
-            }
-            Some(Named::OrderedMap) => serve(OrderedMapReplay::new(alloc), &mut lines, &mut out)?,
-            Some(Named::OrderedSet) => serve(OrderedSetReplay::new(alloc), &mut lines, &mut out)?,
-            Some(Named::HashedMap) => serve(HashedMapReplay::new(alloc), &mut lines, &mut out)?,
-            Some(Named::HashedSet) => serve(HashedSetReplay::new(alloc), &mut lines, &mut out)?,
-            Some(Named::StringInterner) => serve(InternerReplay::new(alloc), &mut lines, &mut out)?,
+            Some(named) => serve_named(named, alloc, &mut lines, &mut out)?,
             None => {
                 bad(&mut out)?;
                 lines.advance()?
@@ -60,24 +53,34 @@ pub fn run<R: Read + Drop, W: Write + Drop>(alloc: Global, reader: R, writer: W)
     out.flush()
 }
 
-// The same as `serve`, on a new container with keys of the type named.
-fn serve_under<R: Read + Drop, W: Write>(
-    keyed: Keyed,
-    keys: Keys,
+// The same as `serve`, on the container named.
+fn serve_named<R: Read + Drop, W: Write>(
+    named: Named,
     alloc: Global,
     lines: &mut Lines<R>,
     out: &mut W,
 ) -> io::Result<bool> {
-    match keys {
-        Keys::U32 => serve_keyed::<u32, R, W>(keyed, alloc, lines, out),
-        Keys::Usize => serve_keyed::<usize, R, W>(keyed, alloc, lines, out),
-        Keys::NonZeroU32 => serve_keyed::<NonZero<u32>, R, W>(keyed, alloc, lines, out),
-        Keys::NonZeroUsize => serve_keyed::<NonZero<usize>, R, W>(keyed, alloc, lines, out),
-        Keys::Few => serve_keyed::<FewKeys, R, W>(keyed, alloc, lines, out),
+    match named {
+        Named::StableVec => serve::<StableVec<i64>, R, W>(alloc, lines, out),
+        Named::HeadVec => serve::<HeadVec<i64>, R, W>(alloc, lines, out),
+        Named::OrderedMap => serve::<ordered::Map<i64, i64>, R, W>(alloc, lines, out),
+        Named::OrderedSet => serve::<ordered::Set<i64>, R, W>(alloc, lines, out),
+        Named::HashedMap => serve::<hashed::Map<i64, i64>, R, W>(alloc, lines, out),
+        Named::HashedSet => serve::<hashed::Set<i64>, R, W>(alloc, lines, out),
+        Named::StringInterner => serve::<StringInterner, R, W>(alloc, lines, out),
+        Named::Keyed(keyed, Keys::U32) => serve_keyed::<u32, R, W>(keyed, alloc, lines, out),
+        Named::Keyed(keyed, Keys::Usize) => serve_keyed::<usize, R, W>(keyed, alloc, lines, out),
+        Named::Keyed(keyed, Keys::NonZeroU32) => {
+            serve_keyed::<NonZero<u32>, R, W>(keyed, alloc, lines, out)
+        }
+        Named::Keyed(keyed, Keys::NonZeroUsize) => {
+            serve_keyed::<NonZero<usize>, R, W>(keyed, alloc, lines, out)
+        }
+        Named::Keyed(keyed, Keys::Few) => serve_keyed::<FewKeys, R, W>(keyed, alloc, lines, out),
     }
 }
 
-// The same for a type of keys.
+// The same with keys of a type.
 fn serve_keyed<Key: PairKey + Debug, R: Read + Drop, W: Write>(
     keyed: Keyed,
     alloc: Global,
@@ -85,20 +88,22 @@ fn serve_keyed<Key: PairKey + Debug, R: Read + Drop, W: Write>(
     out: &mut W,
 ) -> io::Result<bool> {
     match keyed {
-        Keyed::StableArena => serve(StableArenaReplay::<Key>::new(alloc), lines, out),
-        Keyed::Arena => serve(ArenaReplay::<Key>::new(alloc), lines, out),
-        Keyed::DedupArena => serve(DedupReplay::<Key>::new(alloc), lines, out),
-        Keyed::ComponentVec => serve(ComponentReplay::<Key>::new(alloc), lines, out),
+        Keyed::StableArena => serve::<StableArena<Key, i64>, R, W>(alloc, lines, out),
+        Keyed::Arena => serve::<Arena<Key, i64>, R, W>(alloc, lines, out),
+        Keyed::DedupArena => serve::<DedupArena<Key, i64>, R, W>(alloc, lines, out),
+        Keyed::ComponentVec => serve::<ComponentVec<Key, i64>, R, W>(alloc, lines, out),
     }
 }
 
 // Answers the line that the reader came to, which named the container, and the lines after it up to the
-// next that begins with `on`. False if there is none.
-fn serve<C: Container + Drop, R: Read + Drop, W: Write>(
-    mut container: C,
+// next that begins with `on`. False if there is none. Each container has the calls that are made here.
+fn serve<C: Container + PartialEq + Debug + Drop, R: Read + Drop, W: Write>(
+    alloc: Global,
     lines: &mut Lines<R>,
     out: &mut W,
 ) -> io::Result<bool> {
+    let mut container = C::empty(alloc);
+    let mut other = C::empty(alloc);
     value(out, "new")?;
     for _ in 0..u64::MAX {
         if !lines.advance()? {
@@ -108,7 +113,15 @@ fn serve<C: Container + Drop, R: Read + Drop, W: Write>(
         if line.starts_with("on ") {
             return Ok(true);
         }
-        container.answer(line, out)?;
+        match line {
+            "exchange" => {
+                mem::swap(&mut container, &mut other);
+                value(out, "done")?;
+            }
+            "eq" => value(out, container == other)?,
+            "debug" => debug(out, &container)?,
+            _ => container.answer(&mut other, alloc, line, out)?,
+        }
     }
     Ok(false)
 }

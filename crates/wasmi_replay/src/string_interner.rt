@@ -1,73 +1,54 @@
-//! Calls on a `StringInterner`.
+//! Calls on a `StringInterner`. A line names a symbol by its number.
 
-use crate::answers::{bad, debug, option, result, value};
+use crate::answers::{bad, keep, option, result, value};
 use crate::interner_call::InternerCall;
 use crate::replay::Container;
 use std::alloc::Global;
 use std::hash::{DefaultHasher, Hash, Hasher};
+use std::io;
 use std::io::Write;
-use std::{io, mem};
-use wasmi_arena::ArenaError;
 use wasmi_collections::StringInterner;
 use wasmi_collections::string_interner::{InternHint, Steps, Sym};
 
-/// An interner at work, and another one beside it. A line names a symbol by its number.
-#[derive(Drop)]
-pub struct InternerReplay {
-    interner: StringInterner,
-    other: StringInterner,
-}
-
-impl InternerReplay {
-    pub fn new(alloc: Global) -> Self {
-        InternerReplay {
-            interner: StringInterner::new(alloc),
-            other: StringInterner::new(alloc),
-        }
+impl Container for StringInterner {
+    fn empty(alloc: Global) -> Self {
+        StringInterner::new(alloc)
     }
 
-    // Puts a clone in the place of the other interner.
-    fn keep_clone(&mut self) -> Result<(), ArenaError> {
-        self.other = self.interner.clone()?;
-        Ok(())
-    }
-}
-
-impl Container for InternerReplay {
-    fn answer<W: Write>(&mut self, line: &str, out: &mut W) -> io::Result<()> {
+    fn answer<W: Write>(
+        &mut self,
+        other: &mut Self,
+        _alloc: Global,
+        line: &str,
+        out: &mut W,
+    ) -> io::Result<()> {
         let Some(call) = InternerCall::parse(line) else {
             return bad(out);
         };
         match call {
-            InternerCall::Len => value(out, self.interner.len()),
-            InternerCall::IsEmpty => value(out, self.interner.is_empty()),
-            InternerCall::Get(text) => option(out, self.interner.get(text).map(Sym::into_u32)),
-            InternerCall::GetCounted(text) => counted(&self.interner, text, out),
+            InternerCall::Len => value(out, self.len()),
+            InternerCall::IsEmpty => value(out, self.is_empty()),
+            InternerCall::Get(text) => option(out, self.get(text).map(Sym::into_u32)),
+            InternerCall::GetCounted(text) => counted(self, text, out),
             InternerCall::GetOrIntern(text) => {
-                result(out, self.interner.get_or_intern(text).map(Sym::into_u32))
+                result(out, self.get_or_intern(text).map(Sym::into_u32))
             }
             InternerCall::GetOrInternWithHint(hint, text) => {
                 write!(out, "{hint:?} ")?;
-                let symbol = self.interner.get_or_intern_with_hint(text, hint);
+                let symbol = self.get_or_intern_with_hint(text, hint);
                 result(out, symbol.map(Sym::into_u32))
             }
-            InternerCall::Resolve(number) => match self.interner.resolve(Sym::from_u32(number)) {
+            InternerCall::Resolve(number) => match self.resolve(Sym::from_u32(number)) {
                 Some(text) => writeln!(out, "\"{text}\""),
                 None => value(out, "none"),
             },
             InternerCall::Symbols(first, second) => symbols(first, second, out),
-            InternerCall::Clone => result(out, self.keep_clone().map(|()| "done")),
-            InternerCall::Exchange => {
-                mem::swap(&mut self.interner, &mut self.other);
-                value(out, "done")
-            }
-            InternerCall::Eq => value(out, self.interner == self.other),
-            InternerCall::Debug => debug(out, &self.interner),
+            InternerCall::Clone => keep(out, self.clone(), other),
         }
     }
 }
 
-// Writes the symbol of a text, and whether so many texts were compared as a search by halves does: at
+// Writes the symbol of a text, and whether so many texts were compared as a binary search does: at
 // most one for each binary digit of the number of texts, and one where there is a text.
 fn counted<W: Write>(interner: &StringInterner, text: &str, out: &mut W) -> io::Result<()> {
     let mut steps = Steps::new();

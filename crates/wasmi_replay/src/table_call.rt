@@ -1,6 +1,7 @@
 //! What a line asks of a map or a set.
 
-use crate::call::number;
+use crate::call::{ended, number};
+use crate::counted::Pairs;
 use std::str::Split;
 
 /// A call on a map or a set, named as the method is. A set has elements for keys, and no items.
@@ -9,31 +10,34 @@ pub enum TableCall {
     Len,
     IsEmpty,
     Clear,
-    /// Make room for so many more keys.
+    /// Make room for `additional` more keys.
     Reserve(u16),
     Key(i64, KeyCall),
     Entry(i64, EntryCall),
-    /// Walk: so many steps, and then the rest.
+    Side(i64, SideCall),
+    /// Write what the entry of a key is.
+    Look(i64),
+    /// Take out an entry that is there.
+    TakeEntry(i64),
+    /// Iterate: so many steps, and then the rest.
     Walk(u16, WalkCall),
+    /// The same by what `into_iter`, `into_keys` and `into_values` return.
+    WalkTaken(u16, WalkCall),
+    WalkMut(u16, MutCall),
     /// All keys, by a `for` over a reference.
     For,
     /// Add a number to all items, by a `for` over a `&mut` reference.
     ForMut(i64),
     /// Add a number to all items of a map, and keep what has a bit of the mask.
     Retain(i64, i64),
-    /// Keys from one on, each a step from the one before, and items from another number on.
-    Extend(i64, i64, i64, u16),
-    FromIter(i64, i64, i64, u16),
-    /// The same, with those of the other container.
+    Extend(Pairs),
+    FromIter(Pairs),
+    /// Extend by those of the other container.
     ExtendRef,
     /// A clone, in the place of the other container.
     Clone,
-    /// Go on with the other container.
-    Exchange,
-    /// `==`, with the other container.
-    Eq,
-    Debug,
     Both(BothCall),
+    Made(MadeCall),
 }
 
 /// A call on one key.
@@ -55,10 +59,9 @@ pub enum KeyCall {
     Take,
 }
 
-/// A call on the entry of a key. What a reference comes back for is written, last.
+/// A call on the entry of a key. Where a reference comes back, the last number is written through it.
 #[derive(Clone, Copy)]
 pub enum EntryCall {
-    Look,
     Key,
     OrInsert(i64, i64),
     OrInsertWith(i64, i64),
@@ -66,27 +69,32 @@ pub enum EntryCall {
     OrDefault(i64),
     /// Add a number, and then `or_insert`.
     AndModify(i64, i64),
+}
+
+/// A call on an entry that is there, or on one that isn't, likewise.
+#[derive(Clone, Copy)]
+pub enum SideCall {
     GetMut(i64),
     Insert(i64),
     IntoMut(i64),
     Remove,
-    RemoveEntry,
     VacantInsert(i64, i64),
     IntoKey,
 }
 
-/// Where a walk goes.
+/// What an iteration goes over.
 #[derive(Clone, Copy)]
 pub enum WalkCall {
     Iter,
     Keys,
     Values,
-    IntoIter,
-    IntoKeys,
-    IntoValues,
-    /// Add a number to each item.
-    IterMut(i64),
-    ValuesMut(i64),
+}
+
+/// The same, and a number that is added to each item.
+#[derive(Clone, Copy)]
+pub enum MutCall {
+    Items(i64),
+    Values(i64),
 }
 
 /// A call on two sets: this one and the other.
@@ -99,7 +107,11 @@ pub enum BothCall {
     Intersection(u16),
     Difference(u16),
     SymmetricDifference(u16),
-    /// The set of both takes the place of the other one.
+}
+
+/// An operator on two sets: the set that it makes takes the place of the other one.
+#[derive(Clone, Copy)]
+pub enum MadeCall {
     BitAnd,
     BitOr,
     BitXor,
@@ -110,12 +122,8 @@ impl TableCall {
     /// Reads a line, given without its line feed. `None` if it names no call, or not with its numbers.
     pub fn parse(line: &str) -> Option<TableCall> {
         let mut words = line.split(' ');
-        let name = words.next()?;
-        let call = TableCall::named(name, &mut words)?;
-        match words.next() {
-            None => Some(call),
-            Some(_) => None,
-        }
+        let call = TableCall::named(words.next()?, &mut words)?;
+        ended(call, &mut words)
     }
 
     // The call of a name, with its numbers.
@@ -128,23 +136,10 @@ impl TableCall {
             "for" => TableCall::For,
             "for_mut" => TableCall::ForMut(number(words)?),
             "retain" => TableCall::Retain(number(words)?, number(words)?),
-            "extend" => TableCall::Extend(
-                number(words)?,
-                number(words)?,
-                number(words)?,
-                number(words)?,
-            ),
-            "from_iter" => TableCall::FromIter(
-                number(words)?,
-                number(words)?,
-                number(words)?,
-                number(words)?,
-            ),
+            "extend" => TableCall::Extend(pairs(words)?),
+            "from_iter" => TableCall::FromIter(pairs(words)?),
             "extend_ref" => TableCall::ExtendRef,
             "clone" => TableCall::Clone,
-            "exchange" => TableCall::Exchange,
-            "eq" => TableCall::Eq,
-            "debug" => TableCall::Debug,
             _ => return TableCall::of_both(name, words),
         };
         Some(call)
@@ -159,10 +154,10 @@ impl TableCall {
             "intersection" => BothCall::Intersection(number(words)?),
             "difference" => BothCall::Difference(number(words)?),
             "symmetric_difference" => BothCall::SymmetricDifference(number(words)?),
-            "bitand" => BothCall::BitAnd,
-            "bitor" => BothCall::BitOr,
-            "bitxor" => BothCall::BitXor,
-            "sub" => BothCall::Sub,
+            "bitand" => return Some(TableCall::Made(MadeCall::BitAnd)),
+            "bitor" => return Some(TableCall::Made(MadeCall::BitOr)),
+            "bitxor" => return Some(TableCall::Made(MadeCall::BitXor)),
+            "sub" => return Some(TableCall::Made(MadeCall::Sub)),
             _ => return TableCall::of_walk(name, words),
         };
         Some(TableCall::Both(call))
@@ -173,11 +168,11 @@ impl TableCall {
             "iter" => TableCall::Walk(number(words)?, WalkCall::Iter),
             "keys" => TableCall::Walk(number(words)?, WalkCall::Keys),
             "values" => TableCall::Walk(number(words)?, WalkCall::Values),
-            "into_iter" => TableCall::Walk(number(words)?, WalkCall::IntoIter),
-            "into_keys" => TableCall::Walk(number(words)?, WalkCall::IntoKeys),
-            "into_values" => TableCall::Walk(number(words)?, WalkCall::IntoValues),
-            "iter_mut" => TableCall::Walk(number(words)?, WalkCall::IterMut(number(words)?)),
-            "values_mut" => TableCall::Walk(number(words)?, WalkCall::ValuesMut(number(words)?)),
+            "into_iter" => TableCall::WalkTaken(number(words)?, WalkCall::Iter),
+            "into_keys" => TableCall::WalkTaken(number(words)?, WalkCall::Keys),
+            "into_values" => TableCall::WalkTaken(number(words)?, WalkCall::Values),
+            "iter_mut" => TableCall::WalkMut(number(words)?, MutCall::Items(number(words)?)),
+            "values_mut" => TableCall::WalkMut(number(words)?, MutCall::Values(number(words)?)),
             _ => return TableCall::of_key(name, words),
         };
         Some(call)
@@ -200,39 +195,56 @@ impl TableCall {
             "contains" => KeyCall::Contains,
             "replace" => KeyCall::Replace,
             "take" => KeyCall::Take,
-            _ => return Some(TableCall::Entry(key, EntryCall::named(name, words)?)),
+            _ => return TableCall::of_entry(key, name, words),
         };
         Some(TableCall::Key(key, call))
     }
-}
 
-impl EntryCall {
-    fn named(name: &str, words: &mut Split<'_, char>) -> Option<EntryCall> {
+    fn of_entry(key: i64, name: &str, words: &mut Split<'_, char>) -> Option<TableCall> {
         let call = match name {
-            "entry" => EntryCall::Look,
+            "entry" => return Some(TableCall::Look(key)),
+            "occupied_remove_entry" => return Some(TableCall::TakeEntry(key)),
             "entry_key" => EntryCall::Key,
             "or_insert" => EntryCall::OrInsert(number(words)?, number(words)?),
             "or_insert_with" => EntryCall::OrInsertWith(number(words)?, number(words)?),
             "or_insert_with_key" => EntryCall::OrInsertWithKey(number(words)?),
             "or_default" => EntryCall::OrDefault(number(words)?),
             "and_modify" => EntryCall::AndModify(number(words)?, number(words)?),
-            _ => return EntryCall::of_side(name, words),
+            _ => return Some(TableCall::Side(key, SideCall::named(name, words)?)),
         };
-        Some(call)
+        Some(TableCall::Entry(key, call))
     }
+}
 
-    // A call on an entry that is there, or on one that isn't.
-    fn of_side(name: &str, words: &mut Split<'_, char>) -> Option<EntryCall> {
+impl SideCall {
+    fn named(name: &str, words: &mut Split<'_, char>) -> Option<SideCall> {
         let call = match name {
-            "occupied_get_mut" => EntryCall::GetMut(number(words)?),
-            "occupied_insert" => EntryCall::Insert(number(words)?),
-            "occupied_into_mut" => EntryCall::IntoMut(number(words)?),
-            "occupied_remove" => EntryCall::Remove,
-            "occupied_remove_entry" => EntryCall::RemoveEntry,
-            "vacant_insert" => EntryCall::VacantInsert(number(words)?, number(words)?),
-            "vacant_into_key" => EntryCall::IntoKey,
+            "occupied_get_mut" => SideCall::GetMut(number(words)?),
+            "occupied_insert" => SideCall::Insert(number(words)?),
+            "occupied_into_mut" => SideCall::IntoMut(number(words)?),
+            "occupied_remove" => SideCall::Remove,
+            "vacant_insert" => SideCall::VacantInsert(number(words)?, number(words)?),
+            "vacant_into_key" => SideCall::IntoKey,
             _ => return None,
         };
         Some(call)
     }
+
+    /// What the entry is where the call can't be made.
+    pub fn other_side(self) -> &'static str {
+        match self {
+            SideCall::VacantInsert(..) | SideCall::IntoKey => "occupied",
+            _ => "vacant",
+        }
+    }
+}
+
+// The first key, the step to the next one, the first item, and how many there are.
+fn pairs(words: &mut Split<'_, char>) -> Option<Pairs> {
+    Some(Pairs {
+        key: number(words)?,
+        step: number(words)?,
+        item: number(words)?,
+        left: number(words)?,
+    })
 }

@@ -1,7 +1,8 @@
-//! Walks over maps and sets.
+//! Iterations that write what they come to, as the last words say.
 
-/// Takes so many items from an iterator, asks it how many are left, and takes these by a `for`. Each is written as
-/// the last words say.
+use std::mem;
+
+/// Takes so many items from an iterator, asks it how many are left, and takes these by a `for`.
 macro_rules! walk {
     ($out:ident, $count:ident, $items:expr, $item:pat => $($text:tt)+) => {{
         let mut items = $items;
@@ -37,5 +38,43 @@ macro_rules! walk_all {
     }};
 }
 
+/// Takes items from the ends that the steps name, an `f` for the front, and then asks how many are left.
+macro_rules! take_steps {
+    ($out:ident, $steps:ident, $items:expr, $item:pat => $write:expr) => {{
+        let mut items = $items;
+        for step in $steps.bytes() {
+            let given = if step == b'f' {
+                items.next()
+            } else {
+                items.next_back()
+            };
+            match given {
+                Some($item) => $write,
+                None => write!($out, "none ")?,
+            }
+        }
+        writeln!($out, "left {}", items.len())
+    }};
+}
+
+/// Writes how many items there are, and each, by a `for`.
+macro_rules! write_all {
+    ($out:ident, $len:expr, $items:expr, $item:pat => $write:expr) => {{
+        write!($out, "{}:", $len)?;
+        for $item in $items {
+            $write;
+        }
+        writeln!($out)
+    }};
+}
+
+/// Puts a number in the place of an item, which it returns. The next number is one more.
+pub fn renewed(item: &mut i64, new: &mut i64) -> i64 {
+    let next = new.wrapping_add(1);
+    mem::replace(item, mem::replace(new, next))
+}
+
+pub(crate) use take_steps;
 pub(crate) use walk;
 pub(crate) use walk_all;
+pub(crate) use write_all;

@@ -69,9 +69,11 @@ impl Generator {
         self.len += 1;
         let key = self.new_key(target);
         if !self.is_map() {
-            let call = self
-                .random
-                .one_of(&[KeyCall::Add, KeyCall::Add, KeyCall::Replace]);
+            let call = self.random.one_of(&[
+                KeyCall::Insert(None),
+                KeyCall::Insert(None),
+                KeyCall::Replace,
+            ]);
             return TableCall::Key(key, call);
         }
         let (item, new) = (self.value(), self.value());
@@ -82,7 +84,7 @@ impl Generator {
             3 => EntryCall::OrDefault(new),
             4 => EntryCall::AndModify(item, new),
             5 => EntryCall::VacantInsert(item, new),
-            _ => return TableCall::Key(key, KeyCall::Insert(item)),
+            _ => return TableCall::Key(key, KeyCall::Insert(Some(item))),
         };
         TableCall::Entry(key, call)
     }

@@ -2,8 +2,9 @@
 
 use std::fmt::Display;
 use std::io::{self, Write};
+use std::mem;
 use std::panic::{self, AssertUnwindSafe};
-use wasmi_collections::arena::ArenaError;
+use wasmi_collections::arena::{ArenaError, ArenaKey};
 
 /// Writes the value, or `none`.
 pub fn option(out: &mut impl Write, found: Option<impl Display>) -> io::Result<()> {
@@ -31,12 +32,59 @@ pub fn bad(out: &mut impl Write) -> io::Result<()> {
     writeln!(out, "bad line")
 }
 
-/// What an iterator gives for a step: from the front for an `f`, else from the back.
-pub fn step<I: DoubleEndedIterator>(items: &mut I, step: char) -> Option<I::Item> {
-    match step {
-        'f' => items.next(),
-        _ => items.next_back(),
+/// Takes items from an iterator, an `f` from the front and a `b` from the back, and then writes how many are left.
+pub fn take_steps<I: DoubleEndedIterator + ExactSizeIterator>(
+    mut items: I,
+    steps: &str,
+    mut text: impl FnMut(I::Item) -> String,
+    out: &mut impl Write,
+) -> io::Result<()> {
+    for step in steps.chars() {
+        let given = match step {
+            'f' => items.next(),
+            _ => items.next_back(),
+        };
+        match given {
+            Some(item) => write!(out, "{} ", text(item))?,
+            None => write!(out, "none ")?,
+        }
     }
+    writeln!(out, "left {}", items.len())
+}
+
+/// Writes how many items there are, and each.
+pub fn write_all<I: IntoIterator>(
+    len: usize,
+    items: I,
+    mut text: impl FnMut(I::Item) -> String,
+    out: &mut impl Write,
+) -> io::Result<()> {
+    write!(out, "{len}:")?;
+    for item in items {
+        write!(out, " {}", text(item))?;
+    }
+    writeln!(out)
+}
+
+/// The text of an item of an arena.
+pub fn keyed<Key: ArenaKey>((key, item): (Key, &i64)) -> String {
+    format!("{}={item}", key.into_usize())
+}
+
+/// The text of an item as it was. The items become the numbers from `first` on.
+pub fn renewed(first: i64) -> impl FnMut(&mut i64) -> String {
+    let mut new = first;
+    move |item| {
+        let old = mem::replace(item, new);
+        new = new.wrapping_add(1);
+        old.to_string()
+    }
+}
+
+/// The same of an item of an arena.
+pub fn keyed_renewed<Key: ArenaKey>(first: i64) -> impl FnMut((Key, &mut i64)) -> String {
+    let mut renewed = renewed(first);
+    move |(key, item)| format!("{}={}", key.into_usize(), renewed(item))
 }
 
 /// What a read or a write by index does. By docs/DIFFERENCES.md, '`StableArena` by index', '`Arena` by index' and

@@ -1,7 +1,10 @@
 //! Calls on both arenas of the Rust crate, and those that they have in common.
 
 use crate::call::{Call, ItemCall};
-use crate::twin::answers::{bad, counted, result, step, unless_it_panics};
+use crate::line::Line;
+use crate::twin::answers::{
+    bad, counted, keyed, keyed_renewed, result, take_steps, unless_it_panics, write_all,
+};
 use crate::twin::Container;
 use std::fmt::{self, Debug};
 use std::io::{self, Write};
@@ -207,16 +210,18 @@ impl<A: AnyArena> Container for ArenaTwin<A> {
             }
             Call::Eq => writeln!(out, "{}", self.arena == self.other),
             Call::Debug => writeln!(out, "{:?}", AsMap(&self.arena)),
-            Call::Iter(steps) => iter(&self.arena, &steps, out),
-            Call::For => all(&self.arena, out),
-            Call::IterMut(steps, first) => iter_mut(&mut self.arena, &steps, first, out),
+            Call::Iter(steps) => take_steps(self.arena.iter(), &steps, keyed, out),
+            Call::For => write_all(self.arena.len(), self.arena.by_ref(), keyed, out),
+            Call::IterMut(steps, first) => {
+                take_steps(self.arena.iter_mut(), &steps, keyed_renewed(first), out)
+            }
             Call::ForMut(first) => {
-                write!(out, "{}:", self.arena.len())?;
-                all_mut(self.arena.by_mut(), first, out)
+                let len = self.arena.len();
+                write_all(len, self.arena.by_mut(), keyed_renewed(first), out)
             }
             Call::RevMut(first) => {
-                write!(out, "{}:", self.arena.len())?;
-                all_mut(self.arena.iter_mut().rev(), first, out)
+                let len = self.arena.len();
+                write_all(len, self.arena.iter_mut().rev(), keyed_renewed(first), out)
             }
             Call::NextKey => result(out, self.next_key().map(A::Key::into_usize)),
             call => self.arena.answer(&mut self.other, call, out),
@@ -241,58 +246,4 @@ impl<A: AnyArena> Debug for AsMap<'_, A> {
     fn fmt(&self, f: &mut fmt::Formatter<'_>) -> fmt::Result {
         f.debug_map().entries(self.0.iter()).finish()
     }
-}
-
-fn iter<A: AnyArena>(arena: &A, steps: &str, out: &mut impl Write) -> io::Result<()> {
-    let mut entries = arena.iter();
-    for letter in steps.chars() {
-        match step(&mut entries, letter) {
-            Some((key, item)) => write!(out, "{}={item} ", key.into_usize())?,
-            None => write!(out, "none ")?,
-        }
-    }
-    writeln!(out, "left {}", entries.len())
-}
-
-fn all<A: AnyArena>(arena: &A, out: &mut impl Write) -> io::Result<()> {
-    write!(out, "{}:", arena.len())?;
-    for (key, item) in arena.by_ref() {
-        write!(out, " {}={item}", key.into_usize())?;
-    }
-    writeln!(out)
-}
-
-fn iter_mut<A: AnyArena>(
-    arena: &mut A,
-    steps: &str,
-    first: i64,
-    out: &mut impl Write,
-) -> io::Result<()> {
-    let mut new = first;
-    let mut entries = arena.iter_mut();
-    for letter in steps.chars() {
-        match step(&mut entries, letter) {
-            Some((key, item)) => {
-                write!(out, "{}={item} ", key.into_usize())?;
-                *item = new;
-                new = new.wrapping_add(1);
-            }
-            None => write!(out, "none ")?,
-        }
-    }
-    writeln!(out, "left {}", entries.len())
-}
-
-fn all_mut<'a, Key: ArenaKey>(
-    entries: impl Iterator<Item = (Key, &'a mut i64)>,
-    first: i64,
-    out: &mut impl Write,
-) -> io::Result<()> {
-    let mut new = first;
-    for (key, item) in entries {
-        write!(out, " {}={item}", key.into_usize())?;
-        *item = new;
-        new = new.wrapping_add(1);
-    }
-    writeln!(out)
 }

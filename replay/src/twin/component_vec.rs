@@ -1,6 +1,7 @@
 //! Calls on the Rust crate's `ComponentVec`.
 
 use crate::call::{Call, ItemCall};
+use crate::line::Line;
 use crate::twin::answers::{bad, option, result, unless_it_panics};
 use crate::twin::Container;
 use std::io::{self, Write};

@@ -1,7 +1,10 @@
 //! Calls on the Rust crate's `DedupArena`.
 
 use crate::call::{Call, ItemCall};
-use crate::twin::answers::{bad, counted, option, result, step, unless_it_panics};
+use crate::line::Line;
+use crate::twin::answers::{
+    bad, counted, keyed, keyed_renewed, option, result, take_steps, unless_it_panics, write_all,
+};
 use crate::twin::Container;
 use std::fmt::{self, Debug};
 use std::io::{self, Write};
@@ -112,10 +115,15 @@ impl<Key: ArenaKey + Debug> Container for DedupTwin<Key> {
             }
             Call::Eq => writeln!(out, "{}", self.one.arena == self.other.arena),
             Call::Debug => writeln!(out, "{:?}", AsMap(&self.one.arena)),
-            Call::Iter(steps) => iter(&self.one.arena, &steps, out),
-            Call::For => all(&self.one.arena, out),
-            Call::IterMut(steps, first) => iter_mut(&mut self.one.arena, &steps, first, out),
-            Call::ForMut(first) => all_mut(&mut self.one.arena, first, out),
+            Call::Iter(steps) => take_steps(self.one.arena.iter(), &steps, keyed, out),
+            Call::For => write_all(self.one.arena.len(), &self.one.arena, keyed, out),
+            Call::IterMut(steps, first) => {
+                take_steps(self.one.arena.iter_mut(), &steps, keyed_renewed(first), out)
+            }
+            Call::ForMut(first) => {
+                let len = self.one.arena.len();
+                write_all(len, &mut self.one.arena, keyed_renewed(first), out)
+            }
             _ => bad(out),
         }
     }
@@ -129,63 +137,4 @@ impl<Key: ArenaKey + Debug> Debug for AsMap<'_, Key> {
     fn fmt(&self, f: &mut fmt::Formatter<'_>) -> fmt::Result {
         f.debug_map().entries(self.0.iter()).finish()
     }
-}
-
-fn iter<Key: ArenaKey>(
-    arena: &DedupArena<Key, i64>,
-    steps: &str,
-    out: &mut impl Write,
-) -> io::Result<()> {
-    let mut entries = arena.iter();
-    for letter in steps.chars() {
-        match step(&mut entries, letter) {
-            Some((key, item)) => write!(out, "{}={item} ", key.into_usize())?,
-            None => write!(out, "none ")?,
-        }
-    }
-    writeln!(out, "left {}", entries.len())
-}
-
-fn all<Key: ArenaKey>(arena: &DedupArena<Key, i64>, out: &mut impl Write) -> io::Result<()> {
-    write!(out, "{}:", arena.len())?;
-    for (key, item) in arena {
-        write!(out, " {}={item}", key.into_usize())?;
-    }
-    writeln!(out)
-}
-
-fn iter_mut<Key: ArenaKey>(
-    arena: &mut DedupArena<Key, i64>,
-    steps: &str,
-    first: i64,
-    out: &mut impl Write,
-) -> io::Result<()> {
-    let mut new = first;
-    let mut entries = arena.iter_mut();
-    for letter in steps.chars() {
-        match step(&mut entries, letter) {
-            Some((key, item)) => {
-                write!(out, "{}={item} ", key.into_usize())?;
-                *item = new;
-                new = new.wrapping_add(1);
-            }
-            None => write!(out, "none ")?,
-        }
-    }
-    writeln!(out, "left {}", entries.len())
-}
-
-fn all_mut<Key: ArenaKey>(
-    arena: &mut DedupArena<Key, i64>,
-    first: i64,
-    out: &mut impl Write,
-) -> io::Result<()> {
-    write!(out, "{}:", arena.len())?;
-    let mut new = first;
-    for (key, item) in arena {
-        write!(out, " {}={item}", key.into_usize())?;
-        *item = new;
-        new = new.wrapping_add(1);
-    }
-    writeln!(out)
 }

@@ -1,4 +1,4 @@
-//! A type of few keys, as `crates/wasmi_replay/src/few_keys.rt` has it.
+//! A type of few keys, as `crates/wasmi_vectors/src/few_keys.rt` has it.
 
 use wasmi_collections::arena::ArenaKey;
 

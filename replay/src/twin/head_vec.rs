@@ -1,6 +1,7 @@
 //! Calls on the Rust crate's `HeadVec`.
 
 use crate::call::Call;
+use crate::line::Line;
 use crate::twin::answers::{bad, option};
 use crate::twin::Container;
 use std::io::{self, Write};

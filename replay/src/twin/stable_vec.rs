@@ -1,8 +1,9 @@
 //! Calls on the Rust crate's `StableVec`.
 
 use crate::call::{Call, ItemCall};
-use crate::twin::answers::{bad, counted, option, result};
-use crate::twin::{answers, buckets, Container};
+use crate::line::Line;
+use crate::twin::answers::{bad, counted, option, renewed, result, take_steps, write_all};
+use crate::twin::{buckets, Container};
 use std::hash::{DefaultHasher, Hash, Hasher};
 use std::io::{self, Write};
 use std::mem;
@@ -74,12 +75,12 @@ impl Container for VecTwin {
             Call::Slices(steps) => {
                 buckets::write_slices(vec.len(), &steps, |index| vec.get(index), out)
             }
-            Call::Iter(steps) => iter(vec, &steps, out),
-            Call::For => all(vec, out),
-            Call::IterMut(steps, first) => iter_mut(vec, &steps, first, out),
+            Call::Iter(steps) => take_steps(vec.iter(), &steps, i64::to_string, out),
+            Call::For => write_all(vec.len(), &*vec, i64::to_string, out),
+            Call::IterMut(steps, first) => take_steps(vec.iter_mut(), &steps, renewed(first), out),
             Call::SlicesMut(steps, first) => slices_mut(vec, &steps, first, out),
-            Call::ForMut(first) => all_mut(vec, first, out),
-            Call::RevMut(first) => all_mut_back(vec, first, out),
+            Call::ForMut(first) => write_all(vec.len(), vec, renewed(first), out),
+            Call::RevMut(first) => write_all(vec.len(), vec.iter_mut().rev(), renewed(first), out),
             Call::Room => writeln!(out, "{}", buckets::room(vec.len())),
             Call::OpenBuckets => writeln!(out, "{}", buckets::open_buckets(vec.len())),
             Call::Slots => writeln!(out, "{}", buckets::slots(vec.len())),
@@ -98,46 +99,6 @@ fn hash_of(vec: &StableVec<i64>) -> u64 {
     let mut hasher = DefaultHasher::new();
     vec.hash(&mut hasher);
     hasher.finish()
-}
-
-fn iter(vec: &StableVec<i64>, steps: &str, out: &mut impl Write) -> io::Result<()> {
-    let mut items = vec.iter();
-    for step in steps.chars() {
-        match answers::step(&mut items, step) {
-            Some(item) => write!(out, "{item} ")?,
-            None => write!(out, "none ")?,
-        }
-    }
-    writeln!(out, "left {}", items.len())
-}
-
-fn all(vec: &StableVec<i64>, out: &mut impl Write) -> io::Result<()> {
-    write!(out, "{}:", vec.len())?;
-    for item in vec {
-        write!(out, " {item}")?;
-    }
-    writeln!(out)
-}
-
-fn iter_mut(
-    vec: &mut StableVec<i64>,
-    steps: &str,
-    first: i64,
-    out: &mut impl Write,
-) -> io::Result<()> {
-    let mut new = first;
-    let mut items = vec.iter_mut();
-    for step in steps.chars() {
-        match answers::step(&mut items, step) {
-            Some(item) => {
-                write!(out, "{item} ")?;
-                *item = new;
-                new = new.wrapping_add(1);
-            }
-            None => write!(out, "none ")?,
-        }
-    }
-    writeln!(out, "left {}", items.len())
 }
 
 /// The port alone has this call.
@@ -159,26 +120,4 @@ fn slices_mut(
         }
     }
     Ok(())
-}
-
-fn all_mut(vec: &mut StableVec<i64>, first: i64, out: &mut impl Write) -> io::Result<()> {
-    write!(out, "{}:", vec.len())?;
-    let mut new = first;
-    for item in vec {
-        write!(out, " {item}")?;
-        *item = new;
-        new = new.wrapping_add(1);
-    }
-    writeln!(out)
-}
-
-fn all_mut_back(vec: &mut StableVec<i64>, first: i64, out: &mut impl Write) -> io::Result<()> {
-    write!(out, "{}:", vec.len())?;
-    let mut new = first;
-    for item in vec.iter_mut().rev() {
-        write!(out, " {item}")?;
-        *item = new;
-        new = new.wrapping_add(1);
-    }
-    writeln!(out)
 }

@@ -1,6 +1,7 @@
 //! Calls on the Rust crate's `StringInterner`, which finds a text by an ordered map as it is built here.
 
 use crate::interner_call::InternerCall;
+use crate::line::Line;
 use crate::twin::answers::{bad, option};
 use crate::twin::Container;
 use std::hash::{DefaultHasher, Hash, Hasher};

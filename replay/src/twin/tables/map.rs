@@ -1,6 +1,7 @@
 //! Calls on maps.
 
 use super::{braced, stepped, walk};
+use crate::line::Line;
 use crate::table_call::{EntryCall, KeyCall, TableCall, WalkCall};
 use crate::twin::answers::{bad, counted, option, unless_it_panics};
 use crate::twin::Container;
@@ -28,7 +29,7 @@ macro_rules! map_twin {
                 let map = &mut self.map;
                 match call {
                     // By docs/DIFFERENCES.md, `Map::insert`: no error here.
-                    KeyCall::Insert(item) => option(out, map.insert(key, item)),
+                    KeyCall::Insert(Some(item)) => option(out, map.insert(key, item)),
                     KeyCall::Get => option(out, map.get(&key)),
                     KeyCall::GetMut(new) => {
                         let item = map.get_mut(&key);
@@ -43,7 +44,10 @@ macro_rules! map_twin {
                     },
                     KeyCall::Remove => option(out, map.remove(&key)),
                     KeyCall::RemoveEntry => option(out, map.remove_entry(&key).map(owned_text)),
-                    KeyCall::Add | KeyCall::Contains | KeyCall::Replace | KeyCall::Take => bad(out),
+                    KeyCall::Insert(None)
+                    | KeyCall::Contains
+                    | KeyCall::Replace
+                    | KeyCall::Take => bad(out),
                 }
             }
 

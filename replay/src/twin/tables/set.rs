@@ -1,6 +1,7 @@
 //! Calls on sets.
 
 use super::{braced, stepped, walk, walk_all};
+use crate::line::Line;
 use crate::table_call::{BothCall, KeyCall, TableCall, WalkCall};
 use crate::twin::answers::{bad, option};
 use crate::twin::Container;
@@ -28,7 +29,7 @@ macro_rules! set_twin {
                 let set = &mut self.set;
                 match call {
                     // By docs/DIFFERENCES.md, `Set::insert` and `Set::replace`: no error here.
-                    KeyCall::Add => writeln!(out, "{}", set.insert(key)),
+                    KeyCall::Insert(None) => writeln!(out, "{}", set.insert(key)),
                     KeyCall::Replace => option(out, set.replace(key)),
                     KeyCall::Get => option(out, set.get(&key)),
                     KeyCall::Contains => writeln!(out, "{}", set.contains(&key)),

@@ -1,6 +1,6 @@
 use Rattle.std.proofs.Common.{◌≡◌, false}
 use Rattle.wasmi_dense.specs.ArenaLoan.{IsKeyed}
-use Rattle.wasmi_replay.proofs.dedup_arena.iter_mut.Given as goal
+use Rattle.wasmi_replay.proofs.arena.ArenaI64AnyArena.write_steps.Given as goal
 
 -- up to the end each position that is left has a key
 abbrev pub invariant-loop-step : goal.invariant-loop-step

@@ -1,0 +1,205 @@
+//! Calls on a `Set` of either backing.
+
+use crate::answers::{bad, done, keep, option, refusal, result, value};
+use crate::replay::Container;
+use crate::table::answer_table;
+use crate::table_call::{BothCall, KeyCall, MadeCall, TableCall, WalkCall};
+use crate::walk::{walk, walk_all, write_all};
+use std::alloc::Global;
+use std::io::Write;
+use std::{io, mem};
+use wasmi_arena::ArenaError;
+use wasmi_hashed::set as hashed;
+use wasmi_ordered::set as ordered;
+
+/// A set of numbers. The types of its iterators are those of its backing, so a call on them is a method, and the macro
+/// that is its body stands below.
+trait AnySet: Sized {
+    /// Makes a call on an element.
+    fn answer_key<W: Write>(&mut self, key: i64, call: KeyCall, out: &mut W) -> io::Result<()>;
+
+    /// Makes a call on both sets that changes neither.
+    fn compare<W: Write>(&self, other: &Self, call: BothCall, out: &mut W) -> io::Result<()>;
+
+    /// The set of both, by an operator.
+    fn made(&self, other: &Self, call: MadeCall) -> Result<Self, ArenaError>;
+
+    fn walk<W: Write>(&self, steps: u16, out: &mut W) -> io::Result<()>;
+
+    /// The set is empty afterwards.
+    fn walk_taken<W: Write>(&mut self, alloc: Global, steps: u16, out: &mut W) -> io::Result<()>;
+
+    fn all<W: Write>(&self, out: &mut W) -> io::Result<()>;
+
+    /// Keeps the elements that have a bit of the mask. Counts the calls.
+    fn thin(&mut self, mask: i64) -> u64;
+}
+
+macro_rules! answer_key {
+    ($set:ident, $key:ident, $call:ident, $out:ident) => {
+        match $call {
+            KeyCall::Add => result($out, $set.insert($key)),
+            KeyCall::Get => option($out, $set.get(&$key)),
+            KeyCall::Contains => value($out, $set.contains(&$key)),
+            KeyCall::Replace => match $set.replace($key) {
+                Ok(old) => option($out, old),
+                Err(error) => refusal($out, error),
+            },
+            KeyCall::Remove => value($out, $set.remove(&$key)),
+            KeyCall::Take => option($out, $set.take(&$key)),
+            _ => bad($out),
+        }
+    };
+}
+
+macro_rules! compare {
+    ($set:ident, $other:ident, $call:ident, $out:ident) => {
+        match $call {
+            BothCall::IsSubset => value($out, $set.is_subset($other)),
+            BothCall::IsSuperset => value($out, $set.is_superset($other)),
+            BothCall::IsDisjoint => value($out, $set.is_disjoint($other)),
+            BothCall::Union(steps) => walk_all!($out, steps, $set.union($other)),
+            BothCall::Intersection(steps) => walk_all!($out, steps, $set.intersection($other)),
+            BothCall::Difference(steps) => walk_all!($out, steps, $set.difference($other)),
+            BothCall::SymmetricDifference(steps) => {
+                walk_all!($out, steps, $set.symmetric_difference($other))
+            }
+        }
+    };
+}
+
+macro_rules! made {
+    ($set:ident, $other:ident, $call:ident) => {
+        match $call {
+            MadeCall::BitAnd => $set.bitand($other),
+            MadeCall::BitOr => $set.bitor($other),
+            MadeCall::BitXor => $set.bitxor($other),
+            MadeCall::Sub => $set.sub($other),
+        }
+    };
+}
+
+macro_rules! thin {
+    ($set:ident, $mask:ident) => {{
+        let mut calls: u64 = 0;
+        $set.retain(|element| {
+            calls = calls.wrapping_add(1);
+            *element & $mask != 0
+        });
+        calls
+    }};
+}
+
+// Makes a call that maps don't have.
+fn answer_own<S: AnySet + Drop, W: Write>(
+    set: &mut S,
+    other: &mut S,
+    alloc: Global,
+    call: TableCall,
+    out: &mut W,
+) -> io::Result<()> {
+    match call {
+        TableCall::Key(key, call) => set.answer_key(key, call, out),
+        TableCall::Both(call) => set.compare(other, call, out),
+        TableCall::Made(call) => keep(out, set.made(other, call), other),
+        TableCall::Walk(steps, WalkCall::Iter) => set.walk(steps, out),
+        TableCall::WalkTaken(steps, WalkCall::Iter) => set.walk_taken(alloc, steps, out),
+        TableCall::For => set.all(out),
+        TableCall::Retain(mask, _) => value(out, set.thin(mask)),
+        _ => bad(out),
+    }
+}
+
+impl Container for ordered::Set<i64> {
+    fn empty(alloc: Global) -> Self {
+        ordered::Set::new(alloc)
+    }
+
+    fn answer<W: Write>(
+        &mut self,
+        other: &mut Self,
+        alloc: Global,
+        line: &str,
+        out: &mut W,
+    ) -> io::Result<()> {
+        answer_table!(self, other, alloc, line, out, pairs => pairs.keys())
+    }
+}
+
+impl AnySet for ordered::Set<i64> {
+    fn answer_key<W: Write>(&mut self, key: i64, call: KeyCall, out: &mut W) -> io::Result<()> {
+        answer_key!(self, key, call, out)
+    }
+
+    fn compare<W: Write>(&self, other: &Self, call: BothCall, out: &mut W) -> io::Result<()> {
+        compare!(self, other, call, out)
+    }
+
+    fn made(&self, other: &Self, call: MadeCall) -> Result<Self, ArenaError> {
+        made!(self, other, call)
+    }
+
+    fn walk<W: Write>(&self, steps: u16, out: &mut W) -> io::Result<()> {
+        walk!(out, steps, self.iter(), element => "{element} ")
+    }
+
+    fn walk_taken<W: Write>(&mut self, alloc: Global, steps: u16, out: &mut W) -> io::Result<()> {
+        let set = mem::replace(self, Self::new(alloc));
+        walk!(out, steps, set.into_iter(), element => "{element} ")
+    }
+
+    fn all<W: Write>(&self, out: &mut W) -> io::Result<()> {
+        write_all!(out, self.len(), self, element => write!(out, " {element}")?)
+    }
+
+    fn thin(&mut self, mask: i64) -> u64 {
+        thin!(self, mask)
+    }
+}
+
+impl Container for hashed::Set<i64> {
+    fn empty(alloc: Global) -> Self {
+        hashed::Set::new(alloc)
+    }
+
+    fn answer<W: Write>(
+        &mut self,
+        other: &mut Self,
+        alloc: Global,
+        line: &str,
+        out: &mut W,
+    ) -> io::Result<()> {
+        answer_table!(self, other, alloc, line, out, pairs => pairs.keys())
+    }
+}
+
+impl AnySet for hashed::Set<i64> {
+    fn answer_key<W: Write>(&mut self, key: i64, call: KeyCall, out: &mut W) -> io::Result<()> {
+        answer_key!(self, key, call, out)
+    }
+
+    fn compare<W: Write>(&self, other: &Self, call: BothCall, out: &mut W) -> io::Result<()> {
+        compare!(self, other, call, out)
+    }
+
+    fn made(&self, other: &Self, call: MadeCall) -> Result<Self, ArenaError> {
+        made!(self, other, call)
+    }
+
+    fn walk<W: Write>(&self, steps: u16, out: &mut W) -> io::Result<()> {
+        walk!(out, steps, self.iter(), element => "{element} ")
+    }
+
+    fn walk_taken<W: Write>(&mut self, alloc: Global, steps: u16, out: &mut W) -> io::Result<()> {
+        let set = mem::replace(self, Self::new(alloc));
+        walk!(out, steps, set.into_iter(), element => "{element} ")
+    }
+
+    fn all<W: Write>(&self, out: &mut W) -> io::Result<()> {
+        write_all!(out, self.len(), self, element => write!(out, " {element}")?)
+    }
+
+    fn thin(&mut self, mask: i64) -> u64 {
+        thin!(self, mask)
+    }
+}
