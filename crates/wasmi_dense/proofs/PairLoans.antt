@@ -11,25 +11,22 @@ use seplogic.Ra.Ura.{Ura}
 use base.Fml.{GName, Lft, fres, fsep}
 use lib.Dec.{T}
 use mir.Syntax.{named}
-use base.Logic.{ent, sep, emp, wand}
-use mir.Val.{Val, of_list, has_ty, WT}
+use base.Logic.{ent, sep, wand}
+use mir.Val.{Val, has_ty, WT}
 use types.Follow.{followed₂}
-use types.Kit.{‵, ◌$◌, ◌∵◌, !, qed, done, by, move, use2, each, assume, fjoin, feq_i, fpack}
+use types.Kit.{‵, ◌$◌, ◌∵◌, !, qed, by, move, use2, each, assume}
 use types.Logic.{Logic, sem}
-use types.Match.{live}
 use denote.Enum.Declared.{shape}
-use denote.Enum.Enum.{form_of, in_a_row, Enum-Lawful}
-use denote.Enum.Row.{tagged_with}
+use denote.Enum.Enum.{Enum-Lawful}
 use denote.Follow.{follows, followed, both_by, follows_both, both_if_by, follows_both_if}
 use denote.Memory.{mem}
-use denote.RattleType.{RattleType, Valss, owns}
+use denote.RattleType.{RattleType}
 use denote.Laws.{Is, Lawful}
 use denote.Param.{layout}
 use denote.Ref.{MutBor, MutRef, mut_Lawful}
 use denote.Struct.Declared as Declared
 use denote.Struct.Struct.{Struct-Lawful}
 use denote.Struct.Tuple.{Tuple, tuple_type}
-use denote.Steps.{nothing}
 use Prim.Native.Nat.{ℕ}
 use Rattle.std.proofs.Common.{suc, ◌<◌, lit<, arith, slice_set}
 use Rattle.std.specs.Prelude.{◌≢◌, ◌≤◌, length, Result, Ok, Err, Some, IfOk, IfErr, IsErrOf, slice_get}

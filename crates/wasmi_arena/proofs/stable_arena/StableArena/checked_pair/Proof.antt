@@ -1,5 +1,5 @@
 -- `checked_pair` lends two items, or leaves the arena as it is. Assumes `Logic`.
-use Rattle.std.proofs.Common.{◌≡◌, ◌≢◌, ℕ, ◌<◌, ◌≤◌, ◌^◌, List, [], ◌∷◌, length, Result, Ok, Err, Some, refl, subst, inl, inr, lit<, MutBor}
+use Rattle.std.proofs.Common.{◌≡◌, ◌≢◌, ℕ, ◌<◌, ◌≤◌, ◌^◌, List, [], ◌∷◌, length, Ok, Err, Some, refl, subst, inl, inr, lit<, MutBor}
 use lib.Dec.{eqb→eq, leb→le, nleb→lt}
 use Rattle.std_alloc.proofs.VecSteps.Shapes.{after as rest_of}
 use Rattle.std.proofs.raw_atomic.Walks.{proved}
@@ -25,7 +25,6 @@ use types.Run.{enter, addr, stop, bin, lit, and_then, no_more, first, branches, 
 use denote.Builtin.{usize}
 use denote.Exit.{no, yes}
 use denote.Param.{layout, param, bounded}
-use denote.Param.Laws.{param_laws}
 use denote.Plain.{uint_vals, uint_Tells, uint_Makes}
 use denote.RattleType.{RattleType, Valss, owns}
 use denote.Ref.{MutRef, mut_vals, mut_Tells}

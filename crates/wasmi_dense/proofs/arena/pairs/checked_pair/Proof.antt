@@ -1,5 +1,5 @@
 -- `checked_pair` lends two items of a slice, or returns an error and changes nothing. Assumes `Logic`.
-use Rattle.std.proofs.Common.{◌≡◌, ◌≢◌, ◌<◌, List, [], ◌∷◌, length, lit<, slice_get, slice_set, Some, refl, ap, subst, w64, MutBor}
+use Rattle.std.proofs.Common.{◌≡◌, ◌≢◌, ◌<◌, List, [], ◌∷◌, length, lit<, slice_get, slice_set, Some, refl, subst, w64, MutBor}
 use Rattle.std.proofs.raw_atomic.Walks.{proved}
 use Rattle.std.specs.Prelude.{Ok, Err}
 use lib.Dec.{T, T_not, eqb, eqb→eq, eqb_refl, leb→le, nleb→lt}
@@ -8,7 +8,7 @@ use base.Logic.{emp, id⊢}
 use base.Fml.{ftrue, flft, fobs, fres}
 use mir.Syntax.{named, Args, a_type}
 use mir.MapTy.{inst_fn}
-use mir.Val.{Val, of_list, vptr, vstruct, vcons, vnil}
+use mir.Val.{Val, of_list}
 use contract.BorrowLft.{◌⊑◌}
 use contract.Fact.{fact_i}
 use contract.Monad.{fact}
@@ -26,13 +26,11 @@ use denote.Laws.{shows}
 use denote.Param.{param, layouts}
 use denote.FollowSlice.{heres_id}
 use denote.Plain.{uint_Makes, uint_vals, uint_Tells}
-use denote.Ref.{MutRef, mut_vals, mut_Tells}
+use denote.Ref.{MutRef}
 use denote.Signature.{plain}
 use denote.Slice.{MutSlice, mut_slice_vals, mut_slice_Tells}
-use denote.Steps.{nothing, owned, heard, peeks, only}
-use denote.Struct.Declared as Declared
-use denote.Struct.Struct.{Struct-Tells}
-use denote.Struct.Tuple.{Tuple, tuple_type}
+use denote.Steps.{nothing, owned, heard, peeks}
+use denote.Struct.Tuple.{Tuple}
 use denote.Triple.Call.{calls_at}
 use denote.Triple.Clauses.{lasts}
 use denote.Triple.Spec.{triple_of}
