@@ -58,21 +58,30 @@ module _ (old : List (List ℕ)) (text : List ℕ) (new : List (List ℕ)) where
   interning-new (Err e) told absent = tt
 
   pub interning-no_symbol : (r : Result ℕ ArenaError) → Interning old text r new → IsErrOf r NotEnoughKeys ↔ ((symbol_of old text ≡ None) × (2 ^ 32 ≤ length old))
-  interning-no_symbol (Ok s) told = (λ is. absurd (ok-err is), λ full. elim told [
-    | inl found ↦ absurd (none-some s (sym full.0 ∙ found.0))
-    | inr added ↦ absurd (let few = added.1 in omega (arith, few, full.1))
-  ])
-  interning-no_symbol (Err e) told = (λ is. (told.0.0, elim told.0.1 [
-    | inl keys ↦ keys.1
-    | inr memory ↦ absurd (other_error (sym memory.0 ∙ same_Err e NotEnoughKeys (Err e) refl is))
-  ]), λ full. elim told.0.1 [
-    | inl keys ↦ ap Err keys.0
-    | inr memory ↦ absurd (let few = memory.1 in omega (arith, few, full.1))
-  ])
+  interning-no_symbol (Ok s) told = (
+    λ is. absurd (ok-err is),
+    λ full. elim told [
+      | inl found ↦ absurd (none-some s (sym full.0 ∙ found.0))
+      | inr added ↦ absurd (let few = added.1 in omega (arith, few, full.1))
+    ],
+  )
+  interning-no_symbol (Err e) told = (
+    λ is. (
+      told.0.0,
+      elim told.0.1 [
+        | inl keys ↦ keys.1
+        | inr memory ↦ absurd (other_error (sym memory.0 ∙ same_Err e NotEnoughKeys (Err e) refl is))
+      ],
+    ),
+    λ full. elim told.0.1 [
+      | inl keys ↦ ap Err keys.0
+      | inr memory ↦ absurd (let few = memory.1 in omega (arith, few, full.1))
+    ],
+  )
 
   pub interning-errors : (r : Result ℕ ArenaError) → Interning old text r new → IfErr r (λ error. (error ≡ NotEnoughKeys) ⊎ (error ≡ OutOfSystemMemory))
   interning-errors (Ok s) told = tt
-  interning-errors (Err e) told = elim told.0.1 [ | inl keys ↦ inl keys.0 | inr memory ↦ inr memory.0 ]
+  interning-errors (Err e) told = elim told.0.1 [ inl keys ↦ inl keys.0 | inr memory ↦ inr memory.0 ]
 
   pub interning-err : (r : Result ℕ ArenaError) → Interning old text r new → OnErr r (new ≡ old)
   interning-err (Ok s) told = tt
