@@ -1,8 +1,9 @@
 -- Two values handed in to a deduplicating arena in one run have one key exactly where they are equal.
-use Rattle.std.proofs.Common.{◌≡◌, ◌≢◌, ◌↔◌, ℕ, zero, suc, ◌+◌, ◌<◌, ◌≤◌, Bool, true, false, cond, List, [], ◌∷◌, ◌++◌, length, Some, slice_get, inl, inr, refl, sym, ap, ◌∙◌, subst, is_some, true≢false, IsTrue, length-append, unwrap_or, arith}
+use Rattle.std.proofs.Common.{◌≡◌, ◌≢◌, ◌↔◌, ℕ, zero, suc, ◌+◌, ◌<◌, ◌≤◌, Bool, true, false, cond, List, [], ◌∷◌, ◌++◌, length, Option, Some, None, option_map, position, slice_get, inl, inr, refl, sym, ap, ◌∙◌, subst, is_some, true≢false, IsTrue, length-append, unwrap_or, arith}
 use Rattle.std.specs.Cmp.{IsEquivalence}
 use Rattle.std.specs.List.{position_from}
 use Rattle.std.proofs.lemmas.Iterator.Adapters.{position_from-zero}
+use Rattle.std.proofs.lemmas.List.Quantifiers.{position-Some}
 use Rattle.wasmi_arena.specs.Keys.{Keys, KeyLaw}
 use Rattle.wasmi_collections.specs.Dedup.{DedupState, AllocatesValue}
 use Rattle.wasmi_collections.specs.DedupSteps.{DedupStep, HasKey, NoneClears}
@@ -47,6 +48,10 @@ module _ {T : Type 0} (p : T → Bool) where
           let h = rest is in let at = h.place in let low = h.within in
           record { before = suc h.before; place = omega (arith, at); within = omega (arith, low); item = h.item; reads = h.reads; passes = h.passes }
 
+-- what has a place keeps it when more comes behind
+pub position-stays : {T : Type 0} (p : T → Bool) (xs ys : List T) (k : ℕ) → position p xs ≡ Some k → position p (xs ++ ys) ≡ Some k
+position-stays p xs ys k is = position_from-zero p (xs ++ ys) ∙ stays_found p 0 k xs ys (sym (position_from-zero p xs) ∙ is)
+
 module _ {K T : Type 0} (keys : Keys K) (law : KeyLaw keys) {eq : T → T → Bool} (laws : IsEquivalence eq) (clones : T → T → Type 0) where
   -- of the values handed in, the first that is equal to this one is under this key
   record IsKeyOf (state : DedupState T) (value : T) (key : K) : Type 0 where
@@ -86,6 +91,23 @@ module _ {K T : Type 0} (keys : Keys K) (law : KeyLaw keys) {eq : T → T → Bo
     is = rw adds.handed_are (stays_found (eq value) 0 has.place old.handed (other ∷ []) has.is);
     key_is = has.key_is;
   }
+
+  -- a value that an index finds under a key is at the key's number
+  pub found-known : (handed : List T) (value : T) (key : K) → length handed ≤ keys.count → option_map keys.key (position (eq value) handed) ≡ Some key → position (eq value) handed ≡ Some (keys.number key)
+  found-known handed value key few is = next (position (eq value) handed) refl is
+    where
+      next : (o : Option ℕ) → position (eq value) handed ≡ o → option_map keys.key o ≡ Some key → o ≡ Some (keys.number key)
+      next None at is = absurd (true≢false (sym (ap is_some is)))
+      next (Some p) at is =
+          let low = (position-Some (eq value) handed p value at).0 in
+          ap Some (sym (law.numbered p (omega (arith, low, few))) ∙ ap keys.number (some_is (keys.key p) key is))
+
+  -- a value that has its key is at the key's number
+  pub given-known : (old new : DedupState T) (value : T) (key : K) → length old.handed ≤ keys.count → AllocatesValue keys eq clones old value key new → position (eq value) new.handed ≡ Some (keys.number key)
+  given-known old new value key few allocates =
+      let has = given old new value key few allocates in let low = (hits (eq value) 0 has.place new.handed has.is) in
+      let at = low.place in let within = low.within in let all = has.few in
+      position_from-zero (eq value) new.handed ∙ (has.is ∙ ap Some (sym (ap keys.number has.key_is ∙ law.numbered has.place (omega (arith, at, within, all)))))
 
   keeps : (old new : DedupState T) (value : T) (key : K) (command : DedupCommand K T) (reply : DedupReply K T) → command ≢ Clear → DedupStep keys eq clones old command reply new → IsKeyOf old value key → IsKeyOf new value key
   keeps old new value key (Alloc other) (Key other_key) goes step has = more old new value key other other_key step has

@@ -1,10 +1,11 @@
 -- What an interner replies to two texts in a run.
 use Rattle.std.proofs.Common.{◌≡◌, ◌⊎◌, ℕ, zero, suc, ◌≤◌, ◌^◌, List, [], ◌∷◌, length, map, Option, Some, None, slice_get, refl, sym, ap, ◌∙◌, ◌↔◌, inl, inr}
-use Rattle.std.proofs.lemmas.Bool.{cases_lt}
+use Rattle.std.specs.Prelude.{◌++◌, ◌<◌, Result, Ok, Err, IfOk, IfErr, OnErr, IsErrOf}
+use Rattle.std.proofs.Common.{arith, is_ok, true≢false}
 use Rattle.std.proofs.lemmas.Option.{none-some, same_Some}
 use Rattle.wasmi_arena.specs.declared.error.ArenaError.{ArenaError}
 use Rattle.wasmi_arena.specs.declared.error.ArenaError.TheVariants.{OutOfSystemMemory, NotEnoughKeys}
-use Rattle.wasmi_collections.specs.Interner.{symbol_of, Interns, RefusesText}
+use Rattle.wasmi_collections.specs.Interner.{symbol_of, Interns, Interning}
 use Rattle.wasmi_collections.specs.InternerSteps.{InternStep, text_to_intern}
 use Rattle.wasmi_collections.specs.Runs.{IsRun}
 use Rattle.wasmi_collections.proofs.TextIndex.{symbol_of-Some, symbol_of-last, symbol_of-push}
@@ -12,26 +13,6 @@ use Rattle.wasmi_collections.specs.declared.run.interner.InternCommand.{InternCo
 use Rattle.wasmi_collections.specs.declared.run.interner.InternCommand.TheVariants.{Intern, Find, Len}
 use Rattle.wasmi_collections.specs.declared.run.interner.InternReply.{InternReply}
 use Rattle.wasmi_collections.specs.declared.run.interner.InternReply.TheVariants.{Sym, Found, Len as LenReply, Refused}
-
--- a refusal that comes only where the text isn't there, and for want of a symbol exactly where there is none
-pub RefusesText-from_clauses : (old : List (List ℕ)) (text : List ℕ) (error : ArenaError)
-    → ((s : ℕ) → symbol_of old text ≡ Some s → ⊥) → ((error ≡ NotEnoughKeys) ↔ ((symbol_of old text ≡ None) × (2 ^ 32 ≤ length old))) → (error ≡ NotEnoughKeys) ⊎ (error ≡ OutOfSystemMemory)
-    → RefusesText old text error
-RefusesText-from_clauses old text error not_there no_symbol errors =
-    let absent = none_there (symbol_of old text) not_there in (
-      absent,
-      elim errors [
-        | inl keys ↦ inl (keys, (no_symbol.0 keys).1)
-        | inr memory ↦ elim (cases_lt (length old) (2 ^ 32)) [
-          | inl few ↦ inr (memory, few)
-          | inr full ↦ let keys = no_symbol.1 (absent, full) in absurd (cc)
-        ]
-      ],
-    )
-  where
-    none_there : (o : Option ℕ) → ((s : ℕ) → o ≡ Some s → ⊥) → o ≡ None
-    none_there None h = refl
-    none_there (Some s) h = absurd (h s refl)
 
 -- an interned text has its symbol
 pub symbol_of-Interns : (old : List (List ℕ)) (text : List ℕ) (symbol : ℕ) (new : List (List ℕ)) → Interns old text symbol new → symbol_of new text ≡ Some symbol
@@ -46,6 +27,77 @@ kept_by_interning old text symbol new interns other s is = elim interns [
   | inl there ↦ rw there.1 is
   | inr added ↦ rw added.3 (symbol_of-push text other old s is)
 ]
+
+ok-err : {X Y : Type 0} {x : X} {y : Y} → Ok x ≡ Err y → ⊥
+ok-err e = true≢false (ap is_ok e)
+
+other_error : OutOfSystemMemory ≡ NotEnoughKeys → ⊥
+other_error e = absurd (cc)
+
+abbrev err_or : {X Y : Type 0} → Y → Result X Y → Y
+err_or y (Ok v) = y
+err_or y (Err v) = v
+
+same_Err : {X Y : Type 0} (x y : Y) (r : Result X Y) → r ≡ Err x → r ≡ Err y → x ≡ y
+same_Err x y r e e' = sym (ap (err_or x) e) ∙ ap (err_or x) e'
+
+-- what a call says of a text, one by one
+module _ (old : List (List ℕ)) (text : List ℕ) (new : List (List ℕ)) where
+  pub interning-there : (r : Result ℕ ArenaError) → Interning old text r new → (symbol : ℕ) → symbol_of old text ≡ Some symbol → (r ≡ Ok symbol) × (new ≡ old)
+  interning-there (Ok s) told symbol there = elim told [
+    | inl found ↦ (ap Ok (same_Some s symbol (sym found.0 ∙ there)), found.1)
+    | inr added ↦ absurd (none-some symbol (sym added.0 ∙ there))
+  ]
+  interning-there (Err e) told symbol there = absurd (none-some symbol (sym told.0.0 ∙ there))
+
+  pub interning-new : (r : Result ℕ ArenaError) → Interning old text r new → symbol_of old text ≡ None → IfOk r (λ symbol. (symbol ≡ length old) × (new ≡ old ++ text ∷ []))
+  interning-new (Ok s) told absent = elim told [
+    | inl found ↦ absurd (none-some s (sym absent ∙ found.0))
+    | inr added ↦ (added.2, added.3)
+  ]
+  interning-new (Err e) told absent = tt
+
+  pub interning-no_symbol : (r : Result ℕ ArenaError) → Interning old text r new → IsErrOf r NotEnoughKeys ↔ ((symbol_of old text ≡ None) × (2 ^ 32 ≤ length old))
+  interning-no_symbol (Ok s) told = (
+    λ is. absurd (ok-err is),
+    λ full. elim told [
+      | inl found ↦ absurd (none-some s (sym full.0 ∙ found.0))
+      | inr added ↦ absurd (let few = added.1 in omega (arith, few, full.1))
+    ],
+  )
+  interning-no_symbol (Err e) told = (
+    λ is. (
+      told.0.0,
+      elim told.0.1 [
+        | inl keys ↦ keys.1
+        | inr memory ↦ absurd (other_error (sym memory.0 ∙ same_Err e NotEnoughKeys (Err e) refl is))
+      ],
+    ),
+    λ full. elim told.0.1 [
+      | inl keys ↦ ap Err keys.0
+      | inr memory ↦ absurd (let few = memory.1 in omega (arith, few, full.1))
+    ],
+  )
+
+  pub interning-errors : (r : Result ℕ ArenaError) → Interning old text r new → IfErr r (λ error. (error ≡ NotEnoughKeys) ⊎ (error ≡ OutOfSystemMemory))
+  interning-errors (Ok s) told = tt
+  interning-errors (Err e) told = elim told.0.1 [ inl keys ↦ inl keys.0 | inr memory ↦ inr memory.0 ]
+
+  pub interning-err : (r : Result ℕ ArenaError) → Interning old text r new → OnErr r (new ≡ old)
+  interning-err (Ok s) told = tt
+  interning-err (Err e) told = told.1
+
+  pub interning-known : (r : Result ℕ ArenaError) → Interning old text r new → IfOk r (λ symbol. symbol_of new text ≡ Some symbol)
+  interning-known (Ok s) told = symbol_of-Interns old text s new told
+  interning-known (Err e) told = tt
+
+  pub interning-reads : (r : Result ℕ ArenaError) → Interning old text r new → IfOk r (λ symbol. slice_get new symbol ≡ Some text)
+  interning-reads (Ok s) told = symbol_of-Some text new s (symbol_of-Interns old text s new told)
+  interning-reads (Err e) told = tt
+
+  pub interning-kept : (r : Result ℕ ArenaError) → Interning old text r new → (other : List ℕ) (symbol : ℕ) → symbol_of old other ≡ Some symbol → symbol_of new other ≡ Some symbol
+  interning-kept (Ok s) told other symbol is = kept_by_interning old text s new told other symbol is
+  interning-kept (Err e) told other symbol is = rw told.1 is
 
 kept_by_step : (old : List (List ℕ)) (command : InternCommand) (reply : InternReply) (new : List (List ℕ)) → InternStep old command reply new → (text : List ℕ) (s : ℕ) → symbol_of old text ≡ Some s → symbol_of new text ≡ Some s
 kept_by_step old (Intern text hint) (Sym symbol) new step other s is = kept_by_interning old _ symbol new step other s is

@@ -1,5 +1,5 @@
 -- What an interner is: a list of distinct texts, whose positions are the symbols.
-use Rattle.std.specs.Prelude.{◌≡◌, ℕ, ◌<◌, ◌≤◌, ◌^◌, ◌⊎◌, List, [], ◌∷◌, ◌++◌, length, Option, None, Some, position}
+use Rattle.std.specs.Prelude.{◌≡◌, ℕ, ◌<◌, ◌≤◌, ◌^◌, ◌⊎◌, List, [], ◌∷◌, ◌++◌, length, Option, None, Some, Result, Ok, Err, position}
 use Rattle.std.specs.List.{IsDistinct}
 use Rattle.std.specs.Str.{bytes_eq}
 use Rattle.wasmi_arena.specs.declared.error.ArenaError.{ArenaError}
@@ -28,3 +28,9 @@ RefusesText old text error =
     (symbol_of old text ≡ None)
     × (((error ≡ NotEnoughKeys) × (2 ^ 32 ≤ length old))
     ⊎ ((error ≡ OutOfSystemMemory) × (length old < 2 ^ 32)))
+
+-- what a call that interns a text returns, and leaves: the text's symbol, or why it is refused, and then all
+-- is as before
+abbrev pub Interning : List (List ℕ) → List ℕ → Result ℕ ArenaError → List (List ℕ) → Type 0
+Interning old text (Ok symbol) new = Interns old text symbol new
+Interning old text (Err error) new = RefusesText old text error × (new ≡ old)

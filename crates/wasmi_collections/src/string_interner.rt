@@ -1,9 +1,9 @@
 //! Symbols of texts.
-ghost use Rattle.std.specs.Prelude.{ℕ, ◌≡◌, ◌+◌, ◌==◌, ◌<◌, ◌≤◌, ◌^◌, ◌↔◌, ◌⊎◌, [], ◌∷◌, ◌++◌, length, IfOk, IfErr, OnErr, IsErrOf, IsOkUnless, None, Some, Ok, option_copied, slice_get};
+ghost use Rattle.std.specs.Prelude.{ℕ, List, ◌≡◌, ◌+◌, ◌==◌, ◌<◌, ◌≤◌, ◌^◌, ◌↔◌, ◌⊎◌, [], ◌∷◌, ◌++◌, length, IfOk, IfErr, OnErr, IsErrOf, IsOkUnless, None, Some, Ok, option_copied, slice_get};
 ghost use Rattle.std.specs.Cmp.Lexicographic.{pointwise, lists_per, lists_equiv, nat_list_eq_equiv};
 ghost use Rattle.std.specs.Str.{bytes_eq};
 ghost use Rattle.wasmi_collections.specs.BinaryDigits.{digits};
-ghost use Rattle.wasmi_collections.specs.Interner.{symbol_of, AreDistinctTexts};
+ghost use Rattle.wasmi_collections.specs.Interner.{symbol_of, AreDistinctTexts, Interning};
 ghost use Rattle.wasmi_collections.specs.LenOrderLaws.{texts_per};
 
 mod find;
@@ -178,6 +178,10 @@ impl<A: Allocator> StringInterner<A> {
         ensures errors { IfErr result (λ error. (error ≡ ArenaError.NotEnoughKeys)
             ⊎ (error ≡ ArenaError.OutOfSystemMemory)) }
         ensures err { OnErr result (self.new ≡ self.old) }
+        ensures known { IfOk result (λ symbol. symbol_of self.new text.now ≡ Some symbol) }
+        ensures reads { IfOk result (λ symbol. slice_get self.new symbol ≡ Some text.now) }
+        ensures kept { (other : List ℕ) (symbol : ℕ) → symbol_of self.old other ≡ Some symbol
+            → symbol_of self.new other ≡ Some symbol }
     {
         self.get_or_intern_with_hint(text, InternHint::None)
     }
@@ -190,15 +194,7 @@ impl<A: Allocator> StringInterner<A> {
     ) -> Result<Sym, ArenaError>
     where
         A: Clone,
-        ensures there { (symbol : ℕ) → symbol_of self.old text.now ≡ Some symbol
-            → (result ≡ Ok symbol) × (self.new ≡ self.old) }
-        ensures new { symbol_of self.old text.now ≡ None → IfOk result (λ symbol.
-            (symbol ≡ length self.old) × (self.new ≡ self.old ++ text.now ∷ [])) }
-        ensures no_symbol { IsErrOf result ArenaError.NotEnoughKeys
-            ↔ ((symbol_of self.old text.now ≡ None) × (2 ^ 32 ≤ length self.old)) }
-        ensures errors { IfErr result (λ error. (error ≡ ArenaError.NotEnoughKeys)
-            ⊎ (error ≡ ArenaError.OutOfSystemMemory)) }
-        ensures err { OnErr result (self.new ≡ self.old) }
+        ensures { Interning self.old text.now result self.new }
     {
         let rank = match find(&self.index, &self.texts, text, &mut Steps::new()) {
             Ok(symbol) => return Ok(symbol),

@@ -19,3 +19,23 @@ pub fn share_a_slot(
     let second = table.alloc(other)?;
     Ok(first == second)
 }
+
+/// The slots of two constants, and that of the first again, which is the same.
+pub fn slot_again(
+    table: &mut DedupArena<u32, u64>,
+    one: u64,
+    other: u64,
+) -> Result<(u32, u32), ArenaError>
+    ensures { IfOk result (λ slots. slots.0 ≡ slots.1) }
+{
+    let first = table.alloc(one)?;
+    table.alloc(other)?;
+    let again = table.alloc(one)?;
+    Ok((first, again))
+}
+
+/// What is in the slot of a constant. It is the constant, where nothing was written there.
+pub fn in_its_slot(table: &mut DedupArena<u32, u64>, constant: u64) -> Result<u64, ArenaError> {
+    let slot = table.alloc(constant)?;
+    Ok(table[slot])
+}

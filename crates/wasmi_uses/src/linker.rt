@@ -1,5 +1,5 @@
 //! The names that modules export, each of which a linker takes once.
-ghost use Rattle.std.specs.Prelude.{◌≡◌, [], ◌∷◌, ◌++◌, length, not, true, false, is_some, IfOk, OnErr, Some};
+ghost use Rattle.std.specs.Prelude.{◌≡◌, [], ◌∷◌, ◌++◌, length, not, true, false, is_some, IfOk, OnErr, Some, slice_get};
 ghost use Rattle.wasmi_collections.specs.Interner.{symbol_of};
 
 use std::alloc::Allocator;
@@ -23,6 +23,33 @@ pub fn export<A: Allocator + Clone>(
     }
     names.get_or_intern(name)?;
     Ok(true)
+}
+
+/// The symbol of a name, which is taken if no module exported it, and whether the symbol resolves to a text:
+/// it does, and to this name.
+pub fn symbol_and_text<A: Allocator + Clone>(
+    names: &mut StringInterner<A>,
+    name: &str,
+) -> Result<(Sym, bool), ArenaError>
+    ensures resolves { IfOk result (λ taken. taken.1 ≡ true) }
+    ensures reads { IfOk result (λ taken. slice_get names.new taken.0 ≡ Some name.now) }
+{
+    let symbol = names.get_or_intern(name)?;
+    Ok((symbol, names.resolve(symbol).is_some()))
+}
+
+/// The symbols of two names, and that of the first again, which is the same.
+pub fn symbol_again<A: Allocator + Clone>(
+    names: &mut StringInterner<A>,
+    one: &str,
+    other: &str,
+) -> Result<(Sym, Sym), ArenaError>
+    ensures { IfOk result (λ symbols. symbols.0 ≡ symbols.1) }
+{
+    let first = names.get_or_intern(one)?;
+    names.get_or_intern(other)?;
+    let again = names.get_or_intern(one)?;
+    Ok((first, again))
 }
 
 /// The symbol of a name that a module imports, if a module exports it.

@@ -1,9 +1,10 @@
 //! Each caller on its happy path.
 
+use crate::constants::{in_its_slot, share_a_slot, slot_again};
 use crate::define::define;
 use crate::frames::tail_call;
 use crate::imports::{take_offered, take_offered_hashed};
-use crate::linker::{export, import};
+use crate::linker::{export, import, symbol_again, symbol_and_text};
 use crate::properties::set_once;
 use crate::reserve::put_both;
 use crate::search::position_of;
@@ -14,7 +15,7 @@ use crate::write::put_or_alloc;
 use std::test::Fail;
 use wasmi_arena::{StableArena, StableVec};
 use wasmi_collections::string_interner::Sym;
-use wasmi_collections::{HeadVec, StringInterner, hashed, ordered};
+use wasmi_collections::{DedupArena, HeadVec, StringInterner, hashed, ordered};
 use wasmi_dense::{Arena, ComponentVec};
 use wasmi_ordered::Map;
 use wasmi_vectors::assert_equal;
@@ -171,5 +172,27 @@ fn a_name_is_exported_once(rt: HostRuntime) -> Result<(), Fail> {
     }
     assert_equal!(rt; import(&names, "table"), Some(Sym::from_u32(1)));
     assert_equal!(rt; import(&names, "global"), None);
+    Ok(())
+}
+
+#[test]
+fn a_name_has_one_symbol(rt: HostRuntime) -> Result<(), Fail> {
+    let mut names = StringInterner::new(rt.alloc());
+    let table = Sym::from_u32(1);
+    assert_equal!(rt; export(&mut names, "memory"), Ok(true));
+    assert_equal!(rt; symbol_and_text(&mut names, "table"), Ok((table, true)));
+    assert_equal!(rt; symbol_again(&mut names, "table", "start"), Ok((table, table)));
+    assert_equal!(rt; names.len(), 3);
+    Ok(())
+}
+
+#[test]
+fn a_constant_has_one_slot(rt: HostRuntime) -> Result<(), Fail> {
+    let mut table = DedupArena::new(rt.alloc());
+    assert_equal!(rt; share_a_slot(&mut table, 7, 8), Ok(false));
+    assert_equal!(rt; share_a_slot(&mut table, 8, 8), Ok(true));
+    assert_equal!(rt; slot_again(&mut table, 8, 9), Ok((1, 1)));
+    assert_equal!(rt; in_its_slot(&mut table, 9), Ok(9));
+    assert_equal!(rt; table.len(), 3);
     Ok(())
 }

@@ -33,7 +33,7 @@ pub struct DedupArena<Key: ArenaKey, T: Eq + Hash, A: Allocator = Global> {
 }
 
 impl<Key: ArenaKey, T: Eq + Hash, A: Allocator> Model for DedupArena<Key, T, A> {
-    ghost use Rattle.std.specs.Prelude.{◌≡◌, length};
+    ghost use Rattle.std.specs.Prelude.{◌≡◌, ◌≤◌, length};
     ghost use Rattle.wasmi_collections.specs.Dedup.{DedupState, IsIndex, in_order};
 
     ghost Value = { DedupState T };
@@ -42,7 +42,8 @@ impl<Key: ArenaKey, T: Eq + Hash, A: Allocator> Model for DedupArena<Key, T, A> 
 
     // The index has the key of each value handed in, and nothing else.
     ghost invariant = { λ arena. IsIndex Key.keys T.eq (in_order Key.keys arena.index.entries) arena.index.entries
-        × (length (in_order Key.keys arena.index.entries) ≡ length arena.items.items) };
+        × (length (in_order Key.keys arena.index.entries) ≡ length arena.items.items)
+        × (length arena.items.items ≤ Key.keys.count) };
 }
 
 impl<Key: ArenaKey, T: Eq + Hash, A: Allocator> DedupArena<Key, T, A> {
@@ -116,6 +117,11 @@ impl<Key: ArenaKey, T: Eq + Hash, A: Allocator> DedupArena<Key, T, A> {
             ↔ ((position (T.eq value) self.old.handed ≡ None) × (Key.keys.count ≤ length self.old.handed)) }
         ensures refused { IfErr result (λ error. RefusesValue Key.keys T.eq self.old value error) }
         ensures err { OnErr result (self.new ≡ self.old) }
+        ensures known { IfOk result (λ key.
+            position (T.eq value) self.new.handed ≡ Some (Key.keys.number key)) }
+        ensures within { IfOk result (λ key. Key.keys.number key < length self.new.items) }
+        ensures kept { (other : T) (p : ℕ) → position (T.eq other) self.old.handed ≡ Some p
+            → position (T.eq other) self.new.handed ≡ Some p }
     {
         if let Some(key) = self.index.get(&value) {
             return Ok(*key);

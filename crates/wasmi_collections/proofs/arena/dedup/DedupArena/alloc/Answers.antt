@@ -1,8 +1,10 @@
-use Rattle.std.proofs.Common.{◌≡◌, ◌++◌, ◌∷◌, [], length, Option, Result, Ok, Err, IsOk, OnOk, None, Some, is_some, true≢false, MatchOption, sym, ap, ◌∙◌, length-append, position, inr, arith}
+use Rattle.std.proofs.Common.{◌≡◌, ◌++◌, ◌∷◌, [], ◌≤◌, length, Option, Result, Ok, Err, IsOk, OnOk, None, Some, is_some, true≢false, MatchOption, sym, ap, ◌∙◌, length-append, position, inr, arith}
 use Rattle.std.proofs.lemmas.Result.{IfOk-weaker}
 use Rattle.wasmi_map_specs.specs.Maps.{value_at}
 use Rattle.wasmi_collections.specs.Dedup.{IsIndex, in_order}
 use Rattle.wasmi_collections.proofs.Dedup.{IsIndex-push, in_order-keyed, position-absent}
+use Rattle.wasmi_collections.proofs.DedupRuns.{found-known, given-known, position-stays}
+use Rattle.std.proofs.lemmas.List.Quantifiers.{position-Some}
 use Rattle.wasmi_collections.proofs.arena.dedup.DedupArena.alloc.Goals as goal
 
 if_none : {X P : Type 0} (Q : X → Type 0) (o : Option X) → o ≡ None → MatchOption o P Q → P
@@ -43,7 +45,7 @@ handed_is g c =
 
 pub invariant_of-self-2 : goal.invariant_of-self-2
 invariant_of-self-2 g c =
-    rw (handed_is g c, is_added g c) (is_pushed g c, (let same = c.self.invariant.1 in omega (arith, same, length-append (in_order g.Key.ArenaKey.keys c.self.inside.index.entries) (c.args.value ∷ []), length-append c.self.inside.items.items (c.in_ok-item.item ∷ []))))
+    rw (handed_is g c, is_added g c) (is_pushed g c, (let same = c.self.invariant.1 in omega (arith, same, length-append (in_order g.Key.ArenaKey.keys c.self.inside.index.entries) (c.args.value ∷ []), length-append c.self.inside.items.items (c.in_ok-item.item ∷ []))), (let low = c.in_ok-key.ensures.has_key in omega (arith, low, length-append c.self.inside.items.items (c.in_ok-item.item ∷ []))))
 
 pub returns-clause-ok : goal.returns-clause-ok
 returns-clause-ok g c =
@@ -56,3 +58,26 @@ returns-clause-ok g c =
       handed_are = rw (← c.self.view_is) (handed_is g c);
       items_are = (c.in_ok-item.item, c.in_ok-item.ensures.cases, rw (← c.self.view_is) (is_added g c));
     })) c.alloc.ensures.key
+
+pub returns-in-Some-clause-known : goal.returns-in-Some-clause-known
+returns-in-Some-clause-known g c =
+    let keys = g.Key.ArenaKey.keys in let handed = in_order keys c.self.inside.index.entries in
+    let few : length handed ≤ keys.count = let same = c.self.invariant.1 in let low = c.self.invariant.2 in omega (arith, same, low) in
+    rw (← c.self.view_is) (found-known keys g.met.Key.ArenaKey.key_law g.met.T.Eq.laws g.T.Clone.is_clone handed c.args.value c.in-Some.key.now few (sym (c.self.invariant.0.finds c.args.value) ∙ sym c.in-Some.ensures))
+
+pub returns-in-Some-clause-within : goal.returns-in-Some-clause-within
+returns-in-Some-clause-within g c =
+    let keys = g.Key.ArenaKey.keys in let handed = in_order keys c.self.inside.index.entries in
+    let few : length handed ≤ keys.count = let same = c.self.invariant.1 in let low = c.self.invariant.2 in omega (arith, same, low) in
+    let at = found-known keys g.met.Key.ArenaKey.key_law g.met.T.Eq.laws g.T.Clone.is_clone handed c.args.value c.in-Some.key.now few (sym (c.self.invariant.0.finds c.args.value) ∙ sym c.in-Some.ensures) in
+    let low = (position-Some (g.T.PartialEq.eq c.args.value) handed (keys.number c.in-Some.key.now) c.args.value at).0 in let same = c.self.invariant.1 in
+    rw (← c.self.view_is) (omega (arith, low, same))
+
+pub returns-clause-known : goal.returns-clause-known
+returns-clause-known g c =
+    IfOk-weaker c.alloc.result _ _ (λ key allocates. given-known g.Key.ArenaKey.keys g.met.Key.ArenaKey.key_law g.met.T.Eq.laws g.T.Clone.is_clone c.args.self.now _ c.args.value key
+    (rw (← c.self.view_is) (let same = c.self.invariant.1 in let low = c.self.invariant.2 in omega (arith, same, low))) allocates) (returns-clause-ok g c)
+
+pub returns-clause-kept : goal.returns-clause-kept
+returns-clause-kept g c = λ other p is.
+    rw (handed_is g c) (position-stays (g.T.PartialEq.eq other) (in_order g.Key.ArenaKey.keys c.self.inside.index.entries) (c.args.value ∷ []) p (rw (← c.self.view_is) at is))
