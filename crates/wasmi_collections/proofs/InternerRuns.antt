@@ -1,6 +1,6 @@
 -- What an interner replies to two texts in a run.
-use Rattle.std.proofs.Common.{◌≡◌, ◌⊎◌, ℕ, zero, suc, ◌≤◌, ◌^◌, List, [], ◌∷◌, length, map, Option, Some, None, slice_get, refl, sym, ap, ◌∙◌, ◌↔◌, inl, inr}
-use Rattle.std.specs.Prelude.{◌++◌, ◌<◌, Result, Ok, Err, IfOk, IfErr, OnErr, IsErrOf}
+use Rattle.std.proofs.Common.{◌≡◌, ◌⊎◌, ℕ, zero, suc, ◌≤◌, ◌^◌, List, [], ◌∷◌, length, map, Some, None, slice_get, refl, sym, ap, ◌∙◌, ◌↔◌, inl, inr}
+use Rattle.std.specs.Prelude.{◌++◌, Result, Ok, Err, IfOk, IfErr, OnErr, IsErrOf}
 use Rattle.std.proofs.Common.{arith, is_ok, true≢false}
 use Rattle.std.proofs.lemmas.Option.{none-some, same_Some}
 use Rattle.wasmi_arena.specs.declared.error.ArenaError.{ArenaError}
