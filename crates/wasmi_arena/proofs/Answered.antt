@@ -6,13 +6,14 @@ use mathlib.Core.Bool.{not}
 use Rattle.std.specs.Prelude.{◌↔◌, ◌⊎◌, Result, Ok, Err, IfOk, IfErr, IsErrOf, slice_get, Some}
 use Rattle.wasmi_arena.specs.Pairs.{PairAnswer, AreNumbers}
 use Rattle.wasmi_arena.specs.declared.error.ArenaError.{ArenaError}
-use Rattle.wasmi_arena.specs.declared.error.ArenaError.TheVariants.{OutOfSystemMemory, KeyOutOfBounds, NotEnoughKeys, AliasingPairAccess}
+use Rattle.wasmi_arena.specs.declared.error.ArenaError.TheVariants.{OutOfSystemMemory, KeyOutOfBounds, NotEnoughKeys, AliasingPairAccess, DuplicateItem}
 
 aliases : {A : Type 0} → Result A ArenaError → Bool
 aliases (Err AliasingPairAccess) = true
 aliases (Err KeyOutOfBounds) = false
 aliases (Err OutOfSystemMemory) = false
 aliases (Err NotEnoughKeys) = false
+aliases (Err DuplicateItem) = false
 aliases (Ok x) = false
 
 -- the same, and true of a value
@@ -21,6 +22,7 @@ not_bounds (Err AliasingPairAccess) = true
 not_bounds (Err KeyOutOfBounds) = false
 not_bounds (Err OutOfSystemMemory) = true
 not_bounds (Err NotEnoughKeys) = true
+not_bounds (Err DuplicateItem) = true
 not_bounds (Ok x) = true
 
 module _ {R : Type 0} (items : List R) (first second : ℕ) where
@@ -40,6 +42,7 @@ module _ {R : Type 0} (items : List R) (first second : ℕ) where
   answered-aliasing (Err KeyOutOfBounds) told = ((λ e. absurd (subst (λ r. T (not (aliases r))) e tt)), λ same. absurd (told.0 same))
   answered-aliasing (Err OutOfSystemMemory) told = absurd told
   answered-aliasing (Err NotEnoughKeys) told = absurd told
+  answered-aliasing (Err DuplicateItem) told = absurd told
 
   pub answered-bounds : (r : Result (MutBor R × MutBor R) ArenaError) → PairAnswer items first second r
       → IsErrOf r KeyOutOfBounds ↔ ((first ≢ second) × ((length items ≤ first) ⊎ (length items ≤ second)))
@@ -49,6 +52,7 @@ module _ {R : Type 0} (items : List R) (first second : ℕ) where
   answered-bounds (Err KeyOutOfBounds) told = ((λ e. told), λ out. refl)
   answered-bounds (Err OutOfSystemMemory) told = absurd told
   answered-bounds (Err NotEnoughKeys) told = absurd told
+  answered-bounds (Err DuplicateItem) told = absurd told
 
   abbrev pub Errors : Result (MutBor R × MutBor R) ArenaError → Type 0
   Errors r = IfErr r (λ error. (error ≡ AliasingPairAccess) ⊎ (error ≡ KeyOutOfBounds))
@@ -59,6 +63,7 @@ module _ {R : Type 0} (items : List R) (first second : ℕ) where
   answered-errors (Err KeyOutOfBounds) told = inr refl
   answered-errors (Err OutOfSystemMemory) told = absurd told
   answered-errors (Err NotEnoughKeys) told = absurd told
+  answered-errors (Err DuplicateItem) told = absurd told
 
 -- the same of two keys, of which these are the numbers
 module _ {K R : Type 0} (number : K → ℕ) (items : List R) (keys : List K) where

@@ -35,6 +35,10 @@ place_unique {i} {b} {s} {c} {t} p q = elim (cases_order b c) [
   ]
 ]
 
+-- an index that has a place is below the limit
+pub place-le_max : {i b s : ℕ} → IsPlace i b s → i ≤ max_len
+place-le_max {i} {b} {s} p = omega (arith, start_below b 27 p.bucket_exists, p.slot_exists, p.index_is)
+
 -- the fewest are one number
 pub fewest_unique : {n b c : ℕ} → IsFewest n b → IsFewest n c → b ≡ c
 fewest_unique {n} {b} {c} p q = let up = p.least c q.enough in let down = q.least b p.enough in omega arith
@@ -55,6 +59,22 @@ pub fewest_of_place : {i b s : ℕ} → IsPlace i b s → IsFewest (i + 1) (b + 
 fewest_of_place {i} {b} {s} p = record {
   enough = rw (add-one b) (omega arith);
   least = λ c h. let above : b < c = below_of_start b c (i + 1) (omega arith) h in omega arith;
+}
+
+-- the items before an index need the buckets before its own, and its own where they don't end there
+pub fewest_before_first : {i b : ℕ} → IsPlace i b 0 → IsFewest i b
+fewest_before_first {i} {b} p = record {
+  enough = omega arith;
+  least = λ c h. elim (cases_lt c b) [
+    | inl less ↦ absurd (omega (arith, start_below c b less, size_pos c))
+    | inr more ↦ more
+  ];
+}
+
+pub fewest_before_other : {i b s : ℕ} → IsPlace i b s → 0 < s → IsFewest i (b + 1)
+fewest_before_other {i} {b} {s} p some = record {
+  enough = rw (add-one b) (omega arith);
+  least = λ c h. let above : b < c = below_of_start b c i (omega arith) h in omega arith;
 }
 
 module _ (passes : ℕ → Bool) where

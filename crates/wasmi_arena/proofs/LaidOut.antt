@@ -1,8 +1,9 @@
 -- What the fields of a stable vector tell, once they agree.
-use Rattle.std.proofs.Common.{◌≡◌, ◌≢◌, ℕ, ◌+◌, ◌-◌, ◌*◌, ◌^◌, ◌<◌, ◌≤◌, List, [], ◌∷◌, ◌++◌, length, take, drop, get_or, set, Option, Some, None, cond, refl, sym, ◌∙◌, ap, subst, inl, inr, arith, lit<, length-append, append-nil, length-drop, slice_get, IsSome, IsSomeAnd}
+use Rattle.std.proofs.Common.{◌≡◌, ◌≢◌, ℕ, suc, ◌+◌, ◌-◌, ◌*◌, ◌^◌, ◌<◌, ◌≤◌, List, [], ◌∷◌, ◌++◌, length, take, drop, get_or, set, Option, Some, None, cond, refl, sym, ◌∙◌, ap, subst, inl, inr, arith, lit<, length-append, append-nil, length-drop, slice_get, IsSome, IsSomeAnd}
 use Rattle.std.proofs.lemmas.Bool.{cases_lt, lt-ltb, le-ltb}
 use Rattle.std.proofs.Math.Nat.{lt_of_lt_of_le}
 use Rattle.std.proofs.Math.ListN.{length-set, drop_of_length-le}
+use Rattle.std.proofs.Math.Seq.{take-suc}
 use Rattle.std.proofs.lemmas.List.{set_comm, get_or_default, take_all, length-take, get_or-take, get_or-drop}
 use Rattle.std.proofs.lemmas.Option.{slice_get-get_or, slice_get_cases, get_or_from_slice_get}
 use Rattle.std.proofs.lemmas.List.Edits.{swap_is}
@@ -10,9 +11,9 @@ use Rattle.std.specs.List.{swap}
 use Rattle.wasmi_arena.specs.Geometry.{size, start, max_len, IsPlace, IsFewest, fewest, room}
 use Rattle.wasmi_arena.specs.Bucket.{Bucket}
 use Rattle.wasmi_arena.specs.StableVec.{bucket_at}
-use Rattle.wasmi_arena.specs.Table.{items_of, items_in, bucket_with, with_item, write, bucket_from, IsTable, AreFilled, IsLaidOut, IsAhead}
+use Rattle.wasmi_arena.specs.Table.{items_of, items_in, bucket_with, bucket_cut, with_item, write, bucket_from, IsTable, AreFilled, IsLaidOut, IsAhead}
 use Rattle.wasmi_arena.proofs.Geometry.{start-size, size-suc, start_mono, start_below, fewest_is, fewest_is_least, fewest_of_none, fewest_of_place, below_of_start, place-next}
-use Rattle.wasmi_arena.proofs.Table.{get_or-IsTable, items_of-IsTable, IsTable-set, IsTable-write, IsTable-take, AreFilled-take, IsTable-none}
+use Rattle.wasmi_arena.proofs.Table.{get_or-IsTable, items_of-IsTable, IsTable-set, IsTable-write, IsTable-cut, IsTable-take, AreFilled-take, IsTable-none}
 
 module _ {T : Type 0} where
   -- the bucket of a list that has an item
@@ -219,6 +220,37 @@ module _ {T : Type 0} where
         | inl early ↦ rw (get_or-open b place.bucket_exists early) refl
         | inr late ↦ absurd (let few = IsFewest-len.least b late in let is = v.fewest_open in omega arith)
       ]
+
+    -- the last item leaves its slot
+    module _ (i b s : ℕ) (place : IsPlace i b s) (last : len ≡ i + 1) where
+      IsTable-pop : IsTable 32 (take i (items_of buckets)) (set buckets b (bucket_cut (get_or buckets b None) s))
+      IsTable-pop = IsTable-cut 32 b s i (items_of buckets) buckets (lit< tt) v.table (rw v.buckets_counted place.bucket_exists) place.slot_exists
+          (omega (arith, start-size b, place.index_is)) (omega (arith, v.items_counted, last))
+
+      pub items_of-pop : items_of (set buckets b (bucket_cut (get_or buckets b None) s)) ≡ take i (items_of buckets)
+      items_of-pop = items_of-IsTable 32 (take i (items_of buckets)) (set buckets b (bucket_cut (get_or buckets b None) s)) IsTable-pop
+
+      pub IsLaidOut-pop : IsLaidOut (set buckets b (bucket_cut (get_or buckets b None) s)) (fewest i) (start (fewest i)) i
+      IsLaidOut-pop = record {
+        buckets_counted = length-set buckets b (bucket_cut (get_or buckets b None) s) ∙ v.buckets_counted;
+        table = rw items_of-pop IsTable-pop;
+        items_counted = rw items_of-pop (omega (arith, length-take i (items_of buckets), v.items_counted, last));
+        few_items = let few = v.few_items in omega (arith, last);
+        fewest_open = refl;
+        slots_counted = refl;
+      }
+
+      -- its bucket holds it behind the others
+      pub last_in_place : length (items_in (get_or buckets b None)) ≡ s + 1
+      last_in_place = rw (get_or-buckets b place.bucket_exists, items_in-bucket_from)
+          (omega (arith, length-take (size b) (drop (start b) (items_of buckets)), length-drop (start b) (items_of buckets), v.items_counted, place.index_is, place.slot_exists, last))
+
+      -- and the vector does
+      pub popped : (x : T) → slice_get (items_in (get_or buckets b None)) s ≡ Some x → (slice_get (items_of buckets) i ≡ Some x) × (items_of buckets ≡ take i (items_of buckets) ++ x ∷ [])
+      popped x there =
+          let read = sym (slice_get-slot i b s place (omega (arith, last))) ∙ there in
+          let counted : length (items_of buckets) ≡ suc i = omega (arith, v.items_counted, last) in
+          (read, sym (take_all (suc i) (items_of buckets) (omega arith)) ∙ (take-suc (items_of buckets) i x (omega arith) ∙ ap (λ (y : T). take i (items_of buckets) ++ y ∷ []) (get_or_from_slice_get (items_of buckets) i x x read)))
 
     -- no slot of the open buckets is free
     module _ (full : slots ≤ len) where

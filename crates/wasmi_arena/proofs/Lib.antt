@@ -23,3 +23,4 @@ pub mod ArenaMemory
 pub mod LoanMemory
 pub mod Refusals
 pub mod Answered
+pub mod WalkedKeys

@@ -6,7 +6,7 @@ use Rattle.std.proofs.lemmas.Option.{slice_get_within}
 use Rattle.wasmi_arena.specs.Geometry.{max_len}
 use Rattle.wasmi_arena.specs.Keys.{Keys}
 use Rattle.wasmi_arena.specs.Arena.{ArenaState, AllocatesItem, PutsItem, SwapsItems, ArenaStep, ArenaRun, arena_limit, allocs_in, keys_in, NoneLacksMemory, EqualKeysRead}
-use Rattle.wasmi_arena.specs.declared.error.ArenaError.TheVariants.{OutOfSystemMemory, KeyOutOfBounds, NotEnoughKeys, AliasingPairAccess}
+use Rattle.wasmi_arena.specs.declared.error.ArenaError.TheVariants.{OutOfSystemMemory, KeyOutOfBounds, NotEnoughKeys, AliasingPairAccess, DuplicateItem}
 use Rattle.wasmi_arena.specs.declared.run.ArenaCommand.{ArenaCommand}
 use Rattle.wasmi_arena.specs.declared.run.ArenaCommand.TheVariants.{Alloc, Has, Put, Swap}
 use Rattle.wasmi_arena.specs.declared.run.ArenaReply.{ArenaReply}
@@ -31,6 +31,7 @@ module _ {K T : Type 0} (keys : Keys K) (L M : ℕ) (a b c d : ArenaState T) (sa
   alloc_key item k (Refused OutOfSystemMemory) p q fit none = absurd (none refl)
   alloc_key item k (Refused KeyOutOfBounds) p q fit none = absurd q.0
   alloc_key item k (Refused AliasingPairAccess) p q fit none = absurd q.0
+  alloc_key item k (Refused DuplicateItem) p q fit none = absurd q.0
   alloc_key item k y p q fit none = absurd q
 
   alloc_none : (item : T) (y : ArenaReply K T) → L ≤ length a.items → c.items ≡ a.items → ArenaStep keys M b (Alloc item) y d
@@ -40,6 +41,7 @@ module _ {K T : Type 0} (keys : Keys K) (L M : ℕ) (a b c d : ArenaState T) (sa
   alloc_none item (Refused OutOfSystemMemory) full kept q fit none = absurd (none refl)
   alloc_none item (Refused KeyOutOfBounds) full kept q fit none = absurd q.0
   alloc_none item (Refused AliasingPairAccess) full kept q fit none = absurd q.0
+  alloc_none item (Refused DuplicateItem) full kept q fit none = absurd q.0
   alloc_none item y full kept q fit none = absurd q
 
   has_alike : (k : K) (found : Bool) (y : ArenaReply K T) → ArenaStep keys L a (Has k) (HasReply found) c → ArenaStep keys M b (Has k) y d → Alike (HasReply found) y
@@ -67,6 +69,7 @@ module _ {K T : Type 0} (keys : Keys K) (L M : ℕ) (a b c d : ArenaState T) (sa
       elim q.0 [ inl past ↦ absurd (omega (arith, ap length same)) | inr past ↦ absurd (omega (arith, ap length same)) ]
   swap_done j k (Refused OutOfSystemMemory) p q = absurd q.0
   swap_done j k (Refused NotEnoughKeys) p q = absurd q.0
+  swap_done j k (Refused DuplicateItem) p q = absurd q.0
   swap_done j k y p q = absurd q
 
   swap_equal : (j k : K) (y : ArenaReply K T) → keys.number j ≡ keys.number k → keys.number j < length a.items → c.items ≡ a.items → ArenaStep keys M b (Swap j k) y d → Alike (Refused AliasingPairAccess) y
@@ -76,6 +79,7 @@ module _ {K T : Type 0} (keys : Keys K) (L M : ℕ) (a b c d : ArenaState T) (sa
       elim q.0 [ inl past ↦ absurd (omega (arith, ap length same)) | inr past ↦ absurd (omega (arith, ap length same)) ]
   swap_equal j k (Refused OutOfSystemMemory) one reads kept q = absurd q.0
   swap_equal j k (Refused NotEnoughKeys) one reads kept q = absurd q.0
+  swap_equal j k (Refused DuplicateItem) one reads kept q = absurd q.0
   swap_equal j k y one reads kept q = absurd q
 
   swap_past : (j k : K) (y : ArenaReply K T) → (length a.items ≤ keys.number j) ⊎ (length a.items ≤ keys.number k) → (keys.number j ≡ keys.number k → keys.number j < length a.items) → c.items ≡ a.items → ArenaStep keys M b (Swap j k) y d → Alike (Refused KeyOutOfBounds) y
@@ -88,6 +92,7 @@ module _ {K T : Type 0} (keys : Keys K) (L M : ℕ) (a b c d : ArenaState T) (sa
   swap_past j k (Refused KeyOutOfBounds) past reads kept q = let stays = q.1.0 in (refl, cc)
   swap_past j k (Refused OutOfSystemMemory) past reads kept q = absurd q.0
   swap_past j k (Refused NotEnoughKeys) past reads kept q = absurd q.0
+  swap_past j k (Refused DuplicateItem) past reads kept q = absurd q.0
   swap_past j k y past reads kept q = absurd q
 
 -- a step's command and reply tell how many items there are after it
@@ -116,6 +121,7 @@ module _ {K T : Type 0} (keys : Keys K) (L M : ℕ) where
   one_step a b c d same (Alloc item) (Refused OutOfSystemMemory) y cs p q fit none nono reads = absurd (none refl)
   one_step a b c d same (Alloc item) (Refused KeyOutOfBounds) y cs p q fit none nono reads = absurd p.0
   one_step a b c d same (Alloc item) (Refused AliasingPairAccess) y cs p q fit none nono reads = absurd p.0
+  one_step a b c d same (Alloc item) (Refused DuplicateItem) y cs p q fit none nono reads = absurd p.0
   one_step a b c d same (Has k) (HasReply found) y cs p q fit none nono reads = has_alike keys L M a b c d same k found y p q
   one_step a b c d same (Put k item) (Old there) y cs p q fit none nono reads = put_old keys L M a b c d same k item there y p q
   one_step a b c d same (Put k item) (Refused error) y cs p q fit none nono reads =
@@ -125,6 +131,7 @@ module _ {K T : Type 0} (keys : Keys K) (L M : ℕ) where
   one_step a b c d same (Swap j k) (Refused KeyOutOfBounds) y cs p q fit none nono reads = swap_past keys L M a b c d same j k y p.0 (reads j k refl) p.1.0 q
   one_step a b c d same (Swap j k) (Refused OutOfSystemMemory) y cs p q fit none nono reads = absurd p.0
   one_step a b c d same (Swap j k) (Refused NotEnoughKeys) y cs p q fit none nono reads = absurd p.0
+  one_step a b c d same (Swap j k) (Refused DuplicateItem) y cs p q fit none nono reads = absurd p.0
   one_step a b c d same command x y cs p q fit none nono reads = absurd p
 
   module _ {V W : Type 0} (state : V → ArenaState T) (seen : W → ArenaState T) where

@@ -38,7 +38,7 @@ use Rattle.core.specs.contracts.result.Result as ResultType
 use Rattle.wasmi_arena.specs.contracts.error.ArenaError as ErrorType
 use Rattle.wasmi_arena.specs.declared.error.ArenaError.{ArenaError}
 use Rattle.wasmi_arena.proofs.error.ArenaError.TheLaws as ErrorLaws
-use Rattle.wasmi_arena.specs.declared.error.ArenaError.TheVariants.{OutOfSystemMemory, KeyOutOfBounds, NotEnoughKeys, AliasingPairAccess}
+use Rattle.wasmi_arena.specs.declared.error.ArenaError.TheVariants.{OutOfSystemMemory, KeyOutOfBounds, NotEnoughKeys, AliasingPairAccess, DuplicateItem}
 
 module _ (κ : Lft) (T : RattleType) where
   abbrev pub Lent : RattleType
@@ -95,6 +95,7 @@ place_of OutOfSystemMemory = 0
 place_of KeyOutOfBounds = 1
 place_of NotEnoughKeys = 2
 place_of AliasingPairAccess = 3
+place_of DuplicateItem = 4
 
 module _ {M : Type 1} {𝓤 : Ura M} (𝓛 : Logic 𝓤) where
   pub error_made : (e : ArenaError) → ent 𝓤 (emp 𝓤) (sem 𝓛 (ErrorType.the_row.own_val e (error_val (place_of e) ∷ [])))
@@ -110,6 +111,9 @@ module _ {M : Type 1} {𝓤 : Ura M} (𝓛 : Logic 𝓤) where
   error_made AliasingPairAccess =
       qed 𝓛 [] ∵ nothing ! $ feq_i ! (List Val) [] [] refl $ fjoin ! $ fpack ! (Valss []) (in_a_row [] (owns [] tt) []) tt $ feq_i ! (List Val) (error_val 3 ∷ []) (error_val 3 ∷ []) refl $ fjoin ! $
       fpack ! (List Val) (tagged_with (form_of (shape ErrorType.the_type)) (form_of (shape ErrorType.the_type)).payload (ErrorType.the_type.to AliasingPairAccess) (error_val 3 ∷ [])) [] $ done !
+  error_made DuplicateItem =
+      qed 𝓛 [] ∵ nothing ! $ feq_i ! (List Val) [] [] refl $ fjoin ! $ fpack ! (Valss []) (in_a_row [] (owns [] tt) []) tt $ feq_i ! (List Val) (error_val 4 ∷ []) (error_val 4 ∷ []) refl $ fjoin ! $
+      fpack ! (List Val) (tagged_with (form_of (shape ErrorType.the_type)) (form_of (shape ErrorType.the_type)).payload (ErrorType.the_type.to DuplicateItem) (error_val 4 ∷ [])) [] $ done !
 
 module _ {M : Type 1} {𝓤 : Ura M} (𝓛 : Logic 𝓤) (κ : Lft) (T : RattleType) where
   pub refused : (e : ArenaError) → ent 𝓤 (emp 𝓤) (sem 𝓛 ((PairOr κ T).own_val (Err e) (live 1 (of_list (error_val (place_of e) ∷ [])) ∷ [])))

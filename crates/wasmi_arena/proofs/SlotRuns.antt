@@ -1,6 +1,7 @@
 -- The three runs of a block's places: an item goes in at the end and out at the front, and a whole block is one run. Assumes `Logic`.
 --     end_out, end_in       the first waiting place is taken out, and put back as the last item
 --     front_out, front_in   the first item is taken out, and its place is put back as the last emptied one
+--     back_out, back_in     the last item is taken out, and its place is put back as the first waiting one
 --     fresh, spent          a block's room is no item and that many waiting places, and with no item the runs are room again
 --     weightless            room for items of no size comes from nothing
 --     to_cells, of_cells    the items as a slice reference has them, and back
@@ -11,7 +12,7 @@ use Prim.Native.Nat.{ℕ, suc, ◌+◌, ◌-◌, ◌*◌, ◌<◌, ◌^◌}
 use native.Mathlib.Nat.{zero-mul, suc-mul}
 use native.Mathlib.Omega.{arith}
 use mathlib.Core.List.{List, [], ◌∷◌, ◌++◌}
-use lib.ListN.{length, length-append, drop as take_off}
+use lib.ListN.{length, length-append, drop as take_off, take as first_of, get_or}
 use seplogic.Ra.Ura.{Ura}
 use base.Fraction.{full_share}
 use mir.Syntax.{ty_array}
@@ -37,6 +38,15 @@ use Rattle.wasmi_arena.specs.Block.{empty, runs}
 pub cut_first : {X : Type 0} (xs : List X) → 0 < length xs → (x : X) × (xs ≡ x ∷ take_off 1 xs)
 cut_first [] there = absurd (omega arith)
 cut_first (x ∷ xs) there = (x, refl)
+
+-- and then there is a last one, behind the others
+abbrev pub all_but_last : {X : Type 0} → List X → List X
+all_but_last xs = first_of (length xs - 1) xs
+
+pub cut_last : {X : Type 0} (xs : List X) → 0 < length xs → (x : X) × (xs ≡ all_but_last xs ++ x ∷ [])
+cut_last xs there =
+    let d = (cut_first xs there).0 in let n : length xs ≡ suc (length xs - 1) = omega arith in
+    (get_or xs (length xs - 1) d, sym (rows.take_all xs) ∙ (ap (λ k. first_of k xs) n ∙ rows.take_snoc xs (length xs - 1) d (omega arith)))
 
 -- where all n slots take fewer than 2 ^ 63 bytes, so does one, and slot i is within a word
 pub offset_fits : (i n size : ℕ) → i < n → n * size < 2 ^ 63 → (size < 2 ^ 64) × (i * size < 2 ^ 64)
@@ -149,6 +159,50 @@ module _ (E : El) {M : Type 1} {𝓤 : Ura M} (𝓛 : Logic 𝓤) (b o : ℕ) wh
       qed 𝓛 (‵ (fat full_share (elτ E) b (i * s + o) v) ∷ ‵ (Behind taken xs k) ∷ []) ∵
       use1 𝓛 (‵ (froom (elτ E) b (i * s + o))) (𝓛.laws.at_room (elτ E) b (i * s + o) v) $ rewrite ! 0 (λ (j : ℕ). ‵ (froom (elτ E) b (j * s + o))) is refl $
       use2 𝓛 (‵ (runs (R E) b o (suc taken) xs k)) (front_in taken xs k) $ rewrite ! 0 (λ (j : ℕ). ‵ (runs (R E) b o j xs k)) (sym (rows.one_more taken)) refl $ done !
+
+  -- the runs but for the last item, whose place is the first waiting one once it is taken out
+  back_out : (g : ℕ) (xs : List (el_x E)) (x : el_x E) (k : ℕ)
+      → ent 𝓤 (sem 𝓛 (runs (R E) b o g (xs ++ x ∷ []) k)) (sep 𝓤 (sem 𝓛 (part_at (R E) full_share x b ((g + length xs) * s + o))) (sem 𝓛 (Before g xs k)))
+  back_out g xs x k =
+      let from = g * s + o in let at = (g + length xs) * s + o in
+      let far : place s from (length xs) ≡ at = let sum = rows.add_times g (length xs) s in let is = place_is s from (length xs) in omega arith in
+      let long : (g + length (xs ++ x ∷ [])) * s + o ≡ suc (g + length xs) * s + o = let count : g + length (xs ++ x ∷ []) ≡ suc (g + length xs) = omega (arith, length-append xs (x ∷ [])) in ap (λ j. j * s + o) count in
+      qed 𝓛 (‵ (runs (R E) b o g (xs ++ x ∷ []) k) ∷ []) ∵ fsplit ! $
+      use1 𝓛 (‵ (items from xs) ⊛ ‵ (items (place s from (length xs)) (x ∷ []))) (rows.row_cut (as_rows E) 𝓛 full_share xs (x ∷ []) b from) $ split ! $
+      move ! (1 ∷ []) $ fsplit ! $ move ! (1 ∷ []) $ drop ! $ rewrite ! 0 (λ (j : ℕ). ‵ (part_at (R E) full_share x b j)) far refl $
+      move ! (2 ∷ []) $ fsplit ! $ move ! (1 ∷ []) $ rewrite ! 0 (λ (j : ℕ). ‵ (free k j)) long refl $
+      move ! (1 ∷ 0 ∷ []) $ fjoin ! $ move ! (2 ∷ 0 ∷ []) $ fjoin ! $ move ! (1 ∷ 0 ∷ []) $ done !
+
+  back_in : (g : ℕ) (xs : List (el_x E)) (k : ℕ)
+      → ent 𝓤 (sep 𝓤 (H.room (elτ E) b ((g + length xs) * s + o)) (sem 𝓛 (Before g xs k))) (sem 𝓛 (runs (R E) b o g xs (suc k)))
+  back_in g xs k =
+      let at = (g + length xs) * s + o in let next : suc (g + length xs) * s + o ≡ at + s = omega (arith, suc-mul (g + length xs) s) in
+      qed 𝓛 (‵ (froom (elτ E) b at) ∷ ‵ (Before g xs k) ∷ []) ∵ move ! (1 ∷ []) $ fsplit ! $ move ! (1 ∷ []) $ fsplit ! $ move ! (1 ∷ []) $
+      rewrite ! 0 (λ (j : ℕ). ‵ (free k j)) next refl $ as_written ! (ty_array (elτ E) k) b (at + s) $
+      move ! (3 ∷ 0 ∷ []) $ use2 𝓛 (‵ (froom (ty_array (elτ E) (suc k)) b at)) (𝓛.laws.room_cons (elτ E) k b at) $ as_raw ! (ty_array (elτ E) (suc k)) b at $
+      move ! (1 ∷ 0 ∷ []) $ fjoin ! $ move ! (1 ∷ 0 ∷ []) $ fjoin ! $ done !
+
+  -- the last item's machine value lies in slot i, and the slot is free once that is moved out
+  abbrev LastOut : ℕ → el_x E → ℕ → List (el_x E) → ℕ → Val → SProp 𝓤
+  LastOut i x taken xs k v = guard 𝓤 (Good E v) (sep 𝓤 (H.at full_share (elτ E) b (i * s + o) v) (sep 𝓤 (sem 𝓛 (E.row.own_val x (v ∷ []))) (sem 𝓛 (Before taken xs k))))
+
+  pub last_out : (i taken : ℕ) (xs : List (el_x E)) (there : 0 < length xs) (k : ℕ) → i + 1 ≡ taken + length xs
+      → ent 𝓤 (sem 𝓛 (runs (R E) b o taken xs k)) (ex 𝓤 (LastOut i (cut_last xs there).0 taken (all_but_last xs) k))
+  last_out i taken xs there k is =
+      let x = (cut_last xs there).0 in let rest = all_but_last xs in
+      let behind : taken + length rest ≡ i = omega (arith, ap length (cut_last xs there).1, length-append rest (x ∷ [])) in
+      qed 𝓛 (‵ (runs (R E) b o taken xs k) ∷ []) ∵ rewrite ! 0 (λ (ys : List (el_x E)). ‵ (runs (R E) b o taken ys k)) (cut_last xs there).1 refl $
+      use1 𝓛 (‵ (part_at (R E) full_share x b ((taken + length rest) * s + o)) ⊛ ‵ (Before taken rest k)) (back_out taken rest x k) $ split ! $
+      rewrite ! 0 (λ (n : ℕ). ‵ (part_at (R E) full_share x b (n * s + o))) behind refl $
+      use1 𝓛 (some (λ (v : Val). given (Good E v) (‵ (fat full_share (elτ E) b (i * s + o) v) ⊛ ‵ (E.row.own_val x (v ∷ []))))) (rows.el_out (as_rows E) 𝓛 full_share x b (i * s + o)) $
+      pick ! (λ v. learn ! (λ good. split ! $ show ! (LastOut i x taken rest k) v $ check ! good $ done !))
+
+  pub last_back : (i taken : ℕ) (xs : List (el_x E)) (k : ℕ) (v : Val) → i ≡ taken + length xs
+      → ent 𝓤 (sep 𝓤 (H.at full_share (elτ E) b (i * s + o) v) (sem 𝓛 (Before taken xs k))) (sem 𝓛 (runs (R E) b o taken xs (k + 1)))
+  last_back i taken xs k v is =
+      qed 𝓛 (‵ (fat full_share (elτ E) b (i * s + o) v) ∷ ‵ (Before taken xs k) ∷ []) ∵
+      use1 𝓛 (‵ (froom (elτ E) b (i * s + o))) (𝓛.laws.at_room (elτ E) b (i * s + o) v) $ rewrite ! 0 (λ (j : ℕ). ‵ (froom (elτ E) b (j * s + o))) is refl $
+      use2 𝓛 (‵ (runs (R E) b o taken xs (suc k))) (back_in taken xs k) $ rewrite ! 0 (λ (j : ℕ). ‵ (runs (R E) b o taken xs j)) (sym (rows.one_more k)) refl $ done !
 
   pub fresh : (n : ℕ) → ent 𝓤 (H.room (ty_array (elτ E) n) b o) (sem 𝓛 (runs (R E) b o 0 [] n))
   fresh n =

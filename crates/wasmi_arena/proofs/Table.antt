@@ -4,13 +4,13 @@ use Rattle.std.proofs.Math.Nat.{pow-succ', mul-le-mul_left}
 use Rattle.std.proofs.Math.ListN.{drop_of_length-le}
 use Rattle.std.proofs.Math.Seq.{drop-nil, take-set-lt}
 use Rattle.std.proofs.lemmas.Nat.{pow_pos}
-use Rattle.std.proofs.lemmas.List.{nil_from_length, take_all, take-append-drop, take-append-le, drop-append-le, drop-drop, length-take, length-set, take-set-le, drop-set-lt, drop-set-add, get_or_append_left, get_or-append_right, get_or-set_same, set-append_left, set-append_right, set-set}
+use Rattle.std.proofs.lemmas.List.{nil_from_length, take_all, take-append-drop, take-append-le, drop-append-le, drop-drop, drop-take, take-take, length-take, length-set, take-set-le, drop-set-lt, drop-set-add, get_or_append_left, get_or-append_right, get_or-set_same, set-append_left, set-append_right, set-set}
 use Rattle.std.specs.Iterator.{YieldsFirstRef, YieldsLastRef, MakesProgress, item_count}
 use Rattle.std.specs.Borrow.{Bor}
 use Rattle.std.specs.Slice.Iter.{iter_rest, iter_steps, iter_steps_back}
 use Rattle.std.specs.declared.slice.Iter.{Iter}
 use Rattle.wasmi_arena.specs.Bucket.{Bucket}
-use Rattle.wasmi_arena.specs.Table.{items_of, bucket_with, with_item, write, bucket_from, IsTable, AreFilled, IsAhead}
+use Rattle.wasmi_arena.specs.Table.{items_of, bucket_with, bucket_cut, with_item, write, bucket_from, IsTable, AreFilled, IsAhead}
 
 -- twice the width before is the width after
 mul-pow_suc : (width b : ℕ) → width * 2 ^ suc b ≡ 2 * width * 2 ^ b
@@ -94,6 +94,40 @@ module _ {T : Type 0} where
   bucket_from-set_high width i items item high some =
       bucket_from-some width (set items i item) (omega (arith, length-set items i item))
       ∙ (ap (λ (xs : List T). Some record { items = xs; capacity = width }) (take-set-le width items i item high) ∙ sym (bucket_from-some width items some))
+
+  -- the bucket of the last item loses it
+  bucket_cut-last : (width s : ℕ) (items : List T) → s < width → length items ≡ s + 1 → bucket_cut (bucket_from width items) s ≡ bucket_from width (take s items)
+  bucket_cut-last width s [] low counted = absurd (omega arith)
+  bucket_cut-last width zero (x ∷ xs) low counted = refl
+  bucket_cut-last width (suc s) (x ∷ xs) low counted =
+      let all = take_all width (x ∷ xs) (omega arith) in
+      let left = take_all width (x ∷ take s xs) (omega (arith, length-take s xs)) in
+      ap (λ (ys : List T). Some record { items = ys; capacity = width }) (ap (take (suc s)) all ∙ sym left)
+
+  -- a bucket before it stays as it is
+  bucket_from-take : (width i : ℕ) (items : List T) → 0 < width → width ≤ i → i < length items → bucket_from width (take i items) ≡ bucket_from width items
+  bucket_from-take width i items pos high there =
+      bucket_from-some width (take i items) (omega (arith, length-take i items))
+      ∙ (ap (λ (xs : List T). Some record { items = xs; capacity = width }) (take-take width i items high) ∙ sym (bucket_from-some width items (omega arith)))
+
+  -- the last item leaves its slot
+  pub IsTable-cut : (width b s i : ℕ) (items : List T) (buckets : List (Option (Bucket T))) → 0 < width → IsTable width items buckets → b < length buckets → s < width * 2 ^ b
+      → i + width ≡ width * 2 ^ b + s → length items ≡ i + 1 → IsTable width (take i items) (set buckets b (bucket_cut (get_or buckets b None) s))
+  IsTable-cut width b s i items [] pos table below slot at counted = absurd (omega arith)
+  IsTable-cut width zero s i items (bucket ∷ buckets) pos table below slot at counted =
+      let one : width * 2 ^ 0 ≡ width = omega arith in let same : i ≡ s = omega arith in let low : s < width = omega arith in
+      let none = drop_of_length-le items {i = width} (omega arith) in
+      let still = drop_of_length-le (take i items) {i = width} (omega (arith, length-take i items)) in
+      let rest = table.1 in
+      (rw (same, table.0) (bucket_cut-last width s items low (omega arith)), rw (still ∙ sym none) rest)
+  IsTable-cut width (suc b) s i items (bucket ∷ buckets) pos table below slot at counted =
+      let whole : 2 * width * 2 ^ b ≡ width * 2 ^ suc b = sym (mul-pow_suc width b) in
+      let high : width ≤ i = omega (arith, whole, mul-le-mul_left (2 * width) (pow_pos b)) in
+      let left = length-drop width items in let apart : i ≡ width + (i - width) = omega arith in
+      let rest = IsTable-cut (2 * width) b s (i - width) (drop width items) buckets (omega arith) table.1 (omega arith) (omega arith) (omega arith) (omega arith) in (
+        table.0 ∙ sym (bucket_from-take width i items pos high (omega arith)),
+        subst (λ (xs : List T). IsTable (2 * width) xs (set buckets b (bucket_cut (get_or buckets b None) s))) (sym (ap (λ n. drop width (take n items)) apart ∙ drop-take width (i - width) items)) rest,
+      )
 
   -- an item is exchanged in its slot
   pub IsTable-write : (width b s i : ℕ) (items : List T) (buckets : List (Option (Bucket T))) (item : T) → 0 < width → IsTable width items buckets → b < length buckets → s < width * 2 ^ b

@@ -4,7 +4,7 @@ use Rattle.std.specs.List.{swap}
 use Rattle.wasmi_arena.specs.Keys.{Keys}
 use Rattle.wasmi_arena.specs.Geometry.{max_len, room}
 use Rattle.wasmi_arena.specs.declared.error.ArenaError.{ArenaError}
-use Rattle.wasmi_arena.specs.declared.error.ArenaError.TheVariants.{OutOfSystemMemory, KeyOutOfBounds, NotEnoughKeys, AliasingPairAccess}
+use Rattle.wasmi_arena.specs.declared.error.ArenaError.TheVariants.{OutOfSystemMemory, KeyOutOfBounds, NotEnoughKeys, AliasingPairAccess, DuplicateItem}
 use Rattle.wasmi_arena.specs.declared.run.ArenaCommand.{ArenaCommand}
 use Rattle.wasmi_arena.specs.declared.run.ArenaCommand.TheVariants.{Alloc, Has, Put, Swap}
 use Rattle.wasmi_arena.specs.declared.run.ArenaReply.{ArenaReply}
@@ -76,6 +76,7 @@ module _ {K T : Type 0} (keys : Keys K) (limit : ℕ) where
   RefusesItem old OutOfSystemMemory = (length old.items < limit) × (old.room ≡ 0)
   RefusesItem old KeyOutOfBounds = ⊥
   RefusesItem old AliasingPairAccess = ⊥
+  RefusesItem old DuplicateItem = ⊥
 
   -- an item makes way for another, and is handed back
   pub record PutsItem (old : ArenaState T) (key : K) (item there : T) (new : ArenaState T)
@@ -101,6 +102,7 @@ module _ {K T : Type 0} (keys : Keys K) (limit : ℕ) where
       (length old.items ≤ keys.number first) ⊎ (length old.items ≤ keys.number second)
   RefusesSwap old first second OutOfSystemMemory = ⊥
   RefusesSwap old first second NotEnoughKeys = ⊥
+  RefusesSwap old first second DuplicateItem = ⊥
 
   -- from old, the arena may give this reply to the command and go on to new
   abbrev pub ArenaStep : ArenaState T → ArenaCommand K T → ArenaReply K T → ArenaState T → Type 0

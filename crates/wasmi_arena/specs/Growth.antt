@@ -4,7 +4,7 @@ use Rattle.std.specs.List.{All}
 use Rattle.std.specs.Iterator.{Drains, YieldsThen}
 use Rattle.wasmi_arena.specs.Geometry.{room}
 use Rattle.wasmi_arena.specs.declared.error.ArenaError.{ArenaError}
-use Rattle.wasmi_arena.specs.declared.error.ArenaError.TheVariants.{OutOfSystemMemory, KeyOutOfBounds, NotEnoughKeys, AliasingPairAccess}
+use Rattle.wasmi_arena.specs.declared.error.ArenaError.TheVariants.{OutOfSystemMemory, KeyOutOfBounds, NotEnoughKeys, AliasingPairAccess, DuplicateItem}
 
 -- why one more item is refused by a vector or a stable arena that has n items and holds at most
 -- `limit`: it is full, or it isn't but has no room and got no memory
@@ -13,6 +13,7 @@ RefusesOneMore limit n NotEnoughKeys = limit ≤ n
 RefusesOneMore limit n OutOfSystemMemory = (n < limit) × (room n ≡ 0)
 RefusesOneMore limit n KeyOutOfBounds = ⊥
 RefusesOneMore limit n AliasingPairAccess = ⊥
+RefusesOneMore limit n DuplicateItem = ⊥
 
 -- what is made an iterator by `becomes`, which then steps by `steps`
 module _ {U S T : Type 0} (becomes : U → S → Type 0) (steps : S → Option T → S → Type 0) where

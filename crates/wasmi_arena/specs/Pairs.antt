@@ -2,7 +2,7 @@
 use Rattle.std.specs.Prelude.{◌≡◌, ◌≢◌, ◌≤◌, ◌⊎◌, ℕ, List, [], ◌∷◌, length, Result, Ok, Err, slice_get, Some}
 use Rattle.std.specs.Borrow.{MutBor}
 use Rattle.wasmi_arena.specs.declared.error.ArenaError.{ArenaError}
-use Rattle.wasmi_arena.specs.declared.error.ArenaError.TheVariants.{OutOfSystemMemory, KeyOutOfBounds, NotEnoughKeys, AliasingPairAccess}
+use Rattle.wasmi_arena.specs.declared.error.ArenaError.TheVariants.{OutOfSystemMemory, KeyOutOfBounds, NotEnoughKeys, AliasingPairAccess, DuplicateItem}
 
 module _ {R : Type 0} (items : List R) (first second : ℕ) where
   -- the two items, or why not
@@ -12,6 +12,7 @@ module _ {R : Type 0} (items : List R) (first second : ℕ) where
   PairAnswer (Err KeyOutOfBounds) = (first ≢ second) × ((length items ≤ first) ⊎ (length items ≤ second))
   PairAnswer (Err OutOfSystemMemory) = ⊥
   PairAnswer (Err NotEnoughKeys) = ⊥
+  PairAnswer (Err DuplicateItem) = ⊥
 
 -- these are the numbers of two keys
 abbrev pub AreNumbers : {K : Type 0} → (K → ℕ) → List K → ℕ → ℕ → Type 0

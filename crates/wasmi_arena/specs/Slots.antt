@@ -1,5 +1,5 @@
 -- What the calls on the slots of a block do to them. No public clause cites this module.
-use Rattle.std.specs.Prelude.{◌≡◌, ℕ, ◌+◌, ◌-◌, List, [], ◌∷◌, ◌++◌, drop}
+use Rattle.std.specs.Prelude.{◌≡◌, ℕ, ◌+◌, ◌-◌, List, [], ◌∷◌, ◌++◌, drop, take, length}
 use Rattle.wasmi_arena.specs.declared.block.BlockPtr.{BlockPtr}
 use Rattle.wasmi_arena.specs.declared.block.Slots.{Slots}
 use Rattle.wasmi_arena.specs.declared.block.DeallocRight.{DeallocRight}
@@ -15,6 +15,10 @@ with_last s item = record { marker = s.marker; block = s.block; taken = s.taken;
 -- the first item is taken out
 abbrev pub without_first : {T : Type 0} → Slots T → Slots T
 without_first s = record { marker = s.marker; block = s.block; taken = s.taken + 1; items = drop 1 s.items; free = s.free }
+
+-- the last item is taken out
+abbrev pub without_last : {T : Type 0} → Slots T → Slots T
+without_last s = record { marker = s.marker; block = s.block; taken = s.taken; items = take (length s.items - 1) s.items; free = s.free + 1 }
 
 module _ {T A : Type 0} (ptr : BlockPtr T) (slots : Slots T) (right : DeallocRight T A) (count : ℕ) (alloc : A) where
   -- the pointer and the right are those of the block of these slots

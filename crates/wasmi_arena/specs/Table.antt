@@ -1,6 +1,6 @@
 -- How a stable vector lays out its items: in a table of buckets, each open or not. No public clause
 -- cites this module.
-use Rattle.std.specs.Prelude.{◌≡◌, ℕ, ◌+◌, ◌*◌, ◌<◌, ◌≤◌, List, [], ◌∷◌, ◌++◌, length, take, drop, slice_set, slice_index_or, Option, Some, None}
+use Rattle.std.specs.Prelude.{◌≡◌, ℕ, zero, suc, ◌+◌, ◌*◌, ◌<◌, ◌≤◌, List, [], ◌∷◌, ◌++◌, length, take, drop, slice_set, slice_index_or, Option, Some, None}
 use Rattle.std.specs.List.{refill}
 use Rattle.wasmi_arena.specs.Geometry.{start, max_len, fewest}
 use Rattle.wasmi_arena.specs.Bucket.{Bucket}
@@ -21,6 +21,13 @@ module _ {T : Type 0} where
   abbrev pub bucket_with : ℕ → Option (Bucket T) → T → Option (Bucket T)
   bucket_with capacity bucket item =
       Some record { items = items_in bucket ++ item ∷ []; capacity = capacity }
+
+  -- a bucket that keeps the items before a slot, and is closed where there are none
+  abbrev pub bucket_cut : Option (Bucket T) → ℕ → Option (Bucket T)
+  bucket_cut None slot = None
+  bucket_cut (Some bucket) zero = None
+  bucket_cut (Some bucket) (suc slot) =
+      Some record { items = take (suc slot) bucket.items; capacity = bucket.capacity }
 
   -- a bucket with another item in a filled slot
   abbrev pub with_item : Option (Bucket T) → ℕ → T → Option (Bucket T)

@@ -1,5 +1,5 @@
 //! The buckets of a stable vector.
-ghost use Rattle.std.specs.Prelude.{◌≡◌, ◌^◌, ◌<◌, [], ◌∷◌, ◌++◌, length, slice_get, Some, IfOk, IsOk};
+ghost use Rattle.std.specs.Prelude.{◌≡◌, ◌^◌, ◌+◌, ◌<◌, [], ◌∷◌, ◌++◌, length, take, slice_get, Some, IfOk, IsOk};
 ghost use Rattle.std.specs.Borrow.{sem};
 ghost use Rattle.std.specs.Mem.{type_size};
 ghost use Rattle.wasmi_arena.specs.Bucket.{bucket};
@@ -74,6 +74,16 @@ impl<T, A: Allocator> Bucket<T, A> {
     {
         self.slots.write(self.ptr, slot, item);
         self.len = slot + 1;
+    }
+
+    // Takes the item out of the last filled slot, which is `slot`. Constant time.
+    pub(crate) fn pop(&mut self, slot: usize) -> T
+        requires { length self.old.items ≡ slot + 1 }
+        ensures rest { self.new ≡ bucket (take slot self.old.items) self.old.capacity }
+        ensures item { slice_get self.old.items slot ≡ Some result }
+    {
+        self.len = slot;
+        self.slots.take_last(self.ptr, slot)
     }
 
     /// The items of the filled slots, in order. Constant time.

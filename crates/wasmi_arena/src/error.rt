@@ -18,6 +18,8 @@ pub enum ArenaError {
     NotEnoughKeys,
     /// Two references to one item were asked for.
     AliasingPairAccess,
+    /// The item is in the arena under another key.
+    DuplicateItem,
 }
 
 impl ArenaError {
@@ -30,6 +32,7 @@ impl ArenaError {
             ArenaError::KeyOutOfBounds => "encounteded out of bounds key",
             ArenaError::NotEnoughKeys => "ran out of valid keys",
             ArenaError::AliasingPairAccess => "tried to access aliasing item pair",
+            ArenaError::DuplicateItem => "item is already in the arena",
         }
     }
 }

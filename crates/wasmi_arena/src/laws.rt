@@ -1,9 +1,12 @@
 //! Laws: what the definitions of `specs/` tell, and what derived calls do, as contracts of functions.
 ghost use Rattle.std.specs.Prelude.{◌≡◌, ℕ, ◌+◌, ◌*◌, ◌<◌, ◌≤◌, [], ◌∷◌, List, length, map, slice_get, IsSomeAnd, IsTrue, ◌↔◌, Ok, ◌≢◌, ◌⊎◌, take, Some};
-ghost use Rattle.std.specs.List.{flat_map};
+ghost use Rattle.std.specs.Borrow.{Bor};
+ghost use Rattle.std.specs.Iterator.{Yields, YieldsFirst, YieldsFirstBy};
+ghost use Rattle.std.specs.List.{flat_map, range_with_len};
 ghost use Rattle.wasmi_arena.specs.Geometry.{size, start, max_len, IsPlace, IsFewest, fewest, slots, room, bucket_of, slot_of};
 ghost use Rattle.wasmi_arena.specs.StableVec.{bucket_at, filled_parts};
-ghost use Rattle.wasmi_arena.specs.Arena.{arena_limit, allocs_in, ArenaRun, NoneLacksMemory, EqualKeysRead};
+ghost use Rattle.wasmi_arena.specs.Entries.{entries};
+ghost use Rattle.wasmi_arena.specs.Arena.{arena_limit, stable_limit, allocs_in, ArenaRun, NoneLacksMemory, EqualKeysRead};
 ghost use Rattle.wasmi_arena.specs.declared.run.ArenaCommand.{ArenaCommand};
 
 use crate::{AnyArena, ArenaError, ArenaKey, ArenaReply, StableArena, StableVec};
@@ -87,6 +90,37 @@ pub fn item_is_in_its_slot<T>()
 pub fn slices_are_the_items<T>()
     ensures { (items : List T) → length items ≤ max_len
         → flat_map (λ part. part) (filled_parts items) ≡ items }
+{}
+
+/// The entry at a position is the item there under the key of that number, which reads it.
+pub fn entries_read<Key: ArenaKey, T>()
+    ensures { (items : List T) (n : ℕ) (entry : Key × T) → length items ≤ Key.keys.count
+        → slice_get (entries Key.keys items) n ≡ Some entry
+        → (n < length items) × (Key.keys.number entry.0 ≡ n) × (slice_get items n ≡ Some entry.1) }
+{}
+
+/// A `for` over an arena, or over its `iter`, gives keys that read: it began with the entries of the
+/// arena, gave some of them, and gives this one next.
+pub fn walked_entries_read<Key: ArenaKey, T>()
+    ensures within { (items : List T) (start : List (Key × T)) (seen : List (Key × Bor T)) (key : Key) (item : T)
+        (now left : List (Key × T)) → length items ≤ stable_limit Key.keys
+        → start ≡ entries Key.keys items
+        → Yields (YieldsFirstBy (λ entry. (entry.0, entry.1.now)) (λ entries. entries)) start seen now
+        → now ≡ (key, item) ∷ left → Key.keys.number key < length items }
+    ensures reads { (items : List T) (start : List (Key × T)) (seen : List (Key × Bor T)) (key : Key) (item : T)
+        (now left : List (Key × T)) → length items ≤ stable_limit Key.keys
+        → start ≡ entries Key.keys items
+        → Yields (YieldsFirstBy (λ entry. (entry.0, entry.1.now)) (λ entries. entries)) start seen now
+        → now ≡ (key, item) ∷ left → slice_get items (Key.keys.number key) ≡ Some item }
+{}
+
+/// A `for` over the keys of n items gives keys that read: it began with these keys, gave some of them,
+/// and gives this one next.
+pub fn walked_keys_read<Key: ArenaKey>()
+    ensures { (n : ℕ) (start seen : List Key) (key : Key) (now left : List Key) → n ≤ stable_limit Key.keys
+        → start ≡ map Key.keys.key (range_with_len 0 n)
+        → Yields (YieldsFirst (λ keys. keys)) start seen now
+        → now ≡ key ∷ left → Key.keys.number key < n }
 {}
 
 /// An arena with room r refuses none of the first r `Alloc` commands of a run for memory.

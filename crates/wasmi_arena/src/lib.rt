@@ -3,6 +3,7 @@
 #![tactic(auto)]
 
 mod any_arena;
+mod arena_keys;
 mod block;
 mod bucket;
 mod bucket_table;
@@ -14,6 +15,7 @@ mod stable_arena;
 mod stable_vec;
 
 pub use any_arena::AnyArena;
+pub use arena_keys::ArenaKeys;
 pub use bucket::Bucket;
 // A crate above can name a bucket in a contract only if it reaches the types of its fields.
 #[doc(hidden)]

@@ -12,6 +12,7 @@ mod grow;
 mod iter;
 mod iter_mut;
 mod pairs;
+mod whole;
 
 use crate::{ArenaError, ArenaKey, Bucket, ItemsLoan, MAX_LEN, StableVec, StableVecIterMut};
 pub use iter::StableArenaIter;

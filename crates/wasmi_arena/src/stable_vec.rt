@@ -12,7 +12,9 @@ ghost use Rattle.wasmi_arena.specs.Table.{items_in, bucket_with, HasBuckets};
 
 mod compared;
 mod defaults;
+mod ends;
 mod grow;
+mod index;
 mod iter;
 mod iter_mut;
 mod pairs;

@@ -51,6 +51,11 @@ fn texts_of_the_errors(rt: HostRuntime) -> Result<(), Fail> {
             "tried to access aliasing item pair",
             "AliasingPairAccess",
         ),
+        (
+            ArenaError::DuplicateItem,
+            "item is already in the arena",
+            "DuplicateItem",
+        ),
     ] {
         assert_equal!(rt; error.text(), text);
         let shown = format!(in rt.alloc(); "{error}")?;

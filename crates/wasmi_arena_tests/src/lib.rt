@@ -12,6 +12,8 @@ mod clones;
 #[cfg(test)]
 mod compared;
 #[cfg(test)]
+mod ends;
+#[cfg(test)]
 mod growth;
 #[cfg(test)]
 mod heap;

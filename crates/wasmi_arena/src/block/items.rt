@@ -1,7 +1,7 @@
 //! The items in the slots of a block: one goes in, one comes out, all are lent as a slice.
-ghost use Rattle.std.specs.Prelude.{◌≡◌, ◌+◌, ◌<◌, ◌∷◌, length, slice_get, Some};
+ghost use Rattle.std.specs.Prelude.{◌≡◌, ◌+◌, ◌<◌, [], ◌∷◌, ◌++◌, length, slice_get, Some};
 ghost use Rattle.std.specs.Borrow.{sem};
-ghost use Rattle.wasmi_arena.specs.Slots.{with_last, without_first};
+ghost use Rattle.wasmi_arena.specs.Slots.{with_last, without_first, without_last};
 ghost use Rattle.wasmi_arena.specs.SlotsLend.{lends_items, lends_item};
 
 use super::{BlockPtr, Slots};
@@ -25,6 +25,17 @@ impl<T> Slots<T> {
         requires some { 0 < length self.old.items }
         ensures item { self.old.items ≡ result ∷ self.new.items }
         ensures slots { self.new ≡ without_first self.old }
+    {
+        unsafe { ptr.start.add(slot).read() }
+    }
+
+    /// Takes the last item out of its slot, which is `slot`, and is free then.
+    pub(crate) fn take_last(&mut self, ptr: BlockPtr<T>, slot: usize) -> T
+        requires block { ptr.start ≡ self.old.block }
+        requires last { slot + 1 ≡ self.old.taken + length self.old.items }
+        requires some { 0 < length self.old.items }
+        ensures item { self.old.items ≡ self.new.items ++ result ∷ [] }
+        ensures slots { self.new ≡ without_last self.old }
     {
         unsafe { ptr.start.add(slot).read() }
     }

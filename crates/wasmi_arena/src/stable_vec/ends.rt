@@ -1,0 +1,95 @@
+//! The first and the last item of a stable vector: read, taken off, and all let go.
+ghost use Rattle.std.specs.Prelude.{◌≡◌, ◌↔◌, ◌+◌, ◌-◌, ◌<◌, [], ◌++◌, length, take, option_copied, option_to_list, slice_get, slice_index_or, slice_set, IsSome, Some, None};
+ghost use Rattle.wasmi_arena.specs.Geometry.{IsPlace, fewest};
+ghost use Rattle.wasmi_arena.specs.Table.{items_in, bucket_cut};
+
+use super::start_of;
+use crate::{Bucket, BucketTable, StableVec};
+use std::alloc::Allocator;
+use std::array;
+
+// How many buckets the items before an index need, which has this place.
+fn buckets_before(_index: usize, place: (usize, usize)) -> usize
+    requires { IsPlace _index place.0 place.1 }
+    ensures { result ≡ fewest _index }
+{
+    if place.1 == 0 { place.0 } else { place.0 + 1 }
+}
+
+// Takes the item out of the last filled slot of an open bucket, which is closed if it was the only one.
+fn pop_from<T: Drop, A: Allocator>(buckets: &mut [Option<Bucket<T, A>>], place: (usize, usize)) -> T
+    requires in_table { place.0 < length buckets.old }
+    requires last { length (items_in (slice_index_or buckets.old place.0 None)) ≡ place.1 + 1 }
+    ensures bucket { buckets.new ≡ slice_set buckets.old place.0
+        (bucket_cut (slice_index_or buckets.old place.0 None) place.1) }
+    ensures item { slice_get (items_in (slice_index_or buckets.old place.0 None)) place.1 ≡ Some result }
+{
+    if place.1 == 0 {
+        match buckets[place.0].take() {
+            Some(mut emptied) => emptied.pop(0),
+            None => unreachable!(),
+        }
+    } else {
+        match &mut buckets[place.0] {
+            Some(open) => open.pop(place.1),
+            None => unreachable!(),
+        }
+    }
+}
+
+impl<T, A: Allocator> StableVec<T, A> {
+    /// The first item, if there is one. Constant time.
+    pub fn first(&self) -> Option<&T>
+        ensures { option_copied result ≡ slice_get self.now 0 }
+    {
+        self.get(0)
+    }
+
+    /// The last item, if there is one. Constant time.
+    pub fn last(&self) -> Option<&T>
+        ensures { option_copied result ≡ slice_get self.now (length self.now - 1) }
+    {
+        match self.len().checked_sub(1) {
+            Some(index) => self.get(index),
+            None => None,
+        }
+    }
+
+    /// Takes the last item out, or returns `None` if there is none.
+    ///
+    /// No item moves. Constant time, but a bucket whose only item it takes is closed, so that there
+    /// are still the fewest buckets: pushing and popping in turn there opens and closes it each time.
+    pub fn pop(&mut self) -> Option<T>
+    where
+        T: Drop,
+        ensures items { self.old ≡ self.new ++ option_to_list result }
+        ensures some { IsSome result ↔ (0 < length self.old) }
+        ensures value { result ≡ slice_get self.old (length self.old - 1) }
+        ensures rest { self.new ≡ take (length self.old - 1) self.old }
+    {
+        if self.len == 0 {
+            return None;
+        }
+        let last = self.len - 1;
+        let place = StableVec::<T>::place(last);
+        let item = pop_from(&mut self.table.buckets[..], place);
+        self.open_buckets = buckets_before(last, place);
+        self.slots = start_of(self.open_buckets);
+        self.len = last;
+        Some(item)
+    }
+
+    /// Drops the items, first to last, and closes the buckets. The allocator stays. Linear.
+    pub fn clear(&mut self)
+    where
+        T: Drop,
+        ensures { self.new ≡ [] }
+    {
+        self.table = BucketTable {
+            buckets: array::from_fn(|_| None),
+        };
+        self.open_buckets = 0;
+        self.slots = 0;
+        self.len = 0;
+    }
+}

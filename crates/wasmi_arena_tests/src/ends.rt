@@ -1,0 +1,147 @@
+//! What is taken off the end of vectors and arenas, put at an index, and let go at once.
+use super::vectors::counted;
+use std::cell::Cell;
+use std::num::NonZero;
+use std::test::Fail;
+use wasmi_arena::{ArenaError, StableArena, StableVec};
+use wasmi_vectors::assert_equal;
+use wasmi_vectors::counted::{Counted, counts, each_is};
+use wasmi_vectors::observed::{Log, Observed};
+
+// The 33rd item is the first of the second bucket, which each pop of it closes.
+#[test]
+fn a_pop_at_the_edge_closes_a_bucket(rt: HostRuntime) -> Result<(), Fail> {
+    let log = Log::new();
+    let drops = counts(rt.alloc(), 34)?;
+    {
+        let mut vec = StableVec::new(Observed::new(rt.alloc(), &log));
+        for count in &drops {
+            vec.push(Counted::new(count))?;
+        }
+        for (len, open, slots, returned) in [(33, 2, 96, 0), (32, 1, 32, 1), (31, 1, 32, 1)] {
+            let item = vec.pop();
+            assert!(rt; item.is_some());
+            assert_equal!(rt; (vec.len(), vec.open_buckets(), vec.slots()), (len, open, slots));
+            assert_equal!(rt; log.returned(), returned, "at {len}");
+        }
+        assert_equal!(rt; drops.iter().filter(|count| count.get() == 1).count(), 3);
+        for _ in 0..31 {
+            let _item = vec.pop();
+        }
+        assert_equal!(rt; (vec.len(), vec.open_buckets(), vec.slots()), (0, 0, 0));
+        assert!(rt; each_is(&drops, 1));
+        assert!(rt; vec.pop().is_none());
+        assert_equal!(rt; (log.requests(), log.returned()), (2, 2));
+    }
+    assert!(rt; each_is(&drops, 1));
+    assert_equal!(rt; (log.given(), log.returned(), log.misplaced()), (2, 2, 0));
+    Ok(())
+}
+
+#[test]
+fn popped_items_come_from_the_end(rt: HostRuntime) -> Result<(), Fail> {
+    let mut vec = counted(rt.alloc(), 98)?;
+    for wanted in [97, 96, 95, 94] {
+        assert_equal!(rt; (vec.first(), vec.last()), (Some(&0), Some(&wanted)));
+        assert_equal!(rt; vec.pop(), Some(wanted));
+    }
+    assert_equal!(rt; vec.push(7)?, 94);
+    assert_equal!(rt; (vec.get(93), vec.last(), vec.open_buckets()), (Some(&93), Some(&7), 2));
+    let none: StableVec<u32> = StableVec::new(rt.alloc());
+    assert_equal!(rt; (none.first(), none.last()), (None, None));
+    Ok(())
+}
+
+#[test]
+fn a_cleared_vector_gives_its_blocks_back(rt: HostRuntime) -> Result<(), Fail> {
+    let log = Log::new();
+    let drops = counts(rt.alloc(), 100)?;
+    let after = Cell::new(0);
+    {
+        let mut vec = StableVec::new(Observed::new(rt.alloc(), &log));
+        for count in &drops {
+            vec.push(Counted::new(count))?;
+        }
+        vec.clear();
+        assert!(rt; each_is(&drops, 1));
+        assert_equal!(rt; (vec.len(), vec.open_buckets(), vec.slots()), (0, 0, 0));
+        assert_equal!(rt; (log.given(), log.returned()), (3, 3));
+        assert_equal!(rt; vec.push(Counted::new(&after))?, 0);
+        assert_equal!(rt; (vec.open_buckets(), after.get()), (1, 0));
+    }
+    assert_equal!(rt; after.get(), 1);
+    assert!(rt; each_is(&drops, 1));
+    assert_equal!(rt; (log.given(), log.returned(), log.misplaced()), (4, 4, 0));
+    Ok(())
+}
+
+#[test]
+fn items_by_index(rt: HostRuntime) -> Result<(), Fail> {
+    let mut vec = counted(rt.alloc(), 40)?;
+    if vec.len() > 39 {
+        vec[32] = 7;
+        vec[0] = 9;
+        assert_equal!(rt; (vec[0], vec[1], vec[31], vec[32], vec[39]), (9, 1, 31, 7, 39));
+    }
+    assert_equal!(rt; vec.put(39, 8), Ok(39));
+    assert_equal!(rt; vec.put(40, 8), Err(ArenaError::KeyOutOfBounds));
+    assert_equal!(rt; (vec.get(38), vec.get(39), vec.len()), (Some(&38), Some(&8), 40));
+    Ok(())
+}
+
+#[test]
+fn an_item_that_is_put_past_the_end_is_dropped(rt: HostRuntime) -> Result<(), Fail> {
+    let (first, second, third) = (Cell::new(0), Cell::new(0), Cell::new(0));
+    {
+        let mut vec = StableVec::new(rt.alloc());
+        vec.push(Counted::new(&first))?;
+        let old = vec.put(0, Counted::new(&second)).ok();
+        assert!(rt; old.is_some());
+        assert!(rt; vec.put(1, Counted::new(&third)).is_err());
+        assert_equal!(rt; (first.get(), second.get(), third.get()), (0, 0, 1));
+    }
+    assert_equal!(rt; (first.get(), second.get(), third.get()), (1, 1, 1));
+    Ok(())
+}
+
+#[test]
+fn keys_and_values_of_an_arena(rt: HostRuntime) -> Result<(), Fail> {
+    let mut arena: StableArena<NonZero<u32>, u32> = StableArena::new(rt.alloc());
+    assert_equal!(rt; (arena.keys().len(), arena.last()), (0, None));
+    for i in 0..40 {
+        arena.alloc(i)?;
+    }
+    let mut keys = arena.keys();
+    assert_equal!(rt; keys.next().map(|key| key.get()), Some(1));
+    assert_equal!(rt; keys.next_back().map(|key| key.get()), Some(40));
+    assert_equal!(rt; (keys.len(), arena.last()), (38, Some(&39)));
+    // The arena is written to while its keys are walked.
+    for key in keys {
+        assert_equal!(rt; arena.put(key, 7), Ok(key.get() - 1));
+    }
+    let mut values = arena.values();
+    assert_equal!(rt; (values.next(), values.next_back(), values.len()), (Some(&0), Some(&39), 38));
+    assert!(rt; values.all(|item| *item == 7));
+    Ok(())
+}
+
+#[test]
+fn a_cleared_arena_begins_anew(rt: HostRuntime) -> Result<(), Fail> {
+    let log = Log::new();
+    let drops = counts(rt.alloc(), 40)?;
+    {
+        let mut arena: StableArena<u32, Counted<'_>, Observed<'_>> = StableArena::new(Observed::new(
+            rt.alloc(),
+            &log,
+        ));
+        for count in &drops {
+            arena.alloc(Counted::new(count))?;
+        }
+        arena.clear();
+        assert!(rt; each_is(&drops, 1));
+        assert_equal!(rt; (arena.len(), arena.room(), log.returned()), (0, 0, 2));
+        assert_equal!(rt; arena.next_key(), Ok(0));
+    }
+    assert_equal!(rt; (log.given(), log.returned(), log.misplaced()), (2, 2, 0));
+    Ok(())
+}
