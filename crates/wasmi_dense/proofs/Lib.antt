@@ -2,3 +2,4 @@ pub mod ArenaLoans
 pub mod ArenaPairs
 pub mod PairLoans
 mod Components
+pub mod ComponentEntries

@@ -63,7 +63,7 @@ module _ {M : Type 1} {𝓤 : Ura M} (𝓛 : Logic 𝓤) (κ : Lft) (Z : RattleT
   pair_lawful = record { typed = λ pair vs p. (Struct-Lawful 𝓛 (Declared.shape (tuple_type (MutRef (named 0) κ Z ∷ MutRef (named 0) κ Z ∷ []))) (mut_Lawful 𝓛 (named 0) κ Z, (mut_Lawful 𝓛 (named 0) κ Z, tt))).typed (pair.0, (pair.1, tt)) vs p }
 
   error_lawful : Lawful 𝓛 Error.the_row
-  error_lawful = record { typed = λ e vs p. (Enum-Lawful 𝓛 (shape Error.the_type) tt (tt, (tt, (tt, (tt, tt))))).typed ((Error.the_type).to e) vs p }
+  error_lawful = record { typed = λ e vs p. (Enum-Lawful 𝓛 (shape Error.the_type) tt (tt, (tt, (tt, (tt, (tt, tt)))))).typed ((Error.the_type).to e) vs p }
 
   pub good : (r : (Res.the_row Pair Error.the_row).Denot) (v : Val) → Is (Res.the_row Pair Error.the_row) r (v ∷ []) → T (has_ty (layout (Res.the_row Pair Error.the_row)) v) × WT v
   good r v is = ((Enum-Lawful 𝓛 (shape (Res.the_type Pair Error.the_row)) tt ((pair_lawful, tt), ((error_lawful, tt), tt))).typed ((Res.the_type Pair Error.the_row).to r) (v ∷ []) is).0

@@ -2,7 +2,7 @@
 use Rattle.std.specs.Prelude.{ℕ, ◌<◌, ◌≤◌, List, length, Option}
 use Rattle.wasmi_arena.specs.Growth.{TakesUpTo}
 use Rattle.wasmi_arena.specs.declared.error.ArenaError.{ArenaError}
-use Rattle.wasmi_arena.specs.declared.error.ArenaError.TheVariants.{OutOfSystemMemory, KeyOutOfBounds, NotEnoughKeys, AliasingPairAccess}
+use Rattle.wasmi_arena.specs.declared.error.ArenaError.TheVariants.{OutOfSystemMemory, KeyOutOfBounds, NotEnoughKeys, AliasingPairAccess, DuplicateItem}
 
 -- why one more item is refused by an arena of n items that holds at most `limit`: it is full, or it
 -- isn't but got no memory. Its room isn't told.
@@ -11,6 +11,7 @@ RefusesOneMore limit n NotEnoughKeys = limit ≤ n
 RefusesOneMore limit n OutOfSystemMemory = n < limit
 RefusesOneMore limit n KeyOutOfBounds = ⊥
 RefusesOneMore limit n AliasingPairAccess = ⊥
+RefusesOneMore limit n DuplicateItem = ⊥
 
 -- what is made an iterator by `becomes`, which then steps by `steps`: its items went in at the end, in
 -- order, up to one that was refused

@@ -1,6 +1,6 @@
 -- What a contract sees of a component vector: at each number below its extent a component, or
 -- nothing. So it is a finite map from numbers to components, and an extent above them all.
-use Rattle.std.specs.Prelude.{◌≡◌, ◌≢◌, ℕ, List, length, Option, Some, None, slice_index_or, slice_set}
+use Rattle.std.specs.Prelude.{◌≡◌, ◌≢◌, ℕ, List, length, Option, Some, None, slice_index_or, slice_set, ⊤}
 
 module _ {T : Type 0} where
   -- the component at a number, if there is one. There is none from the extent on
@@ -20,3 +20,11 @@ module _ {T : Type 0} where
   -- the same components, with this one at a number below the extent
   abbrev pub with_component : List (Option T) → ℕ → T → List (Option T)
   with_component slots number last = slice_set slots number (Some last)
+
+  -- a place has a clone of what another has, or nothing where that has nothing. `clones` says which are
+  -- clones of which
+  abbrev pub IsCloneOf : (T → T → Type 0) → Option T → Option T → Type 0
+  IsCloneOf clones None None = ⊤
+  IsCloneOf clones (Some source) (Some clone) = clones source clone
+  IsCloneOf clones None (Some clone) = ⊥
+  IsCloneOf clones (Some source) None = ⊥

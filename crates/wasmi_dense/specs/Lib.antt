@@ -6,3 +6,5 @@ pub mod Components
 pub mod ComponentsLend
 pub mod ComponentLaws
 pub mod ArenaPair
+pub mod ComponentEntries
+pub mod ComponentLoan

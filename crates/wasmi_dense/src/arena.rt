@@ -6,10 +6,12 @@ ghost use Rattle.wasmi_arena.specs.Entries.{entries};
 mod any;
 mod compared;
 mod grow;
+mod into_iter;
 mod iter;
 mod iter_mut;
 mod pairs;
 
+pub use into_iter::IntoIter;
 pub use iter::Iter;
 pub use iter_mut::IterMut;
 use std::alloc::{Allocator, Global};
@@ -55,6 +57,21 @@ impl<Key: ArenaKey, T, A: Allocator> Arena<Key, T, A> {
             items: Vec::new(alloc),
             keys: PhantomData,
         }
+    }
+
+    /// An empty arena with room for `capacity` items. One request for memory, or none where `capacity` is 0.
+    ///
+    /// Fails with `OutOfSystemMemory` if there is no memory for that room.
+    pub fn with_capacity(alloc: A, capacity: usize) -> Result<Self, ArenaError>
+        ensures items { IfOk result (λ arena. arena.items ≡ []) }
+        ensures room { IfOk result (λ arena. arena.room ≡ capacity) }
+        ensures none { capacity ≡ 0 → IsOk result }
+        ensures errors { IsOkUnless result ArenaError.OutOfSystemMemory }
+    {
+        Ok(Arena {
+            items: Vec::with_capacity(alloc, capacity)?,
+            keys: PhantomData,
+        })
     }
 
     /// The number of items. Constant time.

@@ -1,10 +1,17 @@
 //! Components of entities, by key.
-ghost use Rattle.std.specs.Prelude.{◌≡◌, ◌<◌, ◌≤◌, ◌+◌, ◌↔◌, ◌⊎◌, [], max, IfOk, IfErr, OnOk, OnErr, IsErrOf, IsOk, IsSome, Some, None, option_copied, ℕ, vec_len};
+ghost use Rattle.std.specs.Prelude.{◌≡◌, ◌<◌, ◌≤◌, ◌+◌, ◌↔◌, ◌⊎◌, [], max, IfOk, IfErr, OnOk, OnErr, IsErrOf, IsOk, IsSome, Some, None, option_copied, is_some, IsOkUnless, ℕ, vec_len};
 ghost use Rattle.std.specs.Option.{option_copied_mut, option_eq};
 ghost use Rattle.std.specs.Cmp.Lexicographic.{pointwise};
-ghost use Rattle.wasmi_dense.specs.Components.{component_at, extent, ChangesAt};
+ghost use Rattle.std.specs.List.{AllZip};
+ghost use Rattle.wasmi_dense.specs.ComponentEntries.{component_entries};
+ghost use Rattle.wasmi_dense.specs.Components.{component_at, extent, ChangesAt, IsCloneOf};
 ghost use Rattle.wasmi_dense.specs.ComponentLaws.{components_per, components_equiv};
 
+mod iter;
+mod iter_mut;
+
+pub use iter::ComponentVecIter;
+pub use iter_mut::ComponentVecIterMut;
 use std::alloc::{Allocator, Global};
 use std::fmt::{self, Debug, Formatter, Write};
 use std::marker::{Model, PhantomData};
@@ -57,6 +64,37 @@ impl<Key, T, A: Allocator> ComponentVec<Key, T, A> {
         ensures { result ≡ extent self.now }
     {
         self.components.len()
+    }
+
+    /// Makes room for the extent to rise by `additional` without a request for memory. Linear where the
+    /// block must grow.
+    ///
+    /// Fails with `OutOfSystemMemory` if there is no memory for it. Components and extent stay.
+    pub fn reserve(&mut self, additional: usize) -> Result<(), ArenaError>
+        ensures same { self.new ≡ self.old }
+        ensures errors { IsOkUnless result ArenaError.OutOfSystemMemory }
+    {
+        self.components.reserve(additional)?;
+        Ok(())
+    }
+
+    /// A clone of each component under the key of its source, and the same extent, over a clone of the
+    /// allocator. Linear in the extent.
+    ///
+    /// Fails with `OutOfSystemMemory` if there is no memory for them, or the clone of a component or of
+    /// the allocator fails.
+    pub fn clone(&self) -> Result<Self, ArenaError>
+    where
+        T: Clone,
+        A: Clone,
+        ensures extent { IfOk result (λ other. extent other ≡ extent self.now) }
+        ensures components { IfOk result (λ other. AllZip (IsCloneOf T.is_clone) self.now other) }
+        ensures errors { IsOkUnless result ArenaError.OutOfSystemMemory }
+    {
+        Ok(ComponentVec {
+            components: self.components.clone()?,
+            keys: PhantomData,
+        })
     }
 }
 
@@ -144,6 +182,25 @@ impl<Key: ArenaKey, T, A: Allocator> ComponentVec<Key, T, A> {
         }
     }
 
+    /// Whether there is a component under a key. Constant time.
+    #[inline]
+    pub fn has(&self, index: Key) -> bool
+        ensures { result ≡ is_some (component_at self.now (Key.keys.number index)) }
+    {
+        self.get(index).is_some()
+    }
+
+    /// Each component beside its key, ascending. Constant time for each place below the extent.
+    pub fn iter(&self) -> ComponentVecIter<'_, Key, T>
+        ensures entries { result ≡ component_entries Key.keys self.now }
+    {
+        ComponentVecIter {
+            slots: self.components.iter(),
+            next: 0,
+            keys: PhantomData,
+        }
+    }
+
     /// The component under a key to write to, if there is one. Constant time.
     #[inline]
     pub fn get_mut(&mut self, index: Key) -> Option<&mut T>
@@ -154,6 +211,22 @@ impl<Key: ArenaKey, T, A: Allocator> ComponentVec<Key, T, A> {
             Some(slot) => slot.as_mut(),
             None => None,
         }
+    }
+}
+
+impl<Key: ArenaKey, T, A: Allocator> ComponentVec<Key, T, A> {
+    ghost use Rattle.std.specs.Borrow.{sem};
+    ghost use Rattle.wasmi_dense.specs.ComponentLoan.{left_components, IsNumbered, loan_of};
+    ghost use Rattle.wasmi_dense.specs.ComponentsLend.{lends_all};
+
+    /// Each component beside its key, ascending, to write to. The extent stays. Constant time for each
+    /// place below the extent.
+    pub fn iter_mut(&mut self) -> ComponentVecIterMut<'_, Key, T>
+        ensures* writes_back { sem 𝓛 (lends_all Key.row T.row A.row Key.ArenaKey A.Allocator self.entry (loan_of result)) }
+        ensures entries { left_components Key.keys result ≡ component_entries Key.keys self.old }
+        ensures ready { IsNumbered result }
+    {
+        ComponentVecIterMut::new(self.components.as_mut_slice())
     }
 }
 
@@ -189,6 +262,39 @@ impl<Key: ArenaKey, T, A: Allocator> IndexMut<Key> for ComponentVec<Key, T, A> {
             Some(component) => component,
             None => unreachable!(),
         }
+    }
+}
+
+/// Each component beside its key, as [`iter`](ComponentVec::iter).
+impl<'a, Key: ArenaKey, T, A: Allocator> IntoIterator for &'a ComponentVec<Key, T, A> {
+    type Item = (Key, &'a T);
+
+    type IntoIter = ComponentVecIter<'a, Key, T>;
+
+    ghost into_iter_gives = { λ vec it. it ≡ component_entries Key.keys vec.now };
+
+    fn into_iter(self) -> ComponentVecIter<'a, Key, T> {
+        self.iter()
+    }
+}
+
+/// Each component beside its key to write to, as [`iter_mut`](ComponentVec::iter_mut).
+impl<'a, Key: ArenaKey, T, A: Allocator> IntoIterator for &'a mut ComponentVec<Key, T, A> {
+    ghost use Rattle.std.specs.Borrow.{sem};
+    ghost use Rattle.wasmi_dense.specs.ComponentLoan.{left_components, IsNumbered, loan_of};
+    ghost use Rattle.wasmi_dense.specs.ComponentsLend.{lends_all};
+
+    type Item = (Key, &'a mut T);
+
+    type IntoIter = ComponentVecIterMut<'a, Key, T>;
+
+    ghost into_iter_gives = { λ vec it. (left_components Key.keys it ≡ component_entries Key.keys vec.now) × IsNumbered it };
+
+    fn into_iter(self) -> ComponentVecIterMut<'a, Key, T>
+        ensures* writes_back { sem 𝓛 (lends_all Key.row T.row A.row Key.ArenaKey A.Allocator self.entry (loan_of result)) }
+        ensures into_iter_gives { (left_components Key.keys result ≡ component_entries Key.keys self.old) × IsNumbered result }
+    {
+        self.iter_mut()
     }
 }
 

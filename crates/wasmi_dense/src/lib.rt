@@ -6,4 +6,4 @@ mod component_vec;
 pub mod laws;
 
 pub use arena::Arena;
-pub use component_vec::ComponentVec;
+pub use component_vec::{ComponentVec, ComponentVecIter, ComponentVecIterMut};

@@ -7,3 +7,5 @@ mod arena_memory;
 mod arenas;
 #[cfg(test)]
 mod components;
+#[cfg(test)]
+mod taken;

@@ -1,0 +1,113 @@
+//! Components that are visited, cloned and reserved for, and arenas whose items are taken out.
+use std::alloc::Global;
+use std::test::Fail;
+use wasmi_arena::ArenaError;
+use wasmi_dense::{Arena, ComponentVec};
+use wasmi_vectors::assert_equal;
+use wasmi_vectors::counted::{Counted, counts, counts_are};
+use wasmi_vectors::observed::{Log, Observed};
+
+// The components 10, 40 and 60 at 1, 4 and 6; the extent is 8.
+fn three(alloc: Global) -> Result<ComponentVec<u32, i32>, ArenaError> {
+    let mut components = ComponentVec::new(alloc);
+    for (key, component) in [(1, 10), (4, 40), (6, 60), (7, 70)] {
+        components.set(key, component)?;
+    }
+    components.unset(7);
+    Ok(components)
+}
+
+#[test]
+fn components_are_visited_from_both_ends(rt: HostRuntime) -> Result<(), Fail> {
+    let mut components = three(rt.alloc())?;
+    let mut entries = components.iter();
+    assert_equal!(rt; entries.next(), Some((1, &10)));
+    assert_equal!(rt; entries.next_back(), Some((6, &60)));
+    assert_equal!(rt; entries.next_back(), Some((4, &40)));
+    assert_equal!(rt; entries.next(), None);
+    assert_equal!(rt; entries.next_back(), None);
+    let mut number = 0u32;
+    for (key, component) in &mut components {
+        number = number.wrapping_add(1);
+        *component = (key + number) as i32;
+    }
+    let mut entries = components.iter_mut();
+    assert_equal!(rt; entries.next_back(), Some((6, &mut 9)));
+    assert_equal!(rt; entries.next(), Some((1, &mut 2)));
+    assert_equal!(rt; components[4], 6);
+    for (key, is_there) in [(0, false), (1, true), (7, false), (8, false)] {
+        assert_equal!(rt; components.has(key), is_there);
+    }
+    assert_equal!(rt; components.extent(), 8);
+    Ok(())
+}
+
+#[test]
+fn a_refused_clone_or_reserve_changes_nothing(rt: HostRuntime) -> Result<(), Fail> {
+    let log = Log::new();
+    let mut components: ComponentVec<u32, u64, Observed<'_>> = ComponentVec::new(Observed::new(
+        rt.alloc(),
+        &log,
+    ));
+    components.set(2, 7)?;
+    log.refuse_from(1);
+    assert_equal!(rt; components.reserve(40), Err(ArenaError::OutOfSystemMemory));
+    assert_equal!(rt; components.clone().err(), Some(ArenaError::OutOfSystemMemory));
+    log.refuse_none();
+    components.reserve(40)?;
+    let other = components.clone()?;
+    log.refuse_from(1);
+    for number in 3..43u32 {
+        assert_equal!(rt; components.set(number, 8)?, None);
+    }
+    assert_equal!(rt; other.extent(), 3);
+    assert_equal!(rt; (other.get(2), other.get(1)), (Some(&7), None));
+    Ok(())
+}
+
+#[test]
+fn an_arena_with_capacity_asks_once(rt: HostRuntime) -> Result<(), Fail> {
+    let log = Log::new();
+    log.refuse_once(1);
+    let refused = Arena::<u32, u64, Observed<'_>>::with_capacity(
+        Observed::new(rt.alloc(), &log),
+        9,
+    );
+    assert_equal!(rt; refused.err(), Some(ArenaError::OutOfSystemMemory));
+    let mut arena: Arena<u32, u64, Observed<'_>> = Arena::with_capacity(
+        Observed::new(rt.alloc(), &log),
+        9,
+    )?;
+    for number in 0..9u32 {
+        assert_equal!(rt; arena.alloc(7)?, number);
+    }
+    assert_equal!(rt; log.requests(), 2);
+    Ok(())
+}
+
+#[test]
+fn items_are_taken_out_from_both_ends(rt: HostRuntime) -> Result<(), Fail> {
+    let drops = counts(rt.alloc(), 5)?;
+    let mut arena: Arena<u32, Counted<'_>> = Arena::new(rt.alloc());
+    for count in &drops {
+        arena.alloc(Counted::new(count))?;
+    }
+    let mut entries = arena.into_iter();
+    for (from_front, key, drops_then, left) in [
+        (true, 0, [1, 0, 0, 0, 0], 4),
+        (false, 4, [1, 0, 0, 0, 1], 3),
+        (false, 3, [1, 0, 0, 1, 1], 2),
+    ] {
+        let entry = if from_front {
+            entries.next()
+        } else {
+            entries.next_back()
+        };
+        assert_equal!(rt; entry.map(|(key, _item)| key), Some(key));
+        assert_equal!(rt; entries.len(), left);
+        assert!(rt; counts_are(&drops, &drops_then));
+    }
+    drop(entries);
+    assert!(rt; counts_are(&drops, &[1, 1, 1, 1, 1]));
+    Ok(())
+}
