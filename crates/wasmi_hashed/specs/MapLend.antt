@@ -1,8 +1,13 @@
 -- What a hashed map is once a `&mut` to a value of it has ended.
-use Rattle.std.specs.Prelude.{◌≡◌, Option}
+use Rattle.std.specs.Prelude.{◌≡◌, ℕ, List, Option, String}
 use Rattle.std.specs.Borrow.{Fml, RattleType, MutBor, LendsSo}
 use Rattle.std.specs.HashMap.Lent.{HashMembers}
+use Rattle.std.specs.Hash as fed
 use Rattle.std.specs.Map.{set_value}
+use Rattle.std.specs.Str.{bytes_eq}
+use Rattle.std.specs.String.{string_bytes, string_eq}
+use Rattle.std.specs.contracts.string.String.{the_row as Text}
+use Rattle.wasmi_map_specs.specs.Seen.{is_seen_as}
 use Rattle.std.specs.declared.alloc.Allocator as alloc
 use Rattle.std.specs.declared.hash.Hasher as hasher
 use Rattle.std.specs.declared.hash.BuildHasher as builder
@@ -15,3 +20,13 @@ module _ (K V S A H : RattleType) (g : HashMembers K.Denot) (b : builder.Ghosts 
   abbrev pub lends_get : MutBor (Entries K.Denot V.Denot S.Denot) → K.Denot → Option (MutBor V.Denot) → Fml
   lends_get map key value = LendsSo (the_row K V S A H (record { eq = g.eq }) (record { hash_input = g.hash_input }) b w heap) V map value
       (λ new last. new ≡ record map.now { entries = set_value (g.eq key) map.now.entries last }) (λ new. new ≡ map.now)
+
+module _ (B V S A H : RattleType) (heap_of_text : alloc.Ghosts B.Denot) (b : builder.Ghosts S.Denot H.Denot) (w : hasher.Ghosts H.Denot) (heap : alloc.Ghosts A.Denot) where
+  -- the row of a map with `String` keys
+  abbrev pub text_map_row : RattleType
+  text_map_row = the_row (Text B heap_of_text) V S A H (record { eq = string_eq }) (record { hash_input = λ k. fed.str (string_bytes k) }) b w heap
+
+  -- the same under the key with that text
+  abbrev pub lends_text : MutBor (Entries (String B.Denot) V.Denot S.Denot) → List ℕ → Option (MutBor V.Denot) → Fml
+  lends_text map text value = LendsSo text_map_row V map value
+      (λ new last. new ≡ record map.now { entries = set_value (is_seen_as bytes_eq string_bytes text) map.now.entries last }) (λ new. new ≡ map.now)

@@ -9,9 +9,11 @@ ghost use Rattle.std.specs.Map.Iter.{ShowsInOrder, GivesInOrder, deref, deref_pa
 ghost use Rattle.std.specs.Option.{option_copied_mut};
 ghost use Rattle.wasmi_map_specs.specs.Maps.{value_at, ChangesAt};
 
+mod by_text;
 mod compared;
 mod entry;
 mod grow;
+mod room;
 
 use crate::hash::FixedState;
 pub use entry::{Entry, OccupiedEntry, VacantEntry};
@@ -199,7 +201,7 @@ impl<K: Eq + Hash, V, S: BuildHasher, A: Allocator> Map<K, V, S, A> {
         Ok(())
     }
 
-    /// Whether the key is there.
+    /// Whether the key is there. A `String` is looked up by [`contains_key_str`](Map::contains_key_str).
     /// Expected constant time, no allocation.
     #[inline]
     pub fn contains_key(&self, key: &K) -> bool
@@ -208,7 +210,7 @@ impl<K: Eq + Hash, V, S: BuildHasher, A: Allocator> Map<K, V, S, A> {
         self.inner.contains_key(key)
     }
 
-    /// The value under a key, if there is one.
+    /// The value under a key, if there is one. A `String` is looked up by [`get_str`](Map::get_str).
     /// Expected constant time, no allocation.
     #[inline]
     pub fn get(&self, key: &K) -> Option<&V>
@@ -259,6 +261,7 @@ impl<K: Eq + Hash, V, S: BuildHasher, A: Allocator> Map<K, V, S, A> {
         V: Drop,
         A: Clone,
         ensures old { IfOk result (λ old. old ≡ value_at K.eq self.old.entries key) }
+        ensures value { OnOk result (value_at K.eq self.new.entries key ≡ Some value) }
         ensures changes { OnOk result (ChangesAt K.eq self.old.entries key (Some value) self.new.entries) }
         ensures entries { IfOk result (λ old. MatchOption old
             (IsPermutation ((key, value) ∷ self.old.entries) self.new.entries)
@@ -275,7 +278,8 @@ impl<K: Eq + Hash, V, S: BuildHasher, A: Allocator> Map<K, V, S, A> {
         Ok(old)
     }
 
-    /// Takes a key out, and returns its value, if it is there. Never fails.
+    /// Takes a key out, and returns its value, if it is there. Never fails. A `String` is looked up by
+    /// [`remove_str`](Map::remove_str).
     /// Expected constant time, no allocation.
     #[inline]
     pub fn remove(&mut self, key: &K) -> Option<V>

@@ -10,8 +10,10 @@ ghost use Rattle.std.specs.Set.{is_member, remove_key, swap_key};
 ghost use Rattle.wasmi_map_specs.specs.Sets.{ChangesAt};
 
 mod algebra;
+mod by_text;
 mod compared;
 mod grow;
+mod room;
 
 use crate::hash::FixedState;
 pub use algebra::{Difference, Intersection, SymmetricDifference, Union};
@@ -162,6 +164,7 @@ impl<T: Eq + Hash, S: BuildHasher, A: Allocator> Set<T, S, A> {
         T: Drop,
         A: Clone,
         ensures added { IfOk result (λ added. added ≡ not (is_member T.eq self.old.elements value)) }
+        ensures element { OnOk result (is_member T.eq self.new.elements value ≡ true) }
         ensures changes { OnOk result (ChangesAt T.eq self.old.elements value true self.new.elements) }
         ensures elements { IfOk result (λ added. MatchBool added
             (IsPermutation (value ∷ self.old.elements) self.new.elements)

@@ -1,4 +1,5 @@
 pub mod Made
 pub mod Maps
 pub mod Same
+pub mod Seen
 pub mod Sets

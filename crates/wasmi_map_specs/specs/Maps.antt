@@ -1,5 +1,5 @@
 -- A finite map, seen as the list of its entries. `eq` says which keys are equal.
-use Rattle.std.specs.Prelude.{◌≡◌, Bool, List, [], ◌∷◌, Option, Some, None}
+use Rattle.std.specs.Prelude.{◌≡◌, Bool, List, [], ◌∷◌, ◌++◌, Option, Some, None}
 use Rattle.std.specs.Iterator.{Drains, YieldsThen}
 use Rattle.std.specs.Map.{lookup, update, update_all}
 
@@ -16,6 +16,10 @@ module _ {K V : Type 0} (eq : K → K → Bool) where
   -- the later one stays
   abbrev pub InsertsAll : List (K × V) → List (K × V) → List (K × V) → Type 0
   InsertsAll old pairs new = (q : K) → value_at new q ≡ update_all eq (value_at old) pairs q
+
+  -- some first pairs of another map went in, one by one, and it has the rest
+  abbrev pub TakesFront : List (K × V) → List (K × V) → List (K × V) → List (K × V) → Type 0
+  TakesFront old other new rest = (front : List (K × V)) × (other ≡ front ++ rest) × InsertsAll old front new
 
   -- what is made an iterator by `becomes`, which then steps by `steps`, and whose items `read` gives as
   -- pairs

@@ -1,5 +1,5 @@
 -- A finite set, seen as the list of its elements. `eq` says which elements are equal.
-use Rattle.std.specs.Prelude.{◌≡◌, Bool, false, cond, List, [], ◌∷◌, Option, Some, IsTrue}
+use Rattle.std.specs.Prelude.{◌≡◌, Bool, false, cond, List, [], ◌∷◌, ◌++◌, Option, Some, IsTrue}
 use Rattle.std.specs.Iterator.{Drains, YieldsThen}
 use Rattle.std.specs.List.{AllZip}
 use Rattle.std.specs.Set.{is_member, IsUnion, ClonesAreEqual}
@@ -26,6 +26,10 @@ module _ {T : Type 0} (eq : T → T → Bool) where
     pub cloned : AllZip C sources clones
     pub members : (q : T) → is_member eq set q ≡ is_member eq clones q
     pub equal : ClonesAreEqual eq C → P set
+
+  -- some first elements of another set went in, and it has the rest
+  abbrev pub TakesFront : List T → List T → List T → List T → Type 0
+  TakesFront old other new rest = (front : List T) × (other ≡ front ++ rest) × IsUnion eq old front new
 
   -- what is made an iterator by `becomes`, which then steps by `steps`, and whose items `read` gives as
   -- elements

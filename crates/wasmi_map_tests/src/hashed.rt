@@ -3,3 +3,4 @@ mod entries;
 mod maps;
 mod memory;
 mod sets;
+mod texts;

@@ -2,4 +2,6 @@
 mod entries;
 mod maps;
 mod memory;
+mod parts;
 mod sets;
+mod texts;

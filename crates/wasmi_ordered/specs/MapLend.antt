@@ -1,8 +1,13 @@
 -- What an ordered map is once a `&mut` to a value of it has ended.
-use Rattle.std.specs.Prelude.{◌≡◌, List, Option}
+use Rattle.std.specs.Prelude.{◌≡◌, ℕ, List, Option, Some, String}
 use Rattle.std.specs.Borrow.{Fml, RattleType, MutBor, LendsSo}
 use Rattle.std.specs.Map.{set_value}
-use Rattle.std.specs.Ordering.{eq_by_cmp}
+use Rattle.std.specs.Cmp.Lexicographic.{slice_cmp}
+use Rattle.std.specs.Hash as fed
+use Rattle.std.specs.Ordering.{eq_by_cmp, nat_cmp}
+use Rattle.std.specs.String.{string_bytes, string_cmp, string_eq}
+use Rattle.std.specs.contracts.string.String.{the_row as Text}
+use Rattle.wasmi_map_specs.specs.Seen.{is_seen_as}
 use Rattle.std.specs.BTreeMap.Lent.{OrdMembers}
 use Rattle.std.specs.declared.alloc.Allocator as alloc
 use Rattle.std.specs.declared.hash.Hash as hash
@@ -14,3 +19,14 @@ module _ (K V A : RattleType) (h : hash.Ghosts K.Denot) (g : OrdMembers K.Denot)
   abbrev pub lends_get : MutBor (List (K.Denot × V.Denot)) → K.Denot → Option (MutBor V.Denot) → Fml
   lends_get map key value = LendsSo (the_row K V A h (record { eq = g.eq }) (record { cmp = g.cmp }) (record { partial_cmp = g.partial_cmp }) heap) V map value
       (λ new last. new ≡ set_value (eq_by_cmp g.cmp key) map.now last) (λ new. new ≡ map.now)
+
+module _ (B V A : RattleType) (heap_of_text : alloc.Ghosts B.Denot) (heap : alloc.Ghosts A.Denot) where
+  -- the row of a map with `String` keys
+  abbrev pub text_map_row : RattleType
+  text_map_row = the_row (Text B heap_of_text) V A (record { hash_input = λ k. fed.str (string_bytes k) }) (record { eq = string_eq }) (record { cmp = string_cmp })
+      (record { partial_cmp = λ x y. Some (string_cmp x y) }) heap
+
+  -- the same under the key with that text
+  abbrev pub lends_text : MutBor (List (String B.Denot × V.Denot)) → List ℕ → Option (MutBor V.Denot) → Fml
+  lends_text map text value = LendsSo text_map_row V map value
+      (λ new last. new ≡ set_value (is_seen_as (eq_by_cmp (slice_cmp nat_cmp)) string_bytes text) map.now last) (λ new. new ≡ map.now)

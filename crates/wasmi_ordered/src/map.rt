@@ -10,15 +10,18 @@ ghost use Rattle.std.specs.Option.{option_copied_mut};
 ghost use Rattle.std.specs.Ordering.{eq_by_cmp};
 ghost use Rattle.wasmi_map_specs.specs.Maps.{value_at, ChangesAt};
 
+mod by_text;
 mod compared;
+mod ends;
 mod entry;
 mod grow;
+mod parts;
 
 pub use entry::{Entry, OccupiedEntry, VacantEntry};
 use std::alloc::{Allocator, Global};
 use std::collections::BTreeMap;
 pub use std::collections::btree_map::{
-    IntoIter, IntoKeys, IntoValues, Iter, IterMut, Keys, Values, ValuesMut,
+    IntoIter, IntoKeys, IntoValues, Iter, IterMut, Keys, Range, Values, ValuesMut,
 };
 use std::hash::Hash;
 use std::marker::Model;
@@ -176,7 +179,7 @@ impl<K: Hash + Ord, V, A: Allocator> Map<K, V, A> {
         Ok(())
     }
 
-    /// Whether the key is there.
+    /// Whether the key is there. A `String` is looked up by [`contains_key_str`](Map::contains_key_str).
     /// Logarithmic, no allocation.
     #[inline]
     pub fn contains_key(&self, key: &K) -> bool
@@ -185,7 +188,7 @@ impl<K: Hash + Ord, V, A: Allocator> Map<K, V, A> {
         self.inner.contains_key(key)
     }
 
-    /// The value under a key, if there is one.
+    /// The value under a key, if there is one. A `String` is looked up by [`get_str`](Map::get_str).
     /// Logarithmic, no allocation.
     #[inline]
     pub fn get(&self, key: &K) -> Option<&V>
@@ -238,6 +241,7 @@ impl<K: Hash + Ord, V, A: Allocator> Map<K, V, A> {
         V: Drop,
         A: Clone,
         ensures old { IfOk result (λ old. old ≡ value_at (eq_by_cmp K.cmp) self.old key) }
+        ensures value { OnOk result (value_at (eq_by_cmp K.cmp) self.new key ≡ Some value) }
         ensures changes { OnOk result (ChangesAt (eq_by_cmp K.cmp) self.old key (Some value) self.new) }
         ensures entries { OnOk result (self.new ≡ insert_entry K.cmp self.old key value) }
         ensures len { IfOk result (λ old. length self.new
@@ -251,7 +255,8 @@ impl<K: Hash + Ord, V, A: Allocator> Map<K, V, A> {
         Ok(old)
     }
 
-    /// Takes a key out, and returns its value, if it is there. Never fails.
+    /// Takes a key out, and returns its value, if it is there. Never fails. A `String` is looked up by
+    /// [`remove_str`](Map::remove_str).
     /// Logarithmic, no allocation.
     #[inline]
     pub fn remove(&mut self, key: &K) -> Option<V>

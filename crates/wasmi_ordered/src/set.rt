@@ -10,13 +10,16 @@ ghost use Rattle.std.specs.Set.{is_member, remove_key};
 ghost use Rattle.wasmi_map_specs.specs.Sets.{ChangesAt};
 
 mod algebra;
+mod by_text;
 mod compared;
+mod ends;
 mod grow;
+mod parts;
 
 pub use algebra::{Difference, Intersection, SymmetricDifference, Union};
 use std::alloc::{Allocator, Global};
 use std::collections::BTreeSet;
-pub use std::collections::btree_set::{IntoIter, Iter};
+pub use std::collections::btree_set::{IntoIter, Iter, Range};
 use std::hash::Hash;
 use std::marker::Model;
 use wasmi_arena::ArenaError;
@@ -141,6 +144,7 @@ impl<T: Hash + Ord, A: Allocator> Set<T, A> {
         T: Drop,
         A: Clone,
         ensures added { IfOk result (λ added. added ≡ not (is_member (eq_by_cmp T.cmp) self.old value)) }
+        ensures element { OnOk result (is_member (eq_by_cmp T.cmp) self.new value ≡ true) }
         ensures changes { OnOk result (ChangesAt (eq_by_cmp T.cmp) self.old value true self.new) }
         ensures elements { OnOk result (self.new ≡ insert_key T.cmp self.old value) }
         ensures len { IfOk result (λ added. length self.new

@@ -34,7 +34,7 @@ fn a_key_keeps_its_last_value(rt: HostRuntime) -> Result<(), Fail> {
     }
     let mut walk = map.iter();
     assert_equal!(rt; walk.len(), 2);
-    // In an open order.
+    // In unspecified order.
     assert!(rt; walk.all(|(key, value)| (*key, *value) == (1, "b") || (*key, *value) == (2, "c")));
     assert_equal!(rt; walk.next(), None);
     assert_equal!(rt; map.remove(&1), Some("b"));

@@ -1,0 +1,80 @@
+//! The ends of ordered maps and sets, their parts, and what is joined.
+use std::test::Fail;
+use wasmi_arena::ArenaError;
+use wasmi_ordered::{Map, Set};
+use wasmi_vectors::assert_equal;
+use wasmi_vectors::observed::{Log, Observed};
+
+#[test]
+fn ends_are_read_and_taken(rt: HostRuntime) -> Result<(), Fail> {
+    let mut map = Map::from_iter(rt.alloc(), [(2, "b"), (1, "a"), (3, "c")])?;
+    let mut set = Set::from_iter(rt.alloc(), [2, 1, 3])?;
+    map.append(&mut Map::from_iter(rt.alloc(), [(2, "d"), (4, "e")])?)?;
+    set.append(&mut Set::from_iter(rt.alloc(), [2, 4])?)?;
+    assert_equal!(rt; map.first_key_value(), Some((&1, &"a")));
+    assert_equal!(rt; map.last_key_value(), Some((&4, &"e")));
+    assert_equal!(rt; (set.first(), set.last()), (Some(&1), Some(&4)));
+    assert_equal!(rt; (map.pop_first(), set.pop_first()), (Some((1, "a")), Some(1)));
+    assert_equal!(rt; (map.pop_last(), set.pop_last()), (Some((4, "e")), Some(4)));
+    assert_equal!(rt; (map.pop_last(), set.pop_last()), (Some((3, "c")), Some(3)));
+    assert_equal!(rt; (map.pop_first(), set.pop_first()), (Some((2, "d")), Some(2)));
+    assert_equal!(rt; (map.pop_first(), set.pop_last()), (None, None));
+    assert_equal!(rt; (map.first_key_value(), set.last()), (None, None));
+    Ok(())
+}
+
+#[test]
+fn a_range_is_walked_from_both_ends(rt: HostRuntime) -> Result<(), Fail> {
+    let map = Map::from_iter(rt.alloc(), (0..10u32).map(|key| (key, key)))?;
+    let set = Set::from_iter(rt.alloc(), 0..10u32)?;
+    let mut part = map.range(3..6);
+    assert_equal!(rt; part.next(), Some((&3, &3)));
+    assert_equal!(rt; part.next_back(), Some((&5, &5)));
+    assert_equal!(rt; part.next(), Some((&4, &4)));
+    assert_equal!(rt; part.next_back(), None);
+    assert_equal!(rt; (set.range(7..).count(), set.range(..=3).count()), (3, 4));
+    Ok(())
+}
+
+// Each request refused in turn: then both are as before, or all that left one is in the other.
+#[test]
+fn a_cut_and_a_join_lose_nothing(rt: HostRuntime) -> Result<(), Fail> {
+    for nth in 1..40 {
+        let log = Log::new();
+        {
+            let mut map: Map<u32, u32, Observed<'_>> = Map::new(Observed::new(rt.alloc(), &log));
+            let mut set: Set<u32, Observed<'_>> = Set::new(Observed::new(rt.alloc(), &log));
+            let mut other: Set<u32, Observed<'_>> = Set::new(Observed::new(rt.alloc(), &log));
+            map.extend((0..60u32).map(|key| (key, key)))?;
+            set.extend(0..40u32)?;
+            other.extend(30..60u32)?;
+            log.refuse_once(nth);
+            match map.split_off(&45) {
+                Ok(mut rest) => {
+                    assert_equal!(rt; (map.len(), rest.len()), (45, 15), "at {nth}");
+                    if let Err(error) = map.append(&mut rest) {
+                        assert_equal!(rt; error, ArenaError::OutOfSystemMemory);
+                    }
+                    assert_equal!(rt; map.len().wrapping_add(rest.len()), 60, "at {nth}");
+                }
+                Err(error) => {
+                    assert_equal!(rt; error, ArenaError::OutOfSystemMemory);
+                    assert_equal!(rt; map.len(), 60, "at {nth}");
+                }
+            }
+            log.refuse_once(nth);
+            if let Err(error) = set.append(&mut other) {
+                assert_equal!(rt; error, ArenaError::OutOfSystemMemory);
+                assert!(rt; !other.is_empty(), "at {nth}");
+            } else {
+                assert_equal!(rt; (set.len(), other.len()), (60, 0), "at {nth}");
+            }
+            assert!(rt; (0..60u32).all(|key| set.contains(&key) || other.contains(&key)));
+            if let Ok(rest) = set.split_off(&20) {
+                assert_equal!(rt; (set.len(), rest.is_empty()), (20, false), "at {nth}");
+            }
+        }
+        assert_equal!(rt; (log.returned(), log.misplaced()), (log.given(), 0));
+    }
+    Ok(())
+}
