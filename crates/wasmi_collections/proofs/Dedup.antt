@@ -1,5 +1,5 @@
 -- Facts on the values handed in to a deduplicating arena, and on its index.
-use Rattle.std.proofs.Common.{All, ◌≡◌, ℕ, ◌+◌, ◌<◌, ◌≤◌, suc, Bool, true, false, cond, List, [], ◌∷◌, ◌++◌, length, Option, Some, None, option_map, find, filter_map, position, slice_get, nat_eq, IsPermutation, refl, sym, ap, ◌∙◌, subst, is_some, eqb-true, ◌||◌, true≢false, arith}
+use Rattle.std.proofs.Common.{All, ◌≡◌, ℕ, ◌+◌, ◌<◌, ◌≤◌, suc, Bool, true, false, cond, List, [], ◌∷◌, ◌++◌, length, map, Option, Some, None, option_map, find, filter_map, position, slice_get, nat_eq, IsPermutation, refl, sym, ap, ◌∙◌, subst, is_some, eqb-true, ◌||◌, true≢false, arith}
 use Rattle.std.specs.Cmp.{IsEquivalence}
 use Rattle.std.specs.List.{AllByRecursion, IsDistinct, list_any, position_from, range_with_len, cons_option}
 use Rattle.std.proofs.lemmas.Bool.{eqb-false}
@@ -27,12 +27,23 @@ module _ {T : Type 0} (p : T → Bool) (x : T) where
   found_before i [] miss = ap (λ b. cond b (Some i) None) miss
   found_before i (y ∷ ys) miss = ap (λ (o : Option ℕ). cond (p y) (Some i) o) (found_before (i + 1) ys miss)
 
+-- values that are equal where their views are, are found where their views are
+module _ {T V : Type 0} (eq : V → V → Bool) (view : T → V) (x : T) where
+  by_view_from : (i : ℕ) (xs : List T) → position_from (λ y. eq (view x) (view y)) i xs ≡ position_from (eq (view x)) i (map view xs)
+  by_view_from i [] = refl
+  by_view_from i (y ∷ ys) = ap (cond (eq (view x) (view y)) (Some i)) (by_view_from (i + 1) ys)
+
+  pub position-by_view : (xs : List T) → position (λ y. eq (view x) (view y)) xs ≡ position (eq (view x)) (map view xs)
+  position-by_view xs =
+      position_from-zero (λ y. eq (view x) (view y)) xs
+      ∙ (by_view_from 0 xs ∙ sym (position_from-zero (eq (view x)) (map view xs)))
+
 module _ {T : Type 0} {eq : T → T → Bool} (laws : IsEquivalence eq) where
   -- equal values are found alike
   pub position-congr : (v w : T) → eq v w ≡ true → (xs : List T) → position_from (eq v) 0 xs ≡ position_from (eq w) 0 xs
   position-congr v w same xs = λ i. position_from (λ x. laws.congr v w x same i) 0 xs
 
-  all_differ : (v : T) (i : ℕ) (xs : List T) → position_from (eq v) i xs ≡ None → AllByRecursion (λ x. eq v x ≡ false) xs
+  pub all_differ : (v : T) (i : ℕ) (xs : List T) → position_from (eq v) i xs ≡ None → AllByRecursion (λ x. eq v x ≡ false) xs
   all_differ v i [] none = tt
   all_differ v i (x ∷ xs) none = next (eq v x) refl none (all_differ v (i + 1) xs)
     where

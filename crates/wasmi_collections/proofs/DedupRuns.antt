@@ -2,19 +2,20 @@
 use Rattle.std.proofs.Common.{◌≡◌, ◌≢◌, ◌↔◌, ℕ, zero, suc, ◌+◌, ◌<◌, ◌≤◌, Bool, true, false, cond, List, [], ◌∷◌, ◌++◌, length, Option, Some, None, option_map, position, slice_get, inl, inr, refl, sym, ap, ◌∙◌, subst, is_some, true≢false, IsTrue, length-append, unwrap_or, arith}
 use Rattle.std.specs.Cmp.{IsEquivalence}
 use Rattle.std.specs.List.{position_from}
+use Rattle.std.proofs.lemmas.List.{length-set}
 use Rattle.std.proofs.lemmas.Iterator.Adapters.{position_from-zero}
 use Rattle.std.proofs.lemmas.List.Quantifiers.{position-Some}
 use Rattle.wasmi_arena.specs.Keys.{Keys, KeyLaw}
-use Rattle.wasmi_collections.specs.Dedup.{DedupState, AllocatesValue}
+use Rattle.wasmi_collections.specs.Dedup.{DedupState, AllocatesValue, ReplacesValue}
 use Rattle.wasmi_collections.specs.DedupSteps.{DedupStep, HasKey, NoneClears}
 use Rattle.wasmi_collections.specs.Runs.{IsRun}
 use Rattle.wasmi_collections.specs.declared.run.dedup.DedupCommand.{DedupCommand}
-use Rattle.wasmi_collections.specs.declared.run.dedup.DedupCommand.TheVariants.{Alloc, Put, Has, Clear}
+use Rattle.wasmi_collections.specs.declared.run.dedup.DedupCommand.TheVariants.{Alloc, Put, Replace, Has, Clear}
 use Rattle.wasmi_collections.specs.declared.run.dedup.DedupReply.{DedupReply}
 use Rattle.wasmi_collections.specs.declared.run.dedup.DedupReply.TheVariants.{Key, Old, Has as HasReply, Done, Refused}
 use Rattle.wasmi_collections.proofs.Dedup.{found_last, position-congr}
 
-some_is : {X : Type 0} (x y : X) → Some x ≡ Some y → x ≡ y
+pub some_is : {X : Type 0} (x y : X) → Some x ≡ Some y → x ≡ y
 some_is x y same = ap (λ o. unwrap_or o x) same
 
 module _ {T : Type 0} (p : T → Bool) where
@@ -30,15 +31,15 @@ module _ {T : Type 0} (p : T → Bool) where
       next false is rest = rest is
 
   -- it passes, and stands there
-  record Hits (i k : ℕ) (xs : List T) : Type 0 where
-    before : ℕ
-    place : k ≡ i + before
-    within : before < length xs
-    item : T
-    reads : slice_get xs before ≡ Some item
-    passes : p item ≡ true
+  pub record Hits (i k : ℕ) (xs : List T) : Type 0 where
+    pub before : ℕ
+    pub place : k ≡ i + before
+    pub within : before < length xs
+    pub item : T
+    pub reads : slice_get xs before ≡ Some item
+    pub passes : p item ≡ true
 
-  hits : (i k : ℕ) (xs : List T) → position_from p i xs ≡ Some k → Hits i k xs
+  pub hits : (i k : ℕ) (xs : List T) → position_from p i xs ≡ Some k → Hits i k xs
   hits i k [] is = absurd (true≢false (sym (ap is_some is)))
   hits i k (x ∷ xs) is = next (p x) refl is (hits (i + 1) k xs)
     where
@@ -109,14 +110,17 @@ module _ {K T : Type 0} (keys : Keys K) (law : KeyLaw keys) {eq : T → T → Bo
       let at = low.place in let within = low.within in let all = has.few in
       position_from-zero (eq value) new.handed ∙ (has.is ∙ ap Some (sym (ap keys.number has.key_is ∙ law.numbered has.place (omega (arith, at, within, all)))))
 
-  keeps : (old new : DedupState T) (value : T) (key : K) (command : DedupCommand K T) (reply : DedupReply K T) → command ≢ Clear → DedupStep keys eq clones old command reply new → IsKeyOf old value key → IsKeyOf new value key
-  keeps old new value key (Alloc other) (Key other_key) goes step has = more old new value key other other_key step has
-  keeps old new value key (Alloc other) (Refused error) goes step has = moved old new value key (ap (λ (s : DedupState T). s.handed) step.1) has
-  keeps old new value key (Put k item) (Old there) goes step has = moved old new value key step.handed_are has
-  keeps old new value key (Put k item) (Refused error) goes step has = moved old new value key (ap (λ (s : DedupState T). s.handed) step.2) has
-  keeps old new value key (Has k) (HasReply found) goes step has = moved old new value key (ap (λ (s : DedupState T). s.handed) step.1) has
-  keeps old new value key Clear Done goes step has = absurd (goes refl)
-  keeps old new value key command reply goes step has = absurd step
+  keeps : (old new : DedupState T) (value : T) (key : K) (command : DedupCommand K T) (reply : DedupReply K T) → command ≢ Clear → ((k : K) (item there : T) → command ≡ Replace k item → reply ≢ Old there)
+      → DedupStep keys eq clones old command reply new → IsKeyOf old value key → IsKeyOf new value key
+  keeps old new value key (Alloc other) (Key other_key) goes stays step has = more old new value key other other_key step has
+  keeps old new value key (Alloc other) (Refused error) goes stays step has = moved old new value key (ap (λ (s : DedupState T). s.handed) step.1) has
+  keeps old new value key (Put k item) (Old there) goes stays step has = moved old new value key step.handed_are has
+  keeps old new value key (Put k item) (Refused error) goes stays step has = moved old new value key (ap (λ (s : DedupState T). s.handed) step.2) has
+  keeps old new value key (Replace k item) (Old there) goes stays step has = absurd (stays k item there refl refl)
+  keeps old new value key (Replace k item) (Refused error) goes stays step has = moved old new value key (ap (λ (s : DedupState T). s.handed) step.1) has
+  keeps old new value key (Has k) (HasReply found) goes stays step has = moved old new value key (ap (λ (s : DedupState T). s.handed) step.1) has
+  keeps old new value key Clear Done goes stays step has = absurd (goes refl)
+  keeps old new value key command reply goes stays step has = absurd step
 
   -- in one state, keys are equal where values are
   agree : (state : DedupState T) (v w : T) (a b : K) → IsKeyOf state v a → IsKeyOf state w b → (a ≡ b) ↔ IsTrue (eq v w)
@@ -135,32 +139,41 @@ module _ {K T : Type 0} (keys : Keys K) (law : KeyLaw keys) {eq : T → T → Bo
 
   -- a value that has its key, and a later one that is given one
   second_given : (old new : DedupState T) (commands : List (DedupCommand K T)) (replies : List (DedupReply K T)) → IsRun (DedupStep keys eq clones) (λ state. state) old commands replies new
-      → (v w : T) (a b : K) → IsKeyOf old v a → (j : ℕ) → ((m : ℕ) → m < j → slice_get commands m ≢ Some Clear) → HasKey commands replies j w b → (a ≡ b) ↔ IsTrue (eq v w)
-  second_given old new [] replies run v w a b has j goes at = absurd (true≢false (sym (ap is_some at.command_is)))
-  second_given old new (command ∷ commands) [] run v w a b has j goes at = absurd run
-  second_given old new (command ∷ commands) (reply ∷ replies) run v w a b has zero goes at =
+      → (v w : T) (a b : K) → IsKeyOf old v a → (j : ℕ) → ((m : ℕ) → m < j → slice_get commands m ≢ Some Clear)
+      → ((m : ℕ) (k : K) (item there : T) → m < j → slice_get commands m ≡ Some (Replace k item) → slice_get replies m ≢ Some (Old there)) → HasKey commands replies j w b → (a ≡ b) ↔ IsTrue (eq v w)
+  second_given old new [] replies run v w a b has j goes stays at = absurd (true≢false (sym (ap is_some at.command_is)))
+  second_given old new (command ∷ commands) [] run v w a b has j goes stays at = absurd run
+  second_given old new (command ∷ commands) (reply ∷ replies) run v w a b has zero goes stays at =
       let step = subst (λ r. DedupStep keys eq clones old (Alloc w) r run.0) (some_is reply (Key b) at.reply_is) (subst (λ c. DedupStep keys eq clones old c reply run.0) (some_is command (Alloc w) at.command_is) run.1) in
       agree run.0 v w a b (more old run.0 v a w b step has) (given old run.0 w b has.few step)
-  second_given old new (command ∷ commands) (reply ∷ replies) run v w a b has (suc j) goes at =
-      second_given run.0 new commands replies run.2 v w a b (keeps old run.0 v a command reply (λ same. goes 0 (omega arith) (ap Some same)) run.1 has) j (λ m low. goes (suc m) (omega (arith, low))) (record { command_is = at.command_is; reply_is = at.reply_is })
+  second_given old new (command ∷ commands) (reply ∷ replies) run v w a b has (suc j) goes stays at =
+      second_given run.0 new commands replies run.2 v w a b (keeps old run.0 v a command reply (λ same. goes 0 (omega arith) (ap Some same)) (λ k item there same is. stays 0 k item there (omega arith) (ap Some same) (ap Some is)) run.1 has) j
+      (λ m low. goes (suc m) (omega (arith, low))) (λ m k item there low. stays (suc m) k item there (omega (arith, low))) (record { command_is = at.command_is; reply_is = at.reply_is })
+
+  few_replaced : (old new : DedupState T) (key : K) (value there : T) → ReplacesValue keys eq clones old key value there new → length old.handed ≤ keys.count → length new.handed ≤ keys.count
+  few_replaced old new key value there (inl puts) few = rw puts.1.handed_are few
+  few_replaced old new key value there (inr moves) few = rw (moves.handed_are, length-set old.handed (keys.number key) value) few
 
   few_after : (old new : DedupState T) (command : DedupCommand K T) (reply : DedupReply K T) → DedupStep keys eq clones old command reply new → length old.handed ≤ keys.count → length new.handed ≤ keys.count
   few_after old new (Alloc value) (Key key) step few = (given old new value key few step).few
   few_after old new (Alloc value) (Refused error) step few = rw step.1 few
   few_after old new (Put k item) (Old there) step few = rw step.handed_are few
   few_after old new (Put k item) (Refused error) step few = rw step.2 few
+  few_after old new (Replace k value) (Old there) step few = few_replaced old new k value there step few
+  few_after old new (Replace k value) (Refused error) step few = rw step.1 few
   few_after old new (Has k) (HasReply found) step few = rw step.1 few
   few_after old new Clear Done step few = rw step.0 (omega arith)
   few_after old new command reply step few = absurd step
 
   pub both_given : (old new : DedupState T) (commands : List (DedupCommand K T)) (replies : List (DedupReply K T)) → length old.handed ≤ keys.count → IsRun (DedupStep keys eq clones) (λ state. state) old commands replies new
-      → (i j : ℕ) (v w : T) (a b : K) → i < j → NoneClears commands i j → HasKey commands replies i v a → HasKey commands replies j w b → (a ≡ b) ↔ IsTrue (eq v w)
+      → (i j : ℕ) (v w : T) (a b : K) → i < j → NoneClears commands replies i j → HasKey commands replies i v a → HasKey commands replies j w b → (a ≡ b) ↔ IsTrue (eq v w)
   both_given old new [] replies few run i j v w a b order goes first second = absurd (true≢false (sym (ap is_some first.command_is)))
   both_given old new (command ∷ commands) [] few run i j v w a b order goes first second = absurd run
   both_given old new (command ∷ commands) (reply ∷ replies) few run i zero v w a b order goes first second = absurd (omega (arith, order))
   both_given old new (command ∷ commands) (reply ∷ replies) few run zero (suc j) v w a b order goes first second =
       let step = subst (λ r. DedupStep keys eq clones old (Alloc v) r run.0) (some_is reply (Key a) first.reply_is) (subst (λ c. DedupStep keys eq clones old c reply run.0) (some_is command (Alloc v) first.command_is) run.1) in
-      second_given run.0 new commands replies run.2 v w a b (given old run.0 v a few step) j (λ m low. goes (suc m) (omega arith) (omega (arith, low))) (record { command_is = second.command_is; reply_is = second.reply_is })
+      second_given run.0 new commands replies run.2 v w a b (given old run.0 v a few step) j (λ m low. goes.keeps (suc m) (omega arith) (omega (arith, low)))
+      (λ m k item there low. goes.replaces_none (suc m) k item there (omega arith) (omega (arith, low))) (record { command_is = second.command_is; reply_is = second.reply_is })
   both_given old new (command ∷ commands) (reply ∷ replies) few run (suc i) (suc j) v w a b order goes first second =
-      both_given run.0 new commands replies (few_after old run.0 command reply run.1 few) run.2 i j v w a b (omega (arith, order)) (λ m high low. goes (suc m) (omega (arith, high)) (omega (arith, low)))
+      both_given run.0 new commands replies (few_after old run.0 command reply run.1 few) run.2 i j v w a b (omega (arith, order)) (record { keeps = λ m high low. goes.keeps (suc m) (omega (arith, high)) (omega (arith, low)); replaces_none = λ m k item there high low. goes.replaces_none (suc m) k item there (omega (arith, high)) (omega (arith, low)) })
       (record { command_is = first.command_is; reply_is = first.reply_is }) (record { command_is = second.command_is; reply_is = second.reply_is })

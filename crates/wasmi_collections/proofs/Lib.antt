@@ -1,12 +1,17 @@
 mod BinaryDigits
 mod Dedup
+mod DedupReplace
 mod DedupRuns
+mod Filtered
+mod DedupTexts
 mod IndexBlocks
 mod IndexRing
 mod InternerRuns
+mod InternsEach
 mod LastItem
 mod MapRuns
 mod Runs
 mod Search
 mod SetRuns
 mod TextIndex
+mod WithSymbols

@@ -1,10 +1,10 @@
 -- What a deduplicating arena is, and what its calls say of it: two lists of one length.
-use Rattle.std.specs.Prelude.{◌≡◌, ℕ, ◌+◌, ◌<◌, ◌≤◌, ◌==◌, ◌⊎◌, Bool, List, [], ◌∷◌, ◌++◌, length, Option, Some, None, option_map, filter_map, find, position, IsPermutation}
+use Rattle.std.specs.Prelude.{◌≡◌, ◌≢◌, ℕ, ◌+◌, ◌<◌, ◌≤◌, ◌==◌, ◌⊎◌, Bool, List, [], ◌∷◌, ◌++◌, length, Option, Some, None, option_map, filter_map, find, position, slice_get, slice_set, IsPermutation}
 use Rattle.std.specs.List.{range_with_len, IsDistinct}
 use Rattle.std.specs.Iterator.{Drains, YieldsThen}
 use Rattle.wasmi_arena.specs.Keys.{Keys}
 use Rattle.wasmi_arena.specs.declared.error.ArenaError.{ArenaError}
-use Rattle.wasmi_arena.specs.declared.error.ArenaError.TheVariants.{OutOfSystemMemory, KeyOutOfBounds, NotEnoughKeys, AliasingPairAccess}
+use Rattle.wasmi_arena.specs.declared.error.ArenaError.TheVariants.{OutOfSystemMemory, KeyOutOfBounds, NotEnoughKeys, AliasingPairAccess, DuplicateItem}
 use Rattle.wasmi_map_specs.specs.Maps.{value_at}
 
 -- the values as they were handed in, and the items that stand there now
@@ -30,6 +30,12 @@ module _ {K T : Type 0} (keys : Keys K) where
   -- the values of an index in the order of their keys
   abbrev pub in_order : List (T × K) → List T
   in_order index = filter_map (value_numbered index) (range_with_len 0 (length index))
+
+  -- an item makes way for another, and is handed back. No value handed in changes
+  pub record PutsItem (old : DedupState T) (key : K) (item there : T) (new : DedupState T) : Type 0 where
+    pub there_is : slice_get old.items (keys.number key) ≡ Some there
+    pub handed_are : new.handed ≡ old.handed
+    pub items_are : new.items ≡ slice_set old.items (keys.number key) item
 
   -- `eq` says which values are equal
   module _ (eq : T → T → Bool) where
@@ -62,8 +68,41 @@ module _ {K T : Type 0} (keys : Keys K) where
         (position (eq value) old.handed ≡ None) × (length old.handed < keys.count)
     RefusesValue old value KeyOutOfBounds = ⊥
     RefusesValue old value AliasingPairAccess = ⊥
+    RefusesValue old value DuplicateItem = ⊥
+
+    -- a value that isn't among those handed in takes the place of the one that was handed in under a key,
+    -- and a clone of it that of the item, which is handed back
+    pub record MovesKey (clones : T → T → Type 0) (old : DedupState T) (key : K) (value there : T)
+        (new : DedupState T) : Type 0 where
+      pub absent : position (eq value) old.handed ≡ None
+      pub there_is : slice_get old.items (keys.number key) ≡ Some there
+      pub handed_are : new.handed ≡ slice_set old.handed (keys.number key) value
+      pub items_are : (item : T) × clones value item × (new.items ≡ slice_set old.items (keys.number key) item)
+
+    -- a value was handed in under a key of another number
+    abbrev pub HasOtherKey : DedupState T → K → T → Type 0
+    HasOtherKey old key value =
+        (p : ℕ) × (position (eq value) old.handed ≡ Some p) × (p ≢ keys.number key)
+
+    -- why a value doesn't come in the place of the one under a key: the key reads nothing; or it reads an
+    -- item, and the value was handed in under another key; or it is new, and there is no memory
+    abbrev pub RefusesReplace : DedupState T → K → T → ArenaError → Type 0
+    RefusesReplace old key value KeyOutOfBounds = length old.items ≤ keys.number key
+    RefusesReplace old key value DuplicateItem =
+        (keys.number key < length old.items) × HasOtherKey old key value
+    RefusesReplace old key value OutOfSystemMemory =
+        (keys.number key < length old.items) × (position (eq value) old.handed ≡ None)
+    RefusesReplace old key value NotEnoughKeys = ⊥
+    RefusesReplace old key value AliasingPairAccess = ⊥
 
     module _ (clones : T → T → Type 0) where
+      -- a key is the value's afterwards. One that was handed in under that very key becomes the item, and no
+      -- value handed in changes
+      abbrev pub ReplacesValue : DedupState T → K → T → T → DedupState T → Type 0
+      ReplacesValue old key value there new =
+          ((position (eq value) old.handed ≡ Some (keys.number key)) × PutsItem old key value there new)
+          ⊎ MovesKey clones old key value there new
+
       -- a value has a key afterwards
       abbrev pub AllocatesValue : DedupState T → T → K → DedupState T → Type 0
       AllocatesValue old value key new = FindsValue old value key new ⊎ AddsValue clones old value key new

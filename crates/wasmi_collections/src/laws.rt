@@ -1,9 +1,9 @@
 //! Laws: what the definitions of `specs/` tell, and what `==` does, as contracts of functions.
-ghost use Rattle.std.specs.Prelude.{◌≡◌, ◌↔◌, ℕ, ◌<◌, ◌≤◌, [], ◌∷◌, ◌++◌, List, length, IsTrue};
+ghost use Rattle.std.specs.Prelude.{◌≡◌, ◌↔◌, ℕ, ◌<◌, ◌≤◌, [], ◌∷◌, ◌++◌, List, length, position, IsTrue, Some, false};
 ghost use Rattle.std.specs.Ordering.{ordering_then, eq_by_cmp};
 ghost use Rattle.std.specs.Cmp.Lexicographic.{slice_cmp};
-ghost use Rattle.std.specs.List.{AllByRecursion};
-ghost use Rattle.wasmi_collections.specs.Dedup.{DedupState};
+ghost use Rattle.std.specs.List.{AllByRecursion, IsDistinct};
+ghost use Rattle.wasmi_collections.specs.Dedup.{DedupState, AllocatesValue, ReplacesValue};
 ghost use Rattle.wasmi_collections.specs.DedupSteps.{DedupStep, HasKey, NoneClears};
 ghost use Rattle.wasmi_collections.specs.HeadVec.{head_cmp};
 ghost use Rattle.wasmi_collections.specs.MapSteps.{MapStep, SameEntries, AcceptsMapCommand};
@@ -16,10 +16,12 @@ ghost use Rattle.wasmi_collections.specs.declared.run.map.MapReply.{MapReply};
 ghost use Rattle.wasmi_collections.specs.declared.run.set.SetCommand.{SetCommand};
 ghost use Rattle.wasmi_collections.specs.declared.run.set.SetReply.{SetReply};
 
+mod appended;
 mod interner;
 
 use crate::HeadVec;
 use crate::run::{AnyMap, AnySet};
+pub use appended::{appended_texts, appended_values, strings_by_bytes};
 pub use interner::{
     equal_in_length_order, equal_symbols_of_equal_texts, interned_texts, length_order,
 };
@@ -72,12 +74,30 @@ pub fn equal_keys_of_both<K: Ord>()
 {}
 
 /// In a run of a deduplicating arena, two values have one key exactly where they are equal, whatever was
-/// written under keys meanwhile, if all items weren't dropped between them.
+/// written under keys meanwhile, if between them all items weren't dropped, and no value took the place of
+/// another.
 pub fn equal_values_share_a_key<Key: ArenaKey, T: Eq + Hash + Clone>()
     ensures { (old new : DedupState T) (commands : List (DedupCommand Key T))
         (replies : List (DedupReply Key T)) → length old.handed ≤ Key.keys.count
         → IsRun (DedupStep Key.keys T.eq T.is_clone) (λ state. state) old commands replies new
-        → (i j : ℕ) (v w : T) (a b : Key) → i < j → NoneClears commands i j
+        → (i j : ℕ) (v w : T) (a b : Key) → i < j → NoneClears commands replies i j
         → HasKey commands replies i v a → HasKey commands replies j w b
         → (a ≡ b) ↔ IsTrue (T.eq v w) }
+{}
+
+/// After a value took the place of another under a key of a deduplicating arena, it has the key of that
+/// number, and the value that was handed in there is new, if it isn't equal to it. The two premises are
+/// what [`len`](crate::DedupArena::len) says of every arena.
+pub fn replaced_values<Key: ArenaKey, T: Eq + Hash + Clone>()
+    ensures value { (old new newer : DedupState T) (key again : Key) (value there : T)
+        → length old.handed ≡ length old.items
+        → ReplacesValue Key.keys T.eq T.is_clone old key value there new
+        → AllocatesValue Key.keys T.eq T.is_clone new value again newer
+        → (again ≡ Key.keys.key (Key.keys.number key)) × (newer ≡ new) }
+    ensures replaced { (old new newer : DedupState T) (key other : Key) (value there was : T)
+        → IsDistinct T.eq old.handed
+        → ReplacesValue Key.keys T.eq T.is_clone old key value there new
+        → position (T.eq was) old.handed ≡ Some (Key.keys.number key) → T.eq value was ≡ false
+        → AllocatesValue Key.keys T.eq T.is_clone new was other newer
+        → other ≡ Key.keys.key (length new.handed) }
 {}

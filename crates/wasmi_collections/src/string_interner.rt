@@ -1,26 +1,33 @@
 //! Symbols of texts.
-ghost use Rattle.std.specs.Prelude.{ℕ, List, ◌≡◌, ◌+◌, ◌==◌, ◌<◌, ◌≤◌, ◌^◌, ◌↔◌, ◌⊎◌, [], ◌∷◌, ◌++◌, length, IfOk, IfErr, OnErr, IsErrOf, IsOkUnless, None, Some, Ok, option_copied, slice_get};
+ghost use Rattle.std.specs.Prelude.{ℕ, List, ◌≡◌, ◌+◌, ◌==◌, ◌<◌, ◌≤◌, ◌^◌, ◌↔◌, ◌⊎◌, [], ◌∷◌, ◌++◌, length, IfOk, IfErr, OnOk, OnErr, IsErrOf, IsOkUnless, None, Some, Ok, option_copied, is_some, slice_get, decimal};
 ghost use Rattle.std.specs.Cmp.Lexicographic.{pointwise, lists_per, lists_equiv, nat_list_eq_equiv};
+ghost use Rattle.std.specs.Fmt.{styled_decimal};
+ghost use Rattle.std.specs.Iterator.{IsFiniteIterable};
 ghost use Rattle.std.specs.Str.{bytes_eq};
+ghost use Rattle.std.proofs.Common.{lit≤};
+ghost use Rattle.wasmi_arena.specs.Keys.{own_keys};
+ghost use Rattle.wasmi_arena.specs.KeyLaws.{own_keys_law};
 ghost use Rattle.wasmi_collections.specs.BinaryDigits.{digits};
-ghost use Rattle.wasmi_collections.specs.Interner.{symbol_of, AreDistinctTexts, Interning};
+ghost use Rattle.wasmi_collections.specs.Interner.{symbol_of, with_symbols, AreDistinctTexts, Interning, InternsAll, InternsUntilRefused};
 ghost use Rattle.wasmi_collections.specs.LenOrderLaws.{texts_per};
 
 mod find;
 mod index;
+mod iter;
 mod len_order;
 mod probe;
 mod steps;
 
 use find::find;
 use index::Index;
+pub use iter::Iter;
 pub use len_order::LenOrder;
 pub use probe::{Probe, search};
 use std::alloc::{Allocator, Global};
-use std::fmt::{self, Debug, Formatter, Write};
+use std::fmt::{self, Debug, Display, Formatter, Write};
 use std::marker::Model;
 pub use steps::Steps;
-use wasmi_arena::ArenaError;
+use wasmi_arena::{ArenaError, ArenaKey};
 
 /// What the caller expects of a text that it interns.
 ///
@@ -41,8 +48,11 @@ pub struct Sym(u32);
 
 impl Model for Sym {
     ghost use Rattle.std.specs.Prelude.{ℕ};
+    ghost use Rattle.std.specs.Coded.{coded_ℕ};
 
     ghost Value = { ℕ };
+
+    ghost coded = { coded_ℕ };
 
     ghost view = { λ sym. sym.0 };
 
@@ -78,6 +88,36 @@ impl Sym {
         ensures below { result < 2 ^ 32 }
     {
         self.0 as usize
+    }
+}
+
+/// The number of the symbol, in decimal.
+impl Display for Sym {
+    ghost output = { λ sym. Some (decimal sym) };
+
+    ghost styled_output = { λ sym spec. Some (styled_decimal spec sym) };
+
+    fn fmt<W: Write>(&self, f: &mut Formatter<W>) -> fmt::Result {
+        Display::fmt(&self.0, f)
+    }
+}
+
+/// The key of each number below 2^32, so that a symbol is the key of a
+/// [`ComponentVec`](wasmi_dense::ComponentVec) of what goes with its text.
+impl ArenaKey for Sym {
+    ghost keys = { own_keys (2 ^ 32) };
+
+    ghost key_law = { own_keys_law (2 ^ 32) (lit≤ tt) };
+
+    fn into_usize(self) -> usize {
+        self.0 as usize
+    }
+
+    fn from_usize(value: usize) -> Option<Self> {
+        match u32::try_from(value) {
+            Ok(number) => Some(Sym(number)),
+            Err(_) => None,
+        }
     }
 }
 
@@ -136,6 +176,22 @@ impl<A: Allocator> StringInterner<A> {
         ensures { result ≡ (length self.now == 0) }
     {
         self.len() == 0
+    }
+
+    /// Drops all texts. Symbols begin at 0 again, so those that were handed out resolve to other texts
+    /// later. Linear, no allocation.
+    pub fn clear(&mut self)
+        ensures { self.new ≡ [] }
+    {
+        self.texts.clear();
+        self.index.clear();
+    }
+
+    /// Whether a text is there. A binary search, no allocation.
+    pub fn contains(&self, text: &str) -> bool
+        ensures { result ≡ is_some (symbol_of self.now text.now) }
+    {
+        self.get(text).is_some()
     }
 
     /// The symbol of a text, if it is there. A binary search, which compares at most as many texts as
@@ -212,6 +268,24 @@ impl<A: Allocator> StringInterner<A> {
         Ok(symbol)
     }
 
+    /// Interns the texts, one by one. A binary search for each.
+    ///
+    /// Fails as the first [`get_or_intern`](StringInterner::get_or_intern) that fails. The texts before that
+    /// one stay.
+    pub fn extend<'t, U: IntoIterator<Item = &'t str>>(&mut self, iter: U) -> Result<(), ArenaError>
+    where
+        A: Clone,
+        requires { IsFiniteIterable U.into_iter_gives U.IntoIter.can_next U.IntoIter.remaining iter }
+        ensures ok { OnOk result (InternsAll U.into_iter_gives U.IntoIter.next_gives iter self.old self.new) }
+        ensures err { IfErr result (InternsUntilRefused U.into_iter_gives U.IntoIter.next_gives
+            iter self.old self.new) }
+    {
+        for text in iter {
+            self.get_or_intern_with_hint(text, InternHint::None)?;
+        }
+        Ok(())
+    }
+
     /// The text of a symbol, or `None` if its number isn't below that of the texts. Constant time.
     #[inline]
     pub fn resolve(&self, symbol: Sym) -> Option<&str>
@@ -221,6 +295,39 @@ impl<A: Allocator> StringInterner<A> {
             Some(text) => Some(text.as_str()),
             None => None,
         }
+    }
+
+    /// The text of a symbol, whose number is below that of the texts. Constant time.
+    #[inline]
+    pub fn text(&self, symbol: Sym) -> &str
+        requires { symbol < length self.now }
+        ensures { slice_get self.now symbol ≡ Some result.now }
+    {
+        self.texts[symbol.into_usize()].as_str()
+    }
+
+    /// Each symbol with its text, in the order of the symbols. Constant time for each step.
+    pub fn iter(&self) -> Iter<'_, A>
+        ensures entries { result ≡ with_symbols self.now }
+        ensures len { length result ≡ length self.now }
+        ensures bound { length self.now ≤ 2 ^ 32 }
+    {
+        Iter {
+            texts: self.texts.iter(),
+            next: 0,
+        }
+    }
+}
+
+impl<'a, A: Allocator> IntoIterator for &'a StringInterner<A> {
+    type Item = (Sym, &'a str);
+
+    type IntoIter = Iter<'a, A>;
+
+    ghost into_iter_gives = { λ interner it. it ≡ with_symbols interner.now };
+
+    fn into_iter(self) -> Iter<'a, A> {
+        self.iter()
     }
 }
 

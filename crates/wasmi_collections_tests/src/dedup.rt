@@ -129,6 +129,23 @@ fn a_repeat_needs_no_key(rt: HostRuntime) -> Result<(), Fail> {
 }
 
 #[test]
+fn a_look_hands_nothing_in(rt: HostRuntime) -> Result<(), Fail> {
+    let mut arena = written(rt.alloc())?;
+    for (value, key) in [("x", Some(0)), ("y", Some(1)), ("z", None)] {
+        assert_equal!(rt; arena.key_of(&value), key, "of {value}");
+    }
+    assert_equal!(rt;
+        (arena.next_key(), arena.len(), arena.index().len()),
+        (Ok(2), 2, 2)
+    );
+    assert_equal!(rt; arena.put(1, "z"), Ok("y"));
+    assert_equal!(rt; arena.put(2, "z"), Err(ArenaError::KeyOutOfBounds));
+    assert_equal!(rt; (arena.key_of(&"y"), arena.key_of(&"z")), (Some(1), None));
+    assert_equal!(rt; (arena.get(1), arena.has(1), arena.has(2)), (Ok(&"z"), true, false));
+    Ok(())
+}
+
+#[test]
 fn commands_and_replies(rt: HostRuntime) -> Result<(), Fail> {
     let mut arena: DedupArena<usize, &str> = DedupArena::new(rt.alloc());
     let commands = vec![in rt.alloc();
@@ -343,6 +360,51 @@ fn a_value_whose_clone_is_refused_is_dropped(rt: HostRuntime) -> Result<(), Fail
         assert_equal!(rt; refused, Err(ArenaError::OutOfSystemMemory));
         arena.clear();
         assert_equal!(rt; arena.alloc(String::from_str(&heap, "b")?)?, 0);
+    }
+    assert_equal!(rt; (log.returned(), log.misplaced()), (log.given(), 0));
+    Ok(())
+}
+
+// Both clones of a new value are refused in turn. Nothing is asked for a value that is there.
+#[test]
+fn a_value_by_reference_is_cloned_twice(rt: HostRuntime) -> Result<(), Fail> {
+    let log = Log::new();
+    {
+        let heap = Observed::new(rt.alloc(), &log);
+        let mut arena = two_texts(&heap)?;
+        let known = String::from_str(&heap, "a")?;
+        let new = String::from_str(&heap, "c")?;
+        let asked = log.requests();
+        assert_equal!(rt; (arena.alloc_ref(&known)?, log.requests()), (0, asked));
+        for nth in [1, 2] {
+            log.refuse_once(nth);
+            assert_equal!(rt; arena.alloc_ref(&new), Err(ArenaError::OutOfSystemMemory));
+            assert_equal!(rt; (arena.key_of(&new), arena.len()), (None, 2), "at {nth}");
+        }
+        assert_equal!(rt; arena.alloc_ref(&new)?, 2);
+        assert_equal!(rt; log.requests(), asked.wrapping_add(5));
+        assert_equal!(rt; (arena.key_of(&new), arena.len()), (Some(2), 3));
+    }
+    assert_equal!(rt; (log.returned(), log.misplaced()), (log.given(), 0));
+    Ok(())
+}
+
+// A new text is copied twice, and both copies are refused in turn. Nothing is asked for one that is there.
+#[test]
+fn a_text_that_is_there_is_not_copied(rt: HostRuntime) -> Result<(), Fail> {
+    let log = Log::new();
+    {
+        let heap = Observed::new(rt.alloc(), &log);
+        let mut arena = two_texts(&heap)?;
+        let asked = log.requests();
+        assert_equal!(rt; (arena.alloc_str(&heap, "b")?, log.requests()), (1, asked));
+        for nth in [1, 2] {
+            log.refuse_once(nth);
+            assert_equal!(rt; arena.alloc_str(&heap, "c"), Err(ArenaError::OutOfSystemMemory));
+            assert_equal!(rt; (arena.key_of_str("c"), arena.len()), (None, 2), "at {nth}");
+        }
+        assert_equal!(rt; (arena.alloc_str(&heap, "c")?, arena.key_of_str("c")), (2, Some(2)));
+        assert_equal!(rt; log.requests(), asked.wrapping_add(5));
     }
     assert_equal!(rt; (log.returned(), log.misplaced()), (log.given(), 0));
     Ok(())

@@ -8,6 +8,10 @@ mod head_vec;
 #[cfg(test)]
 mod interner;
 #[cfg(test)]
+mod replace;
+#[cfg(test)]
 mod runs;
 #[cfg(test)]
 mod searches;
+#[cfg(test)]
+mod texts;

@@ -1,5 +1,5 @@
 //! An arena that gives equal values one key.
-ghost use Rattle.std.specs.Prelude.{ℕ, ◌≡◌, ◌<◌, ◌≤◌, ◌==◌, ◌^◌, ◌↔◌, [], length, position, None, Some, Ok, IfOk, IfErr, OnErr, IsErrOf, IsOkUnless, slice_get, IsPermutation, option_map};
+ghost use Rattle.std.specs.Prelude.{ℕ, ◌≡◌, ◌<◌, ◌≤◌, ◌==◌, ◌^◌, ◌↔◌, [], length, position, None, Some, Ok, IfSome, IfOk, IfErr, OnOk, OnErr, IsErrOf, IsOkUnless, IsTrue, slice_get, slice_set, IsPermutation, option_map};
 ghost use Rattle.std.specs.List.{IsDistinct};
 ghost use Rattle.std.specs.Cmp.{on_per, on_equiv};
 ghost use Rattle.std.specs.Cmp.Lexicographic.{pointwise, lists_per, lists_equiv};
@@ -8,6 +8,9 @@ ghost use Rattle.wasmi_arena.specs.Entries.{entries};
 ghost use Rattle.wasmi_collections.specs.Dedup.{keyed, AllocatesValue, RefusesValue, TakesAll, TakesUntilRefused};
 ghost use Rattle.wasmi_dense.specs.ArenaLoan.{left_entries, IsKeyed};
 ghost use Rattle.wasmi_map_specs.specs.Maps.{value_at};
+
+mod by_text;
+mod replace;
 
 use std::alloc::{Allocator, Global};
 use std::fmt::{self, Debug, Formatter, Write};
@@ -89,6 +92,34 @@ impl<Key: ArenaKey, T: Eq + Hash, A: Allocator> DedupArena<Key, T, A> {
         &self.index
     }
 
+    /// The key of a value, if one that is equal to it was handed in. Nothing is handed in. Expected
+    /// constant time, no allocation.
+    pub fn key_of(&self, value: &T) -> Option<Key>
+        ensures value { result
+            ≡ option_map Key.keys.key (position (T.eq value.now) self.now.handed) }
+        ensures known { IfSome result (λ key.
+            position (T.eq value.now) self.now.handed ≡ Some (Key.keys.number key)) }
+        ensures within { IfSome result (λ key. Key.keys.number key < length self.now.items) }
+    {
+        match self.index.get(value) {
+            Some(key) => Some(*key),
+            None => None,
+        }
+    }
+
+    /// The key that the next new value gets, or `NotEnoughKeys` if [`alloc`](DedupArena::alloc) fails
+    /// with it for a new value. Constant time, no allocation.
+    #[inline]
+    pub fn next_key(&self) -> Result<Key, ArenaError>
+        ensures key { IfOk result (λ key. key ≡ Key.keys.key (length self.now.handed)) }
+        ensures has_key { OnOk result (length self.now.handed < Key.keys.count) }
+        ensures no_key { IsErrOf result ArenaError.NotEnoughKeys
+            ↔ (Key.keys.count ≤ length self.now.handed) }
+        ensures errors { IsOkUnless result ArenaError.NotEnoughKeys }
+    {
+        self.items.next_key()
+    }
+
     /// Drops all items and all values handed in. Keys begin at 0 again. Linear, no allocation.
     pub fn clear(&mut self)
     where
@@ -131,6 +162,36 @@ impl<Key: ArenaKey, T: Eq + Hash, A: Allocator> DedupArena<Key, T, A> {
         let item = value.clone()?;
         self.index.insert(value, key)?;
         self.items.alloc(item)
+    }
+
+    /// As [`alloc`](DedupArena::alloc), of a value that isn't given away. Nothing is cloned or allocated for
+    /// one that is there. A new one is cloned twice: its first clone is handed in.
+    ///
+    /// A clone that is equal to another value that was handed in has the key of that one.
+    pub fn alloc_ref(&mut self, value: &T) -> Result<Key, ArenaError>
+    where
+        T: Clone,
+        A: Clone,
+        ensures there { (p : ℕ) → position (T.eq value.now) self.old.handed ≡ Some p
+            → (result ≡ Ok (Key.keys.key p)) × (self.new ≡ self.old) }
+        ensures new { position (T.eq value.now) self.old.handed ≡ None → IfOk result (λ key.
+            (clone : T) × T.is_clone value.now clone
+            × AllocatesValue Key.keys T.eq T.is_clone self.old clone key self.new) }
+        ensures no_key { IsErrOf result ArenaError.NotEnoughKeys
+            ↔ ((position (T.eq value.now) self.old.handed ≡ None)
+            × (Key.keys.count ≤ length self.old.handed)) }
+        ensures refused { IfErr result (λ error. RefusesValue Key.keys T.eq self.old value.now error) }
+        ensures err { OnErr result (self.new ≡ self.old) }
+        ensures within { IfOk result (λ key. Key.keys.number key < length self.new.items) }
+        ensures kept { (other : T) (p : ℕ) → position (T.eq other) self.old.handed ≡ Some p
+            → position (T.eq other) self.new.handed ≡ Some p }
+    {
+        if let Some(key) = self.key_of(value) {
+            return Ok(key);
+        }
+        self.next_key()?;
+        let clone = value.clone()?;
+        self.alloc(clone)
     }
 
     /// The values, handed in one by one to an empty arena, each of which [`alloc`](DedupArena::alloc)
@@ -177,6 +238,32 @@ impl<Key: ArenaKey, T: Eq + Hash, A: Allocator> DedupArena<Key, T, A> {
         ensures errors { IsOkUnless result ArenaError.KeyOutOfBounds }
     {
         self.items.get_mut(key)
+    }
+
+    /// Puts an item under a key in place of the one there, which it returns, or drops it and fails with
+    /// `KeyOutOfBounds` if there is none. Constant time.
+    ///
+    /// This changes the item alone: the value that was handed in for the key keeps it.
+    pub fn put(&mut self, key: Key, item: T) -> Result<T, ArenaError>
+    where
+        T: Drop,
+        ensures old { IfOk result (λ old. slice_get self.old.items (Key.keys.number key) ≡ Some old) }
+        ensures ok { OnOk result
+            (self.new.items ≡ slice_set self.old.items (Key.keys.number key) item) }
+        ensures handed { self.new.handed ≡ self.old.handed }
+        ensures out_of_bounds { IsErrOf result ArenaError.KeyOutOfBounds
+            ↔ (length self.old.items ≤ Key.keys.number key) }
+        ensures errors { IsOkUnless result ArenaError.KeyOutOfBounds }
+        ensures err { OnErr result (self.new ≡ self.old) }
+    {
+        self.items.put(key, item)
+    }
+
+    /// Whether a key reads an item. Constant time.
+    pub fn has(&self, key: Key) -> bool
+        ensures { IsTrue result ↔ (Key.keys.number key < length self.now.items) }
+    {
+        self.items.has(key)
     }
 
     /// Each key with its item, in order. Constant time for each step.

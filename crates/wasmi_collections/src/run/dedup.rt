@@ -6,7 +6,6 @@ ghost use Rattle.wasmi_collections.specs.Runs.{IsRun};
 use crate::arena::DedupArena;
 use std::alloc::Allocator;
 use std::hash::Hash;
-use std::mem;
 use wasmi_arena::{ArenaError, ArenaKey};
 
 /// What a deduplicating arena is asked to do.
@@ -16,6 +15,8 @@ pub enum DedupCommand<Key, T> {
     Alloc(T),
     /// Put the item under the key in place of the one there.
     Put(Key, T),
+    /// Put the value in the place of the one handed in under the key.
+    Replace(Key, T),
     /// Tell whether the key reads an item.
     Has(Key),
     /// Drop all items.
@@ -27,7 +28,7 @@ pub enum DedupCommand<Key, T> {
 pub enum DedupReply<Key, T> {
     /// To `Alloc`: the key of the value.
     Key(Key),
-    /// To `Put`: the item that was there.
+    /// To `Put` and `Replace`: the item that was there.
     Old(T),
     /// To `Has`: whether the key reads an item.
     Has(bool),
@@ -49,11 +50,15 @@ fn perform<Key: ArenaKey, T: Eq + Hash + Clone, A: Allocator + Clone>(
             Ok(key) => DedupReply::Key(key),
             Err(error) => DedupReply::Refused(error),
         },
-        DedupCommand::Put(key, item) => match arena.get_mut(key) {
-            Ok(there) => DedupReply::Old(mem::replace(there, item)),
+        DedupCommand::Put(key, item) => match arena.put(key, item) {
+            Ok(there) => DedupReply::Old(there),
             Err(error) => DedupReply::Refused(error),
         },
-        DedupCommand::Has(key) => DedupReply::Has(arena.get(key).is_ok()),
+        DedupCommand::Replace(key, value) => match arena.replace(key, value) {
+            Ok(there) => DedupReply::Old(there),
+            Err(error) => DedupReply::Refused(error),
+        },
+        DedupCommand::Has(key) => DedupReply::Has(arena.has(key)),
         DedupCommand::Clear => {
             arena.clear();
             DedupReply::Done

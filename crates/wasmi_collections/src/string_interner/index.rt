@@ -45,6 +45,13 @@ impl<A: Allocator> Index<A> {
         }
     }
 
+    // Takes all symbols out. The list of blocks is kept.
+    pub(super) fn clear(&mut self)
+        ensures { self.new.symbols ≡ [] }
+    {
+        self.blocks.clear();
+    }
+
     // The symbol of a rank.
     pub(super) fn at(&self, rank: usize) -> Sym
         requires { rank < length self.now.symbols }

@@ -1,0 +1,49 @@
+//! Calls by a text, where the values are `String`s: no value has to be made for a text that is there.
+ghost use Rattle.std.specs.Prelude.{ℕ, String, ◌≡◌, ◌<◌, ◌≤◌, ◌↔◌, length, map, None, Some, Ok, IfSome, IfOk, IfErr, OnErr, IsErrOf, ◌⊎◌, option_map};
+ghost use Rattle.std.specs.String.{string_bytes, string_eq};
+ghost use Rattle.wasmi_collections.specs.Dedup.{AllocatesValue};
+ghost use Rattle.wasmi_collections.specs.Interner.{symbol_of};
+
+use super::DedupArena;
+use std::alloc::Allocator;
+use wasmi_arena::{ArenaError, ArenaKey};
+
+impl<Key: ArenaKey, B: Allocator, A: Allocator> DedupArena<Key, String<B>, A> {
+    /// The key of a text, if a value with it was handed in. Nothing is handed in. Expected constant time, no
+    /// allocation.
+    pub fn key_of_str(&self, text: &str) -> Option<Key>
+        ensures { result
+            ≡ option_map Key.keys.key (symbol_of (map string_bytes self.now.handed) text.now) }
+    {
+        match self.index.get_str(text) {
+            Some(key) => Some(*key),
+            None => None,
+        }
+    }
+
+    /// As [`alloc`](DedupArena::alloc), of a text. Nothing is copied or allocated for one that is there. Of a
+    /// new one a `String` over `alloc` is handed in.
+    pub fn alloc_str(&mut self, alloc: B, text: &str) -> Result<Key, ArenaError>
+    where
+        B: Clone,
+        A: Clone,
+        ensures there { (p : ℕ) → symbol_of (map string_bytes self.old.handed) text.now ≡ Some p
+            → (result ≡ Ok (Key.keys.key p)) × (self.new ≡ self.old) }
+        ensures new { symbol_of (map string_bytes self.old.handed) text.now ≡ None → IfOk result (λ key.
+            (value : String B) × (string_bytes value ≡ text.now) × AllocatesValue Key.keys string_eq
+            (λ one clone. string_bytes clone ≡ string_bytes one) self.old value key self.new) }
+        ensures no_key { IsErrOf result ArenaError.NotEnoughKeys
+            ↔ ((symbol_of (map string_bytes self.old.handed) text.now ≡ None)
+            × (Key.keys.count ≤ length self.old.handed)) }
+        ensures errors { IfErr result (λ error. (error ≡ ArenaError.NotEnoughKeys)
+            ⊎ (error ≡ ArenaError.OutOfSystemMemory)) }
+        ensures err { OnErr result (self.new ≡ self.old) }
+    {
+        if let Some(key) = self.key_of_str(text) {
+            return Ok(key);
+        }
+        self.next_key()?;
+        let value = String::from_str(alloc, text)?;
+        self.alloc(value)
+    }
+}

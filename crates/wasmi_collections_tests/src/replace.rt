@@ -1,0 +1,311 @@
+//! Values of a deduplicating arena that take the place of others: the worked rows, and what a call asks
+//! for, compares, clones and drops.
+ghost use Rattle.std.specs.Prelude.{nat_eq};
+ghost use Rattle.std.specs.Cmp.{nat_eq_equiv, on_equiv, on_per, partial_equiv_from_equiv};
+ghost use Rattle.std.specs.Cmp.Rules.{hashing};
+ghost use Rattle.std.specs.Hash as fed;
+ghost use Rattle.std.proofs.Common.{rules};
+
+use std::alloc::{AllocError, Global};
+use std::cell::Cell;
+use std::hash::{Hash, Hasher};
+use std::test::Fail;
+use wasmi_collections::arena::{ArenaError, DedupArena};
+use wasmi_collections::run::{DedupCommand, DedupReply, run_dedup};
+use wasmi_vectors::assert_equal;
+use wasmi_vectors::observed::{Log, Observed};
+use wasmi_vectors::tiny::Tiny;
+
+// What values of one test were compared, cloned and dropped.
+#[derive(Drop)]
+struct Counts {
+    compared: Cell<u64>,
+    cloned: Cell<u64>,
+    dropped: Cell<u64>,
+}
+
+impl Counts {
+    fn new() -> Counts {
+        Counts {
+            compared: Cell::new(0),
+            cloned: Cell::new(0),
+            dropped: Cell::new(0),
+        }
+    }
+
+    // The counts since they were asked for last.
+    fn taken(&self) -> (u64, u64, u64) {
+        (
+            self.compared.replace(0),
+            self.cloned.replace(0),
+            self.dropped.replace(0),
+        )
+    }
+}
+
+fn count(cell: &Cell<u64>) {
+    cell.set(cell.get().wrapping_add(1));
+}
+
+// A number that counts.
+struct Counting<'a> {
+    number: u32,
+    counts: &'a Counts,
+}
+
+impl Drop for Counting<'_> {
+    fn drop(self) {
+        count(&self.counts.dropped);
+        let Counting {
+            number: _,
+            counts: _,
+        } = self;
+    }
+}
+
+impl Clone for Counting<'_> {
+    fn clone(&self) -> Result<Self, AllocError> {
+        count(&self.counts.cloned);
+        Ok(Counting {
+            number: self.number,
+            counts: self.counts,
+        })
+    }
+}
+
+impl PartialEq for Counting<'_> {
+    ghost eq = { λ a b. nat_eq a.number b.number };
+
+    ghost laws = { on_per (λ x. x.number) (partial_equiv_from_equiv nat_eq_equiv) };
+
+    fn eq(&self, other: &Self) -> bool {
+        count(&self.counts.compared);
+        self.number == other.number
+    }
+}
+
+impl Eq for Counting<'_> {
+    ghost laws = { on_equiv (λ x. x.number) nat_eq_equiv };
+}
+
+impl Hash for Counting<'_> {
+    ghost hash_input = { λ x. fed.u32 x.number };
+
+    ghost respects_eq = { Prim.search (hashing, rules) };
+
+    fn hash<H: Hasher>(&self, state: &mut H) {
+        self.number.hash(state);
+    }
+}
+
+// What one call compares, clones and drops in an arena of the numbers below `len`, under whose key 6
+// something else was written.
+fn costs(alloc: Global, len: u32, key: usize, number: u32) -> Result<(u64, u64, u64), ArenaError> {
+    let counts = Counts::new();
+    let mut arena: DedupArena<usize, Counting<'_>> = DedupArena::new(alloc);
+    for number in 0..len {
+        let counts = &counts;
+        let _key = arena.alloc(Counting { number, counts })?;
+    }
+    *arena.get_mut(6)? = Counting {
+        number: 7_777,
+        counts: &counts,
+    };
+    let value = Counting {
+        number,
+        counts: &counts,
+    };
+    let _before = counts.taken();
+    let there = arena.replace(key, value);
+    let taken = counts.taken();
+    let _there = there;
+    Ok(taken)
+}
+
+// The value and the one that it takes the place of are looked up, and that one is taken out; where another
+// item was written, it is cloned to be looked up. What isn't returned is dropped.
+#[test]
+fn a_call_costs_the_same_in_any_arena(rt: HostRuntime) -> Result<(), Fail> {
+    for len in [100, 1_000] {
+        for (key, number, want) in [
+            (5, 5_555, (2, 1, 1)),
+            (6, 5_555, (2, 2, 2)),
+            (6, 6, (1, 0, 0)),
+            (5, 8, (1, 0, 1)),
+            (5_000, 8, (0, 0, 1)),
+        ] {
+            assert_equal!(rt; costs(rt.alloc(), len, key, number)?, want, "{number} at {key} of {len}");
+        }
+    }
+    Ok(())
+}
+
+#[test]
+fn the_worked_rows(rt: HostRuntime) -> Result<(), Fail> {
+    let mut arena: DedupArena<usize, &str> = DedupArena::new(rt.alloc());
+    let commands = vec![in rt.alloc();
+        DedupCommand::Alloc("a"),
+        DedupCommand::Alloc("b"),
+        DedupCommand::Replace(0, "c"),
+        DedupCommand::Alloc("c"),
+        DedupCommand::Alloc("a"),
+        DedupCommand::Replace(1, "c"),
+        DedupCommand::Replace(7, "c"),
+        DedupCommand::Replace(1, "b"),
+        DedupCommand::Put(1, "z"),
+        DedupCommand::Replace(1, "d"),
+        DedupCommand::Alloc("b"),
+        DedupCommand::Alloc("z"),
+        DedupCommand::Put(2, "q"),
+        DedupCommand::Replace(2, "a"),
+        DedupCommand::Alloc("a"),
+    ]?;
+    let replies = run_dedup(rt.alloc(), &mut arena, commands)?;
+    assert_equal!(rt;
+        replies.as_slice(),
+        [
+            DedupReply::Key(0),
+            DedupReply::Key(1),
+            DedupReply::Old("a"),
+            DedupReply::Key(0),
+            DedupReply::Key(2),
+            DedupReply::Refused(ArenaError::DuplicateItem),
+            DedupReply::Refused(ArenaError::KeyOutOfBounds),
+            DedupReply::Old("b"),
+            DedupReply::Old("b"),
+            DedupReply::Old("z"),
+            DedupReply::Key(3),
+            DedupReply::Key(4),
+            DedupReply::Old("a"),
+            DedupReply::Old("q"),
+            DedupReply::Key(2)
+        ]
+        .as_slice()
+    );
+    Ok(())
+}
+
+#[test]
+fn a_new_value_needs_no_key(rt: HostRuntime) -> Result<(), Fail> {
+    let mut arena: DedupArena<Tiny, &str> = DedupArena::from_iter(
+        rt.alloc(),
+        ["p", "q", "r", "s"],
+    )?;
+    let last = arena.alloc("s")?;
+    assert_equal!(rt; (arena.replace(last, "t")?, arena.alloc("t")?), ("s", last));
+    assert_equal!(rt; arena.alloc("s").err(), Some(ArenaError::NotEnoughKeys));
+    Ok(())
+}
+
+// A number whose clone is the next one.
+#[derive(Debug, PartialEq, Eq, Hash, Drop)]
+struct Next(u32);
+
+impl Clone for Next {
+    fn clone(&self) -> Result<Self, AllocError> {
+        Ok(Next(self.0.wrapping_add(1)))
+    }
+}
+
+#[test]
+fn a_clone_that_differs_changes_nothing(rt: HostRuntime) -> Result<(), Fail> {
+    let mut arena: DedupArena<usize, Next> = DedupArena::from_iter(rt.alloc(), [Next(0), Next(1)])?;
+    assert_equal!(rt; arena.replace(0, Next(5)), Err(ArenaError::OutOfSystemMemory));
+    assert_equal!(rt; (arena.get(0), arena.get(1)), (Ok(&Next(1)), Ok(&Next(2))));
+    for (key, number) in [0, 1, 5].iter().enumerate() {
+        assert_equal!(rt; arena.alloc(Next(*number)), Ok(key));
+    }
+    assert_equal!(rt; arena.index().len(), 3);
+    Ok(())
+}
+
+type Texts<'a, 'l> = DedupArena<usize, String<&'a Observed<'l>>, &'a Observed<'l>>;
+
+// An arena of "a", "b" and "c", of which the second was written over where it says so.
+fn three_texts<'a, 'l>(heap: &'a Observed<'l>, written: bool) -> Result<Texts<'a, 'l>, ArenaError> {
+    let mut arena = DedupArena::new(heap);
+    for text in ["a", "b", "c"] {
+        let _key = arena.alloc(String::from_str(heap, text)?)?;
+    }
+    if written {
+        *arena.get_mut(1)? = String::from_str(heap, "z")?;
+    }
+    Ok(arena)
+}
+
+// Whether these values have the keys from 0 on, and there is no other.
+fn are_handed<'a, 'l>(
+    arena: &mut Texts<'a, 'l>,
+    heap: &'a Observed<'l>,
+    texts: [&str; 3],
+) -> Result<bool, ArenaError> {
+    for (nth, text) in texts.iter().enumerate() {
+        if arena.alloc(String::from_str(heap, *text)?)? != nth {
+            return Ok(false);
+        }
+    }
+    Ok(arena.len() == 3)
+}
+
+// The requests are for the clone of the value, and for that of the one that it takes the place of, where
+// an item was written there. The index has room.
+#[test]
+fn each_request_refused_in_turn(rt: HostRuntime) -> Result<(), Fail> {
+    for (written, text, there, requests) in [
+        (false, "d", "b", 1),
+        (true, "d", "z", 2),
+        (true, "b", "z", 0),
+    ] {
+        for nth in 1..4 {
+            let log = Log::new();
+            {
+                let heap = Observed::new(rt.alloc(), &log);
+                let mut arena = three_texts(&heap, written)?;
+                let value = String::from_str(&heap, text)?;
+                log.refuse_once(nth);
+                let result = arena.replace(1, value);
+                log.refuse_none();
+                let refused = nth <= requests;
+                let want = if refused {
+                    Err(ArenaError::OutOfSystemMemory)
+                } else {
+                    Ok(there)
+                };
+                assert_equal!(rt; result.as_ref().map(|there| there.as_str()).map_err(|error| *error), want, "{text} at {nth}");
+                let handed = ["a", if refused { "b" } else { text }, "c"];
+                assert!(rt; are_handed(&mut arena, &heap, handed)?, "{text} at {nth}");
+            }
+            assert_equal!(rt; (log.returned(), log.misplaced()), (log.given(), 0));
+        }
+    }
+    Ok(())
+}
+
+// The numbers ask for nothing, so that what is refused is a block of the index.
+#[test]
+fn a_refused_growth_changes_nothing(rt: HostRuntime) -> Result<(), Fail> {
+    let mut refused = 0u64;
+    for len in 1..60u32 {
+        let log = Log::new();
+        {
+            let heap = Observed::new(rt.alloc(), &log);
+            let mut arena: DedupArena<usize, u32, &Observed<'_>> = DedupArena::new(&heap);
+            for value in 0..len {
+                let _key = arena.alloc(value)?;
+            }
+            log.refuse_once(1);
+            let first = if arena.replace(0, 99).is_err() { 0 } else { 99 };
+            refused = refused.wrapping_add(if first == 0 { 1 } else { 0 });
+            log.refuse_none();
+            assert_equal!(rt; arena.alloc(first), Ok(0));
+            assert_equal!(rt; arena.get(0), Ok(&first));
+            for value in 1..len {
+                assert_equal!(rt; arena.alloc(value), Ok(value as usize), "of {len}");
+            }
+            assert_equal!(rt; arena.len(), len as usize);
+        }
+        assert_equal!(rt; (log.returned(), log.misplaced()), (log.given(), 0));
+    }
+    assert!(rt; refused > 2);
+    Ok(())
+}

@@ -1,0 +1,81 @@
+//! The texts of an interner: visited, handed in by an iterator, and dropped.
+use std::test::Fail;
+use wasmi_arena::{ArenaError, ArenaKey};
+use wasmi_collections::StringInterner;
+use wasmi_collections::string_interner::Sym;
+use wasmi_vectors::assert_equal;
+use wasmi_vectors::observed::{Log, Observed};
+
+const NAMES: [&str; 5] = ["memory", "table", "", "global", "é"];
+
+#[test]
+fn texts_are_visited_from_both_ends(rt: HostRuntime) -> Result<(), Fail> {
+    let mut interner = StringInterner::new(rt.alloc());
+    interner.extend(NAMES)?;
+    let mut left = interner.iter();
+    for (number, text) in [(4, "é"), (3, "global"), (2, "")] {
+        match left.next_back() {
+            Some((symbol, last)) => assert_equal!(rt; (symbol.into_u32(), last), (number, text)),
+            None => return Err("a text is left".into()),
+        }
+    }
+    assert_equal!(rt; left.len(), 2);
+    for (number, text) in [(0, "memory"), (1, "table")] {
+        match left.next() {
+            Some((symbol, first)) => assert_equal!(rt; (symbol.into_u32(), first), (number, text)),
+            None => return Err("a text is left".into()),
+        }
+    }
+    match (left.next_back(), left.next()) {
+        (None, None) => assert_equal!(rt; left.len(), 0),
+        _ => return Err("no text is left".into()),
+    }
+    for (symbol, text) in &interner {
+        assert_equal!(rt; interner.resolve(symbol), Some(text));
+    }
+    Ok(())
+}
+
+#[test]
+fn a_symbol_is_a_key(rt: HostRuntime) -> Result<(), Fail> {
+    for number in [0, u32::MAX] {
+        let symbol = Sym::from_u32(number);
+        let key: Option<Sym> = ArenaKey::from_usize(number as usize);
+        assert_equal!(rt; (key, ArenaKey::into_usize(symbol)), (Some(symbol), number as usize));
+    }
+    let none: Option<Sym> = ArenaKey::from_usize(4_294_967_296);
+    assert_equal!(rt; none, None);
+    let symbol = Sym::from_u32(20);
+    let shown = format!(in rt.alloc(); "{symbol}{symbol:>4}")?;
+    assert_equal!(rt; shown.as_str(), "20  20");
+    Ok(())
+}
+
+// What is there needs no memory. After an error the texts before it stay.
+#[test]
+fn texts_of_an_iterator_are_interned(rt: HostRuntime) -> Result<(), Fail> {
+    let log = Log::new();
+    {
+        let handle = Observed::new(rt.alloc(), &log);
+        let mut interner = StringInterner::new(&handle);
+        interner.extend(NAMES)?;
+        let asked = log.requests();
+        interner.extend(["é", "", "table", ""])?;
+        assert_equal!(rt; (interner.len(), log.requests()), (5, asked));
+        interner.clear();
+        assert_equal!(rt; (interner.len(), interner.contains("table")), (0, false));
+        assert_equal!(rt; log.requests(), asked);
+        interner.extend(["x"])?;
+        log.refuse_once(1);
+        let refused = interner.extend(["", "x", "y", "z"]);
+        assert_equal!(rt; refused, Err(ArenaError::OutOfSystemMemory));
+        for (text, is_there) in [("x", true), ("", true), ("y", false), ("z", false)] {
+            assert_equal!(rt; interner.contains(text), is_there, "of {text}");
+        }
+        interner.extend(["z", "y"])?;
+        assert_equal!(rt; interner.get("y"), Some(Sym::from_u32(3)));
+        assert_equal!(rt; interner.text(Sym::from_u32(1)), "");
+    }
+    assert_equal!(rt; (log.returned(), log.misplaced()), (log.given(), 0));
+    Ok(())
+}
