@@ -8,7 +8,7 @@ use Rattle.std.proofs.lemmas.Bool.Decides.{nat_tests}
 use Rattle.std.proofs.lemmas.List.{length-map, map-append}
 use Rattle.wasmi_arena.specs.Keys.{own_keys}
 use Rattle.wasmi_arena.specs.declared.error.ArenaError.{ArenaError}
-use Rattle.wasmi_arena.specs.declared.error.ArenaError.TheVariants.{OutOfSystemMemory, KeyOutOfBounds, NotEnoughKeys, AliasingPairAccess}
+use Rattle.wasmi_arena.specs.declared.error.ArenaError.TheVariants.{OutOfSystemMemory, KeyOutOfBounds, NotEnoughKeys, AliasingPairAccess, DuplicateItem}
 use Rattle.wasmi_collections.specs.Dedup.{DedupState, AllocatesValue, RefusesValue}
 use Rattle.wasmi_script_lib.specs.Replies.{given_reply, number_reply}
 use Rattle.wasmi_script_lib.specs.Distinct.{number_at, number_given, texts_at, with_text}
@@ -75,3 +75,4 @@ module _ {X : Type 0} (bytes : X → List ℕ) (limit : ℕ) where
   given-replied clones word text value (Err OutOfSystemMemory) old new e ok refused err memory = absurd (memory refl)
   given-replied clones word text value (Err KeyOutOfBounds) old new e ok refused err memory = absurd refused
   given-replied clones word text value (Err AliasingPairAccess) old new e ok refused err memory = absurd refused
+  given-replied clones word text value (Err DuplicateItem) old new e ok refused err memory = absurd refused

@@ -1,1 +1,2 @@
 pub mod NameLemmas
+pub mod EntityLemmas

@@ -1,11 +1,15 @@
 //! Callers of the containers, as someone would write them, each proved from the public contracts alone.
 #![tactic(auto)]
 
+pub mod compiler;
 pub mod constants;
 pub mod define;
+pub mod entities;
+pub mod exports;
 pub mod frames;
 pub mod imports;
 pub mod linker;
+pub mod lookup;
 pub mod properties;
 pub mod reserve;
 pub mod search;

@@ -1,10 +1,11 @@
 //! The names that modules export, each of which a linker takes once.
-ghost use Rattle.std.specs.Prelude.{◌≡◌, [], ◌∷◌, ◌++◌, length, not, true, false, is_some, IfOk, OnErr, Some, slice_get};
+ghost use Rattle.std.specs.Prelude.{◌≡◌, [], ◌∷◌, ◌++◌, length, not, true, false, is_some, IfOk, IfSome, OnErr, Some, slice_get};
 ghost use Rattle.wasmi_collections.specs.Interner.{symbol_of};
 
 use std::alloc::Allocator;
 use wasmi_arena::ArenaError;
 use wasmi_collections::StringInterner;
+use wasmi_collections::laws::appended_texts;
 use wasmi_collections::string_interner::Sym;
 
 /// Takes a name that a module exports, and returns whether no module exported it before. The symbols of
@@ -57,4 +58,20 @@ pub fn import<A: Allocator>(names: &StringInterner<A>, name: &str) -> Option<Sym
     ensures { result ≡ symbol_of names.now name.now }
 {
     names.get(name)
+}
+
+/// Takes a name that a module exports, and returns its symbol if no module exported it before: the number of
+/// names before.
+pub fn symbol_of_new<A: Allocator + Clone>(
+    names: &mut StringInterner<A>,
+    name: &str,
+) -> Result<Option<Sym>, ArenaError>
+    ensures { IfOk result (λ symbol. IfSome symbol (λ number. number ≡ length names.old)) }
+{
+    appended_texts();
+    if names.get(name).is_some() {
+        return Ok(None);
+    }
+    export(names, name)?;
+    Ok(names.get(name))
 }

@@ -1,13 +1,17 @@
 //! Each caller on its happy path.
 
-use crate::constants::{in_its_slot, share_a_slot, slot_again};
+use crate::compiler::Tables;
+use crate::constants::{fold, in_its_slot, share_a_slot, slot_again, slot_of_text};
 use crate::define::define;
+use crate::entities::Entities;
+use crate::exports::{note, noted_of};
 use crate::frames::tail_call;
 use crate::imports::{take_offered, take_offered_hashed};
-use crate::linker::{export, import, symbol_again, symbol_and_text};
+use crate::linker::{export, import, symbol_again, symbol_and_text, symbol_of_new};
+use crate::lookup::{any_differs, first_above};
 use crate::properties::set_once;
 use crate::reserve::put_both;
-use crate::search::position_of;
+use crate::search::{position_of, push_and_find};
 use crate::store::FuncStore;
 use crate::symbols::{Symbols, intern_both};
 use crate::tables::{add_once, add_once_hashed, reset};
@@ -45,6 +49,25 @@ fn symbols_of_three_names(rt: HostRuntime) -> Result<(), Fail> {
 }
 
 #[test]
+fn look_ups_by_the_keys_of_a_walk(rt: HostRuntime) -> Result<(), Fail> {
+    let mut one: StableArena<u32, u64> = StableArena::new(rt.alloc());
+    for i in 0..40u64 {
+        one.alloc(i * 2)?;
+    }
+    let mut other = one.clone()?;
+    if one.len() <= other.len() {
+        assert!(rt; !any_differs(&one, &other));
+    }
+    other.put(35, 1)?;
+    if one.len() <= other.len() {
+        assert!(rt; any_differs(&one, &other));
+    }
+    assert_equal!(rt; first_above(&one, 65), Some((33, 66)));
+    assert_equal!(rt; first_above(&one, 78), None);
+    Ok(())
+}
+
+#[test]
 fn a_search_across_buckets(rt: HostRuntime) -> Result<(), Fail> {
     let mut vec = StableVec::new(rt.alloc());
     for i in 0..100u64 {
@@ -52,6 +75,8 @@ fn a_search_across_buckets(rt: HostRuntime) -> Result<(), Fail> {
     }
     assert_equal!(rt; position_of(&vec, &140), Some(70));
     assert_equal!(rt; position_of(&vec, &141), None);
+    assert_equal!(rt; push_and_find(&mut vec, 141), Ok(Some(100)));
+    assert_equal!(rt; push_and_find(&mut vec, 140), Ok(Some(70)));
     Ok(())
 }
 
@@ -183,6 +208,41 @@ fn a_name_has_one_symbol(rt: HostRuntime) -> Result<(), Fail> {
     assert_equal!(rt; symbol_and_text(&mut names, "table"), Ok((table, true)));
     assert_equal!(rt; symbol_again(&mut names, "table", "start"), Ok((table, table)));
     assert_equal!(rt; names.len(), 3);
+    assert_equal!(rt; symbol_of_new(&mut names, "start"), Ok(None));
+    assert_equal!(rt; symbol_of_new(&mut names, "elem"), Ok(Some(Sym::from_u32(3))));
+    Ok(())
+}
+
+#[test]
+fn what_names_stand_for(rt: HostRuntime) -> Result<(), Fail> {
+    let mut names = StringInterner::new(rt.alloc());
+    let mut noted = ComponentVec::new(rt.alloc());
+    names.get_or_intern("start")?;
+    for (name, value) in [("memory", 1), ("table", 2), ("memory", 3)] {
+        note(&mut names, &mut noted, name, value)?;
+    }
+    for (name, value) in [
+        ("memory", Some(&3)),
+        ("table", Some(&2)),
+        ("start", None),
+        ("elem", None),
+    ] {
+        assert_equal!(rt; noted_of(&names, &noted, name), value, "of {name}");
+    }
+    assert_equal!(rt; noted.get(Sym::from_u32(2)), Some(&2));
+    Ok(())
+}
+
+#[test]
+fn a_text_has_a_slot(rt: HostRuntime) -> Result<(), Fail> {
+    let mut table = DedupArena::new(rt.alloc());
+    for text in ["memory", "table"] {
+        table.alloc(String::from_str(rt.alloc(), text)?)?;
+    }
+    for (text, slot) in [("memory", Some(0)), ("table", Some(1)), ("elem", None)] {
+        let text = String::from_str(rt.alloc(), text)?;
+        assert_equal!(rt; slot_of_text(&table, &text), slot, "of {text}");
+    }
     Ok(())
 }
 
@@ -194,5 +254,45 @@ fn a_constant_has_one_slot(rt: HostRuntime) -> Result<(), Fail> {
     assert_equal!(rt; slot_again(&mut table, 8, 9), Ok((1, 1)));
     assert_equal!(rt; in_its_slot(&mut table, 9), Ok(9));
     assert_equal!(rt; table.len(), 3);
+    Ok(())
+}
+
+#[test]
+fn a_folded_constant_has_one_slot(rt: HostRuntime) -> Result<(), Fail> {
+    let mut table: DedupArena<u32, u64> = DedupArena::from_iter(rt.alloc(), [40, 2, 42])?;
+    for (slot, folded, want) in [(0, 43, 0), (1, 42, 2), (2, 42, 2)] {
+        assert_equal!(rt; fold(&mut table, slot, folded)?, want, "{folded} at {slot}");
+    }
+    assert!(rt; fold(&mut table, 3, 1).is_err());
+    for (slot, item) in [43, 2, 42, 40].iter().enumerate() {
+        assert_equal!(rt; table.alloc(*item)?, slot as u32);
+    }
+    Ok(())
+}
+
+#[test]
+fn tables_of_a_module(rt: HostRuntime) -> Result<(), Fail> {
+    let mut tables = Tables::new(rt.alloc());
+    let (first, symbol) = tables.declare("start", 7)?;
+    let (second, other) = tables.declare("stop", 9)?;
+    assert!(rt; first != second && symbol != other);
+    assert_equal!(rt; tables.name_and_line(second), Some((other, Some(9))));
+    for (constant, slot) in [(40, 0), (2, 1), (40, 0)] {
+        assert_equal!(rt; tables.constant(constant)?, slot);
+    }
+    Ok(())
+}
+
+#[test]
+fn entities_with_properties(rt: HostRuntime) -> Result<(), Fail> {
+    let mut entities = Entities::new(rt.alloc());
+    for (name, key) in [("ann", 0), ("bob", 1), ("ann", 2)] {
+        assert_equal!(rt; entities.add(name)?, key);
+    }
+    entities.set(1, 42)?;
+    assert_equal!(rt; entities.get(1), Some(("bob", Some(42))));
+    assert_equal!(rt; entities.get(2), Some(("ann", None)));
+    assert_equal!(rt; entities.get(3), None);
+    assert!(rt; entities.set(3, 1).is_err());
     Ok(())
 }

@@ -1,0 +1,35 @@
+//! Look-ups by the keys that a walk over an arena gives.
+ghost use Rattle.std.specs.Prelude.{◌≡◌, ◌≤◌, length, slice_get, IfSome, Some};
+
+use wasmi_arena::laws::walked_entries_read;
+use wasmi_arena::{ArenaKey, StableArena};
+
+/// Whether an item differs from the one under its key in another arena, which has at least as many.
+/// Linear.
+pub fn any_differs<Key: ArenaKey>(
+    one: &StableArena<Key, u64>,
+    other: &StableArena<Key, u64>,
+) -> bool
+    requires { length one.now ≤ length other.now }
+{
+    one.len();
+    walked_entries_read::<Key, u64>();
+    for (key, item) in one {
+        if other[key] != *item {
+            return true;
+        }
+    }
+    false
+}
+
+/// The key of the first item above a limit, with what it reads, if there is one. Linear.
+pub fn first_above<Key: ArenaKey>(arena: &StableArena<Key, u64>, limit: u64) -> Option<(Key, u64)>
+    ensures { IfSome result (λ found. slice_get arena.now (Key.keys.number found.0) ≡ Some found.1) }
+{
+    arena.len();
+    walked_entries_read::<Key, u64>();
+    match arena.iter().find(|entry| *entry.1 > limit) {
+        Some((key, _)) => Some((key, arena[key])),
+        None => None,
+    }
+}
