@@ -1,16 +1,17 @@
 -- An index of texts finds each by its bytes.
-use Rattle.std.proofs.Common.{◌≡◌, ℕ, ◌+◌, Bool, true, false, cond, List, [], ◌∷◌, map, Option, Some, None, option_map, refl, sym, ap, ◌∙◌, subst, string_bytes}
-use Rattle.std.specs.List.{position_from}
+use Rattle.std.proofs.Common.{◌≡◌, ℕ, ◌+◌, Bool, true, false, cond, List, [], ◌∷◌, ◌++◌, length, map, slice_set, Option, Some, None, option_map, refl, sym, ap, ◌∙◌, subst, string_bytes, inl, inr}
+use Rattle.std.specs.List.{AllByRecursion, IsDistinct, position, position_from}
 use Rattle.std.specs.Str.{bytes_eq}
 use Rattle.std.specs.String.{string_eq}
 use Rattle.std.specs.declared.string.String.{String}
 use Rattle.std.proofs.lemmas.Iterator.Adapters.{position_from-zero}
+use Rattle.std.proofs.lemmas.List.{map-append, map-set}
 use Rattle.std.proofs.lemmas.Option.{none-some}
 use Rattle.std.proofs.lemmas.Slice.Eq.{bytes_eq-Decides}
 use Rattle.wasmi_arena.specs.Keys.{Keys}
 use Rattle.wasmi_map_specs.specs.Seen.{value_seen_as}
-use Rattle.wasmi_collections.specs.Dedup.{IsIndex}
-use Rattle.wasmi_collections.specs.Interner.{symbol_of}
+use Rattle.wasmi_collections.specs.Dedup.{DedupState, IsIndex, AllocatesValue, ReplacesValue}
+use Rattle.wasmi_collections.specs.Interner.{symbol_of, AreDistinctTexts}
 use Rattle.wasmi_collections.proofs.Dedup.{position-by_view}
 
 -- a string with this text
@@ -57,3 +58,47 @@ module _ {K Z : Type 0} (keys : Keys K) (handed : List (String Z)) (index : List
       next None found (Some p) at =
           of_text text (value_with text 0 handed p (sym (position_from-zero (bytes_eq text) (map string_bytes handed)) ∙ at))
       next None found None at = found ∙ sym (ap (option_map keys.key) at)
+
+-- ---- the texts of both lists
+
+module _ {Z : Type 0} where
+  abbrev same_bytes : String Z → String Z → Type 0
+  same_bytes one clone = string_bytes clone ≡ string_bytes one
+
+  bytes_differ : (x : String Z) (xs : List (String Z)) → AllByRecursion (λ y. string_eq x y ≡ false) xs → AllByRecursion (λ text. bytes_eq (string_bytes x) text ≡ false) (map string_bytes xs)
+  bytes_differ x [] all = tt
+  bytes_differ x (y ∷ ys) all = (all.0, bytes_differ x ys all.1)
+
+  -- distinct values have distinct texts
+  pub distinct_bytes : (xs : List (String Z)) → IsDistinct string_eq xs → AreDistinctTexts (map string_bytes xs)
+  unfolding IsDistinct
+  distinct_bytes [] distinct = tt
+  distinct_bytes (x ∷ xs) distinct = (bytes_differ x xs distinct.0, distinct_bytes xs distinct.1)
+
+  -- a value whose text isn't among those handed in isn't either
+  not_found : (handed : List (String Z)) (value : String Z) (p : ℕ) → symbol_of (map string_bytes handed) (string_bytes value) ≡ None → position (string_eq value) handed ≡ Some p → ⊥
+  not_found handed value p absent is = none-some p (sym absent ∙ (sym (position-by_view bytes_eq string_bytes value handed) ∙ is))
+
+  module _ {K : Type 0} (keys : Keys K) (old new : DedupState (String Z)) where
+    -- one that is handed in goes to the end of both lists
+    pub texts_allocated : (value : String Z) (key : K) → symbol_of (map string_bytes old.handed) (string_bytes value) ≡ None → AllocatesValue keys string_eq same_bytes old value key new
+        → (key ≡ keys.key (length old.handed)) × (map string_bytes new.handed ≡ map string_bytes old.handed ++ string_bytes value ∷ []) × (map string_bytes new.items ≡ map string_bytes old.items ++ string_bytes value ∷ [])
+    texts_allocated value key absent given = elim given [
+      | inl found ↦ absurd (not_found old.handed value found.0 absent found.1)
+      | inr added ↦ (
+        added.key_is,
+        ap (map string_bytes) added.handed_are ∙ map-append string_bytes old.handed (value ∷ []),
+        ap (map string_bytes) added.items_are.2 ∙ (map-append string_bytes old.items (added.items_are.0 ∷ []) ∙ ap (λ text. map string_bytes old.items ++ text ∷ []) added.items_are.1),
+      )
+    ]
+
+    -- one that takes the place of another does so in both lists
+    pub texts_replaced : (key : K) (value there : String Z) → symbol_of (map string_bytes old.handed) (string_bytes value) ≡ None → ReplacesValue keys string_eq same_bytes old key value there new
+        → (map string_bytes new.handed ≡ slice_set (map string_bytes old.handed) (keys.number key) (string_bytes value)) × (map string_bytes new.items ≡ slice_set (map string_bytes old.items) (keys.number key) (string_bytes value))
+    texts_replaced key value there absent given = elim given [
+      | inl same ↦ absurd (not_found old.handed value (keys.number key) absent same.0)
+      | inr moved ↦ (
+        ap (map string_bytes) moved.handed_are ∙ map-set string_bytes old.handed (keys.number key) value,
+        ap (map string_bytes) moved.items_are.2 ∙ (map-set string_bytes old.items (keys.number key) moved.items_are.0 ∙ ap (slice_set (map string_bytes old.items) (keys.number key)) moved.items_are.1),
+      )
+    ]

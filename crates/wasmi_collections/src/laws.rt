@@ -21,7 +21,9 @@ mod interner;
 
 use crate::HeadVec;
 use crate::run::{AnyMap, AnySet};
-pub use appended::{appended_texts, appended_values, strings_by_bytes};
+pub use appended::{
+    appended_texts, appended_values, strings_by_bytes, symbols_of_distinct_texts, texts_handed_in,
+};
 pub use interner::{
     equal_in_length_order, equal_symbols_of_equal_texts, interned_texts, length_order,
 };

@@ -1,10 +1,13 @@
 //! Laws of lists to whose end one more value or text goes.
-ghost use Rattle.std.specs.Prelude.{◌≡◌, ◌∷◌, ◌++◌, [], ℕ, List, length, map, position, None, Some, String};
+ghost use Rattle.std.specs.Prelude.{◌≡◌, ◌∷◌, ◌++◌, [], ℕ, List, length, map, position, None, Some, String, slice_get, slice_set};
+ghost use Rattle.std.specs.List.{IsDistinct};
 ghost use Rattle.std.specs.Str.{bytes_eq};
 ghost use Rattle.std.specs.String.{string_bytes, string_eq};
-ghost use Rattle.wasmi_collections.specs.Interner.{symbol_of};
+ghost use Rattle.wasmi_collections.specs.Dedup.{DedupState, AllocatesValue, ReplacesValue};
+ghost use Rattle.wasmi_collections.specs.Interner.{symbol_of, AreDistinctTexts};
 
 use std::alloc::Allocator;
+use wasmi_arena::ArenaKey;
 
 /// A text that wasn't there is found at the end once it was put there, and its symbol is the number of texts
 /// before. Other texts keep their symbols.
@@ -29,4 +32,34 @@ pub fn appended_values<T: Eq>()
 pub fn strings_by_bytes<B: Allocator>()
     ensures { (texts : List (String B)) (text : String B) → position (string_eq text) texts
         ≡ symbol_of (map string_bytes texts) (string_bytes text) }
+{}
+
+/// Among distinct texts the symbol of a text is the one position at which it stands.
+pub fn symbols_of_distinct_texts()
+    ensures reads { (texts : List (List ℕ)) (text : List ℕ) (symbol : ℕ)
+        → symbol_of texts text ≡ Some symbol → slice_get texts symbol ≡ Some text }
+    ensures stands { (texts : List (List ℕ)) (text : List ℕ) (symbol : ℕ) → AreDistinctTexts texts
+        → slice_get texts symbol ≡ Some text → symbol_of texts text ≡ Some symbol }
+{}
+
+/// What becomes of the texts of a `DedupArena<_, String>`, if a new one is handed in, or takes the place of
+/// another: they change in both lists as the values do. Distinct values have distinct texts.
+pub fn texts_handed_in<Key: ArenaKey, B: Allocator>()
+    ensures allocated { (old new : DedupState (String B)) (value : String B) (key : Key)
+        → symbol_of (map string_bytes old.handed) (string_bytes value) ≡ None
+        → AllocatesValue Key.keys string_eq (λ one clone. string_bytes clone ≡ string_bytes one)
+        old value key new
+        → (key ≡ Key.keys.key (length old.handed))
+        × (map string_bytes new.handed ≡ map string_bytes old.handed ++ string_bytes value ∷ [])
+        × (map string_bytes new.items ≡ map string_bytes old.items ++ string_bytes value ∷ []) }
+    ensures replaced { (old new : DedupState (String B)) (key : Key) (value there : String B)
+        → symbol_of (map string_bytes old.handed) (string_bytes value) ≡ None
+        → ReplacesValue Key.keys string_eq (λ one clone. string_bytes clone ≡ string_bytes one)
+        old key value there new
+        → (map string_bytes new.handed
+        ≡ slice_set (map string_bytes old.handed) (Key.keys.number key) (string_bytes value))
+        × (map string_bytes new.items
+        ≡ slice_set (map string_bytes old.items) (Key.keys.number key) (string_bytes value)) }
+    ensures distinct { (texts : List (String B)) → IsDistinct string_eq texts
+        → AreDistinctTexts (map string_bytes texts) }
 {}
