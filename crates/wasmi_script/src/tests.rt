@@ -3,7 +3,8 @@
 use std::io;
 use std::io::{ErrorKind, Read, Write};
 use std::test::Fail;
-use wasmi_script_lib::{ScriptError, answer, run};
+use wasmi_arena::{ArenaError, ArenaKey};
+use wasmi_script_lib::{EntityKey, EntityStore, ScriptError, answer, run};
 
 #[test]
 fn replies(rt: HostRuntime) -> Result<(), Fail> {
@@ -161,5 +162,47 @@ fn runs_byte_by_byte(rt: HostRuntime) -> Result<(), Fail> {
         );
         assert_eq!(rt; sink.bytes.as_slice(), written, "with {fault:?}");
     }
+    Ok(())
+}
+
+#[test]
+fn a_store_of_entities(rt: HostRuntime) -> Result<(), Fail> {
+    let mut store = EntityStore::new(rt.alloc());
+    for (number, (name, kind)) in [("ann", "user"), ("bob", "user"), ("ann", "group")]
+        .into_iter()
+        .enumerate()
+    {
+        assert_eq!(rt; store.add(name, kind)?.into_usize(), number);
+    }
+    assert_eq!(rt; (store.len(), store.names(), store.kinds()), (3, 2, 2));
+    let [Some(ann), Some(bob), Some(group), Some(none)] = [0, 1, 2, 5].map(EntityKey::from_usize)
+    else {
+        return Ok(());
+    };
+    assert_eq!(rt; store.set(bob, 42), Ok(None));
+    assert_eq!(rt; store.set(bob, 7), Ok(Some(42)));
+    assert_eq!(rt; store.set(none, 7), Err(ArenaError::KeyOutOfBounds));
+    assert_eq!(rt; store.rename_kind(ann, "admin"), Ok(()));
+    assert_eq!(rt; store.rename_kind(bob, "admin"), Ok(()));
+    assert_eq!(rt;
+        store.rename_kind(group, "admin"),
+        Err(ArenaError::DuplicateItem)
+    );
+    assert_eq!(rt;
+        store.rename_kind(none, "admin"),
+        Err(ArenaError::KeyOutOfBounds)
+    );
+    assert_eq!(rt; store.get(ann), Ok(("ann", "admin", None)));
+    assert_eq!(rt; store.get(bob), Ok(("bob", "admin", Some(7))));
+    assert_eq!(rt; store.get(group), Ok(("ann", "group", None)));
+    assert_eq!(rt; store.get(none), Err(ArenaError::KeyOutOfBounds));
+    assert_eq!(rt; store.unset(bob), Ok(Some(7)));
+    assert_eq!(rt; store.unset(none), Err(ArenaError::KeyOutOfBounds));
+    assert_eq!(rt; store.get(bob), Ok(("bob", "admin", None)));
+    let eve = store.add("eve", "user")?;
+    assert_eq!(rt;
+        (eve.into_usize(), store.len(), store.names(), store.kinds()),
+        (3, 4, 3, 3)
+    );
     Ok(())
 }

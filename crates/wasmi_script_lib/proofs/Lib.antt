@@ -3,3 +3,4 @@ pub mod LineLemmas
 pub mod NumberLemmas
 pub mod OutputLemmas
 pub mod ReplyLemmas
+pub mod StoreLemmas

@@ -6,3 +6,4 @@ pub mod Replies
 pub mod Outputs
 pub mod Sessions
 pub mod Statuses
+pub mod Store

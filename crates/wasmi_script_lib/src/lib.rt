@@ -19,7 +19,9 @@ mod error;
 mod line;
 mod program;
 mod session;
+mod store;
 
 pub use error::ScriptError;
 pub use program::run;
 pub use session::answer;
+pub use store::{EntityKey, EntityStore};
