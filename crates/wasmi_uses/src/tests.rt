@@ -8,7 +8,7 @@ use crate::exports::{note, noted_of};
 use crate::frames::tail_call;
 use crate::imports::{take_offered, take_offered_hashed};
 use crate::linker::{export, import, symbol_again, symbol_and_text, symbol_of_new};
-use crate::lookup::{any_differs, first_above};
+use crate::lookup::{any_differs, first_above, read};
 use crate::properties::set_once;
 use crate::reserve::put_both;
 use crate::search::{position_of, push_and_find};
@@ -64,6 +64,12 @@ fn look_ups_by_the_keys_of_a_walk(rt: HostRuntime) -> Result<(), Fail> {
     }
     assert_equal!(rt; first_above(&one, 65), Some((33, 66)));
     assert_equal!(rt; first_above(&one, 78), None);
+    assert_equal!(rt; read(&one, 39).ok(), Some(78));
+    let text = match read(&one, 40) {
+        Ok(_) => String::new(rt.alloc()),
+        Err(error) => format!(in rt.alloc(); "{error:#}")?,
+    };
+    assert_equal!(rt; text.as_str(), "key 40 of an arena of 40 items: encounteded out of bounds key");
     Ok(())
 }
 
