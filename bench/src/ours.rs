@@ -26,6 +26,10 @@ unsafe extern "C" {
     pub safe fn wasmi_bench_dense_iter_mut(n: u64, rounds: u64) -> u64;
     pub safe fn wasmi_bench_dedup_alloc_new(n: u64, rounds: u64) -> u64;
     pub safe fn wasmi_bench_dedup_alloc_again(n: u64, rounds: u64) -> u64;
+    pub safe fn wasmi_bench_dedup_replace(n: u64, rounds: u64) -> u64;
+    pub safe fn wasmi_bench_dedup_replace_written(n: u64, rounds: u64) -> u64;
+    pub safe fn wasmi_bench_ordered_map_get_str(n: u64, rounds: u64) -> u64;
+    pub safe fn wasmi_bench_hashed_map_get_str(n: u64, rounds: u64) -> u64;
     pub safe fn wasmi_bench_intern_new(n: u64, rounds: u64) -> u64;
     pub safe fn wasmi_bench_intern_again(n: u64, rounds: u64) -> u64;
     pub safe fn wasmi_bench_resolve(n: u64, rounds: u64) -> u64;

@@ -1,12 +1,13 @@
 //! The table of rows. A new row is a line here, and a function of its name on each side.
 
 use crate::tables::{
-    dedup_again, dedup_new, intern_again, intern_new, map_append, map_entry, map_get, map_insert,
-    map_iter, resolve, set_contains, set_insert, set_iter, set_union,
+    dedup_again, dedup_new, dedup_replace, dedup_replace_written, intern_again, intern_new,
+    map_append, map_entry, map_get, map_get_str, map_insert, map_iter, resolve, set_contains,
+    set_insert, set_iter, set_union,
 };
 use crate::tables::{
-    OrderedMap, OrderedSet, PlainDedup, PlainInterner, PlainTable, PlainTableSet, PlainTree,
-    PlainTreeSet, RustDedup, RustInterner,
+    OrderedMap, OrderedNames, OrderedSet, PlainDedup, PlainInterner, PlainTable, PlainTableNames,
+    PlainTableSet, PlainTree, PlainTreeNames, PlainTreeSet, RustDedup, RustInterner,
 };
 use crate::{ours, plain, theirs};
 
@@ -172,6 +173,10 @@ pub const ROWS: &[Row] = &[
     walk("Hashed `Set` walk over a union", ours::wasmi_bench_hashed_set_union, ours::wasmi_bench_hash_set_union, set_union::<PlainTableSet>, set_union::<PlainTableSet>),
     long("`DedupArena` alloc, new values", Round::Fills, ours::wasmi_bench_dedup_alloc_new, dedup_new::<RustDedup>, dedup_new::<PlainDedup>),
     long("`DedupArena` alloc, values that are there", Round::Reads, ours::wasmi_bench_dedup_alloc_again, dedup_again::<RustDedup>, dedup_again::<PlainDedup>),
+    long("`DedupArena` replace", Round::Reads, ours::wasmi_bench_dedup_replace, dedup_replace, dedup_replace),
+    Row { operations: 1 << 16, most: 1 << 12, ..row("`DedupArena` replace, items written to before", Round::Reads, ours::wasmi_bench_dedup_replace_written, dedup_replace_written, dedup_replace_written) },
+    names("Ordered `Map` get by text, random", Round::Reads, ours::wasmi_bench_ordered_map_get_str, map_get_str::<OrderedNames>, map_get_str::<PlainTreeNames>),
+    names("Hashed `Map` get by text, random", Round::Reads, ours::wasmi_bench_hashed_map_get_str, map_get_str::<PlainTableNames>, map_get_str::<PlainTableNames>),
     names("`StringInterner` intern, new names", Round::Reads, ours::wasmi_bench_intern_new, intern_new::<RustInterner>, intern_new::<PlainInterner>),
     names("`StringInterner` intern, names that are there", Round::Reads, ours::wasmi_bench_intern_again, intern_again::<RustInterner>, intern_again::<PlainInterner>),
     names("`StringInterner` resolve, random", Round::Reads, ours::wasmi_bench_resolve, resolve::<RustInterner>, resolve::<PlainInterner>),

@@ -4,11 +4,15 @@ mod dedup;
 mod interner;
 mod maps;
 mod sets;
+mod texts;
 
-pub use dedup::{dedup_again, dedup_new, DedupRows, PlainDedup, RustDedup};
+pub use dedup::{
+    dedup_again, dedup_new, dedup_replace, dedup_replace_written, DedupRows, PlainDedup, RustDedup,
+};
 pub use interner::{intern_again, intern_new, resolve, InternerRows, PlainInterner, RustInterner};
 pub use maps::{map_append, map_entry, map_get, map_insert, map_iter, MapRows};
 pub use sets::{set_contains, set_insert, set_iter, set_union, SetRows};
+pub use texts::{map_get_str, OrderedNames, PlainTableNames, PlainTreeNames, TextRows};
 
 use std::collections::{BTreeMap, BTreeSet, HashMap, HashSet};
 

@@ -14,13 +14,15 @@ calls! {
         "reserve" => Reserve(additional: u16),
         "push" => Push(item: i64),
         "pop" => Pop,
+        "first" => First,
         "last" => Last,
         /// Write through `last_mut`.
         "last_mut" => LastMut(item: i64),
         "alloc" => Alloc(item: i64),
         "alloc_many" => AllocMany(count: u16),
-        /// The key of an item, by the index of a `DedupArena`.
         "key_of" => KeyOf(item: i64),
+        /// The key of an item, by the index of a `DedupArena`.
+        "index_of" => IndexOf(item: i64),
         "swap" => Swap(first: usize, second: usize),
         /// Write the items under two keys: a number, and the one after it.
         "get_disjoint_mut" => GetDisjointMut(first: usize, second: usize, new: i64),
@@ -40,6 +42,10 @@ calls! {
         "hash" => Hash,
         "debug" => Debug,
         "iter" => Iter(steps: Steps),
+        "keys" => Keys(steps: Steps),
+        "values" => Values(steps: Steps),
+        /// The same by what `into_iter` returns.
+        "into_iter" => IntoIter(steps: Steps),
         /// Take buckets from an iterator of slices, likewise.
         "slices" => Slices(steps: Steps),
         /// All items, by a `for` over a reference.
@@ -70,6 +76,7 @@ calls! {
         "get" => Get,
         "get_mut" => GetMut(item: i64),
         "put" => Put(item: i64),
+        "replace" => Replace(item: i64),
         "has" => Has,
         "set" => Set(item: i64),
         "unset" => Unset,

@@ -124,6 +124,7 @@ pub fn generate(container: &str, seed: u64, calls: usize) -> String {
     let mut generator = Generator {
         random: Random::new(seed),
         kind: Kind::of(container),
+        is_ordered: container.starts_with("ordered_"),
         most: if container.ends_with(" few") {
             100
         } else {
@@ -154,6 +155,8 @@ pub fn generate(container: &str, seed: u64, calls: usize) -> String {
 struct Generator {
     random: Random,
     kind: Kind,
+    /// Whether a map or a set is ordered.
+    is_ordered: bool,
     /// How many items there can be.
     most: usize,
     /// How many items there are; of components, the extent; of maps and sets, no fewer than there are.
@@ -230,7 +233,7 @@ impl Generator {
         if self.random.once_in(times) {
             return self.add();
         }
-        match self.random.below(26) {
+        match self.random.below(30) {
             0 => Call::Len,
             1 => Call::IsEmpty,
             2..=9 => self.item(),
@@ -248,7 +251,12 @@ impl Generator {
             22 => self.beside(),
             23 => self.compared(),
             24 => self.some_written(),
-            _ => self.all_written(),
+            25 => self.all_written(),
+            26 => self.cleared(),
+            27..=28 if self.is_vec() => self.end(),
+            27 => Call::Last,
+            28 => self.random.one_of(&[Call::Keys, Call::Values])(self.steps()),
+            _ => self.item(),
         }
     }
 
@@ -276,15 +284,31 @@ impl Generator {
 
     fn item(&mut self) -> Call {
         let new = self.value();
-        let call = match self.random.below(if self.is_vec() { 4 } else { 8 }) {
+        let call = match self.random.below(if self.is_vec() { 7 } else { 8 }) {
             0..=1 => ItemCall::Get,
             2..=3 => ItemCall::GetMut(new),
             4 => ItemCall::Put(new),
-            5 => ItemCall::Has,
-            6 => ItemCall::Index,
-            _ => ItemCall::IndexMut(new),
+            5 => ItemCall::Index,
+            6 => ItemCall::IndexMut(new),
+            _ => ItemCall::Has,
         };
         Call::Item(self.index(), call)
+    }
+
+    /// A call on the first or the last item of a vector, which a long one keeps.
+    fn end(&mut self) -> Call {
+        match self.random.below(4) {
+            0 => Call::First,
+            1 => Call::Last,
+            _ if self.len > LONG => Call::Last,
+            _ => {
+                let read = self
+                    .random
+                    .one_of(&[Call::Room, Call::OpenBuckets, Call::Last]);
+                self.pending.push(read);
+                self.emptied()
+            }
+        }
     }
 
     fn swap(&mut self) -> Call {

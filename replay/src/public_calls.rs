@@ -1,4 +1,4 @@
-//! The public calls of the Rust crate's types, each with the lines that make it.
+//! The public calls of the Rust crate's types and of the port's, each with the lines that make it.
 
 use std::collections::BTreeMap;
 
@@ -54,25 +54,37 @@ type Calls = &'static [(&'static str, Made)];
 
 /// Each type, with the first word by which a line `on ..` names it, and its calls.
 pub const TYPES: [(&str, &str, &[Calls]); 11] = [
-    ("stable_vec", "`StableVec`", &[STABLE_VEC]),
-    ("stable_arena", "`StableArena`", &[STABLE_ARENA]),
-    ("arena", "`Arena`", &[ARENA]),
-    ("component_vec", "`ComponentVec`", &[COMPONENT_VEC]),
+    ("stable_vec", "`StableVec`", &[STABLE_VEC, VEC_ALONE]),
+    (
+        "stable_arena",
+        "`StableArena`",
+        &[STABLE_ARENA, STABLE_ARENA_ALONE],
+    ),
+    ("arena", "`Arena`", &[ARENA, ARENA_ALONE]),
+    (
+        "component_vec",
+        "`ComponentVec`",
+        &[COMPONENT_VEC, COMPONENTS_ALONE],
+    ),
     ("head_vec", "`HeadVec`", &[HEAD_VEC]),
-    ("ordered_map", "ordered `Map`", &[MAP]),
-    ("ordered_set", "ordered `Set`", &[SET]),
+    ("ordered_map", "ordered `Map`", &[MAP, ORDERED_ALONE]),
+    ("ordered_set", "ordered `Set`", &[SET, ORDERED_ALONE]),
     (
         "hashed_map",
         "hashed `Map`, for which Rust's `HashMap` stands",
-        &[MAP],
+        &[MAP, HASHED_ALONE],
     ),
     (
         "hashed_set",
         "hashed `Set`, for which Rust's `HashSet` stands",
-        &[SET],
+        &[SET, HASHED_ALONE],
     ),
-    ("dedup_arena", "`DedupArena`", &[DEDUP_ARENA]),
-    ("string_interner", "`StringInterner`", &[STRING_INTERNER]),
+    ("dedup_arena", "`DedupArena`", &[DEDUP_ARENA, DEDUP_ALONE]),
+    (
+        "string_interner",
+        "`StringInterner`",
+        &[STRING_INTERNER, INTERNER_ALONE],
+    ),
 ];
 
 const STABLE_VEC: Calls = &[
@@ -367,6 +379,66 @@ const STRING_INTERNER: Calls = &[
     ("`Send`, `Sync`", Never(CUT)),
 ];
 
+/// The calls that the port alone has, by lines of their own.
+const VEC_ALONE: Calls = &[
+    ("the port's `pop`", By(&["pop"])),
+    ("the port's `first`, `last`", By(&["first", "last"])),
+    ("the port's `put`", By(&["put"])),
+    ("the port's `vec[index]`", By(&["index"])),
+    ("the port's `vec[index] = item`", By(&["index_mut"])),
+    ("the port's `clear`", By(&["clear"])),
+];
+
+const STABLE_ARENA_ALONE: Calls = &[
+    ("the port's `last`", By(&["last"])),
+    ("the port's `keys`", By(&["keys"])),
+    ("the port's `values`", By(&["values"])),
+    ("the port's `clear`", By(&["clear"])),
+];
+
+const ARENA_ALONE: Calls = &[("the port's `into_iter`", By(&["into_iter"]))];
+
+const COMPONENTS_ALONE: Calls = &[
+    ("the port's `has`", By(&["has"])),
+    ("the port's `reserve`", By(&["reserve"])),
+    ("the port's `clone`", By(&["clone"])),
+    ("the port's `iter`", By(&["iter"])),
+    ("the port's `iter_mut`", By(&["iter_mut"])),
+    ("the port's `for` over `&`", By(&["for"])),
+    ("the port's `for` over `&mut`", By(&["for_mut"])),
+];
+
+const DEDUP_ALONE: Calls = &[
+    ("the port's `replace`", By(&["replace"])),
+    ("the port's `key_of`", By(&["key_of"])),
+    ("the port's `index`", By(&["index_of"])),
+    ("the port's `next_key`", By(&["next_key"])),
+    ("the port's `put`", By(&["put"])),
+    ("the port's `has`", By(&["has"])),
+];
+
+const ORDERED_ALONE: Calls = &[
+    ("the first of Rust's ordered ones", By(&["first"])),
+    ("the last of these", By(&["last"])),
+    ("`pop_first` of these", By(&["pop_first"])),
+    ("`pop_last` of these", By(&["pop_last"])),
+    ("`range` of these", By(&["range"])),
+    ("`split_off` of these", By(&["split_off"])),
+    ("`append` of these", By(&["append"])),
+];
+
+const HASHED_ALONE: Calls = &[
+    ("`capacity` of Rust's", By(&["capacity"])),
+    ("`shrink_to_fit` of Rust's", By(&["shrink_to_fit"])),
+];
+
+const INTERNER_ALONE: Calls = &[
+    ("the port's `contains`", By(&["contains"])),
+    ("the port's `extend`", By(&["extend"])),
+    ("the port's `iter`", By(&["iter"])),
+    ("the port's `clear`", By(&["clear"])),
+];
+
 /// How many lines there were of each name.
 #[derive(Default)]
 pub struct Counts {
@@ -393,7 +465,7 @@ impl Counts {
 
 /// Prints how often each call was made, and which ones never. False if one of the first kind never was.
 pub fn print(name: &str, calls: &[Calls], counts: &Counts) -> bool {
-    println!("\n| Call of the Rust crate's {name} | Lines that make it | How many |");
+    println!("\n| Call of {name} | Lines that make it | How many |");
     println!("|---|---|---|");
     let mut all_made = true;
     for (call, made) in calls.iter().copied().flatten() {

@@ -31,6 +31,7 @@ calls! {
         "debug" => Debug,
     }
     BothCall => Both,
+    BackingCall => Backing,
     WalkCall => Walk(steps: u16),
     KeyCall => Key(key: i64),
     EntryCall => Entry(key: i64),
@@ -111,5 +112,26 @@ calls! {
         "bitor" => BitOr,
         "bitxor" => BitXor,
         "sub" => Sub,
+    }
+}
+
+calls! {
+    /// A call that one backing alone has.
+    #[derive(Clone, Debug, PartialEq)]
+    BackingCall {
+        /// The least key, with its item.
+        "first" => First,
+        "last" => Last,
+        "pop_first" => PopFirst,
+        "pop_last" => PopLast,
+        /// The keys from one on and below another one: so many, from the front and the back in turn, and then the rest.
+        "range" => Range(from: i64, to: i64, steps: u16),
+        /// What is from a key on takes the place of the other container.
+        "split_off" => SplitOff(key: i64),
+        /// Take all of the other container.
+        "append" => Append,
+        /// Whether there is room for what is there.
+        "capacity" => Capacity,
+        "shrink_to_fit" => ShrinkToFit,
     }
 }

@@ -27,6 +27,21 @@ pub struct PlainDedup {
     index: HashMap<u64, usize>,
 }
 
+impl PlainDedup {
+    // The Rust crate has no such call, so this stands in its place too.
+    #[inline]
+    fn replace(&mut self, at: usize, value: u64) -> u64 {
+        let old = std::mem::replace(&mut self.items[at], value);
+        if self.index.get(&old) == Some(&at) {
+            self.index.remove(&old);
+        } else {
+            self.index.retain(|_, other| *other != at);
+        }
+        self.index.insert(value, at);
+        old
+    }
+}
+
 impl DedupRows for PlainDedup {
     #[inline]
     fn put(&mut self, value: u64) -> u64 {
@@ -66,4 +81,31 @@ pub fn dedup_again<D: DedupRows>(n: u64, rounds: u64) -> u64 {
     let mut arena = D::default();
     let sum = fill(&mut arena, n, 1);
     (0..rounds).fold(sum, |sum, _| repeat(&mut arena, n, sum))
+}
+
+#[inline(never)]
+fn move_all(arena: &mut PlainDedup, n: u64, first: u64, written: bool, before: u64) -> u64 {
+    (0..n).fold(before, |sum, i| {
+        let at = i as usize;
+        if written {
+            arena.items[at] = !arena.items[at];
+        }
+        sum.wrapping_add(arena.replace(at, key_of(first.wrapping_add(i))))
+    })
+}
+
+fn moved(n: u64, rounds: u64, written: bool) -> u64 {
+    let mut arena = PlainDedup::default();
+    let sum = fill(&mut arena, n, 1);
+    (1..=rounds).fold(sum, |sum, round| {
+        move_all(&mut arena, n, n.wrapping_mul(round), written, sum)
+    })
+}
+
+pub fn dedup_replace(n: u64, rounds: u64) -> u64 {
+    moved(n, rounds, false)
+}
+
+pub fn dedup_replace_written(n: u64, rounds: u64) -> u64 {
+    moved(n, rounds, true)
 }

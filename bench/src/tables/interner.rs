@@ -52,7 +52,7 @@ impl InternerRows for PlainInterner {
     }
 }
 
-fn names(n: u64) -> Vec<String> {
+pub(super) fn names(n: u64) -> Vec<String> {
     (0..n).map(|i| format!("name{}", key_of(i))).collect()
 }
 

@@ -76,3 +76,8 @@ module _ {T : Type 0} where
 pub progress_last : {S B T : Type 0} (now : B → T) (rest : S → List T) (can : S → Type 0) → ((s : S) → can s) → (s t : S) (r : Option B) → YieldsLastBy now rest s r t → MakesProgress can (item_count rest) s r t
 progress_last now rest can all s t None ended = record { on = λ _. tt; keeps = tt; rests = λ _. tt }
 progress_last now rest can all s t (Some x) at = record { on = λ _. (all t, tt, omega (arith, ap length at, length-append (rest t) (now x ∷ []))); keeps = all t; rests = λ _. tt }
+
+-- and so does one that yields the first
+pub progress_first : {S B T : Type 0} (now : B → T) (rest : S → List T) (can : S → Type 0) → ((s : S) → can s) → (s t : S) (r : Option B) → YieldsFirstBy now rest s r t → MakesProgress can (item_count rest) s r t
+progress_first now rest can all s t None ended = record { on = λ _. tt; keeps = tt; rests = λ _. tt }
+progress_first now rest can all s t (Some x) at = record { on = λ _. (all t, tt, omega (arith, ap length at)); keeps = all t; rests = λ _. tt }

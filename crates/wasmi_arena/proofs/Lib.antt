@@ -8,6 +8,7 @@ pub mod Entries
 pub mod FilledParts
 pub mod Loans
 pub mod Ahead
+pub mod Taken
 pub mod Compared
 pub mod Growth
 pub mod Apart

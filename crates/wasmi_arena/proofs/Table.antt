@@ -232,7 +232,7 @@ module _ {T : Type 0} where
     entered : buckets ≡ Some bucket ∷ rest
     entered = first ∙ ap (λ (b : Option (Bucket T)). b ∷ rest) (sym is)
 
-    first_filled : (0 < length bucket.items) × AreFilled rest
+    pub first_filled : (0 < length bucket.items) × AreFilled rest
     first_filled = rw entered at it.filled
 
     pub first_counted : between ≡ length bucket.items + length (items_of rest)
@@ -241,7 +241,7 @@ module _ {T : Type 0} where
     pub first_ahead : (left : List T) (count : ℕ) → count ≡ length bucket.items → length left ≤ count → IsAhead left rest back (between - count)
     first_ahead left count counted few = let c = first_counted in let most = it.few in record { filled = first_filled.1; counted = omega arith; few = omega arith }
 
-    first_items : length front ≡ 0 → (left : List T) (x : T) → bucket.items ≡ x ∷ left → front ++ items_of buckets ++ back ≡ x ∷ (left ++ items_of rest ++ back)
+    pub first_items : length front ≡ 0 → (left : List T) (x : T) → bucket.items ≡ x ∷ left → front ++ items_of buckets ++ back ≡ x ∷ (left ++ items_of rest ++ back)
     first_items none left x are = rw (nil_from_length front none) (ap (λ (xs : List T). xs ++ back) (ap items_of entered ∙ ap (λ (xs : List T). xs ++ items_of rest) are))
 
     -- the bucket is entered and called from the front

@@ -1,6 +1,6 @@
 -- What an iterator over a vector's items has ahead of it, part by part. No public clause cites this
 -- module.
-use Rattle.std.specs.Prelude.{◌≡◌, ℕ, ◌+◌, ◌<◌, ◌≤◌, List, [], ◌∷◌, length}
+use Rattle.std.specs.Prelude.{◌≡◌, ℕ, ◌+◌, ◌<◌, ◌≤◌, List, [], ◌∷◌, length, Option, Some, None}
 use Rattle.std.specs.List.{flat_map}
 use Rattle.wasmi_arena.specs.Geometry.{max_len}
 
@@ -8,6 +8,11 @@ module _ {T : Type 0} where
   -- the items of the parts, one part after another
   abbrev pub joined : List (List T) → List T
   joined parts = flat_map (λ part. part) parts
+
+  -- the items of the bucket in hand, none where there isn't one
+  abbrev pub in_hand : Option (List T) → List T
+  in_hand None = []
+  in_hand (Some items) = items
 
   -- each part has an item
   abbrev pub AreSome : List (List T) → Type 0

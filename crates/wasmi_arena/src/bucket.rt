@@ -4,10 +4,13 @@ ghost use Rattle.std.specs.Borrow.{sem};
 ghost use Rattle.std.specs.Mem.{type_size};
 ghost use Rattle.wasmi_arena.specs.Bucket.{bucket};
 
-use crate::block::{BlockPtr, DeallocRight, Slots, allocate, deallocate, without_block};
+mod taken;
+
+use crate::block::{BlockPtr, DeallocRight, Slots, allocate, without_block};
 use std::alloc::{AllocError, Allocator, Global};
 use std::marker::Model;
 use std_alloc::room::may_hold;
+pub(crate) use taken::BucketItems;
 
 /// A block of slots that is filled from its first slot on, and never grows or moves.
 ///
@@ -119,28 +122,24 @@ impl<T, A: Allocator> Bucket<T, A> {
         self.slots.item_mut(ptr, slot)
     }
 
-    // Drops the items, first to last, and gives the block back to the allocator that it is of.
-    pub(crate) fn close(self)
-    where
-        T: Drop,
+    // The items, to take out.
+    pub(crate) fn into_items(self) -> BucketItems<T, A>
+        ensures { result ≡ self.items }
     {
         let Bucket {
             ptr,
             len,
             capacity,
-            mut slots,
+            slots,
             right,
             alloc,
         } = self;
-        for slot in 0..len {
-            let _item = slots.take(ptr, slot);
-        }
-        deallocate(&alloc, ptr, capacity, slots, right);
+        BucketItems::of_block(ptr, len, capacity, slots, right, alloc)
     }
 }
 
 impl<T: Drop, A: Allocator> Drop for Bucket<T, A> {
     fn drop(self) {
-        self.close();
+        let _items = self.into_items();
     }
 }

@@ -25,7 +25,8 @@ pub use bucket_table::{BucketTable, ItemsLoan};
 pub use error::ArenaError;
 pub use key::ArenaKey;
 pub use run::{ArenaCommand, ArenaReply, run_arena};
-pub use stable_arena::{StableArena, StableArenaIter, StableArenaIterMut};
+pub use stable_arena::{StableArena, StableArenaIntoIter, StableArenaIter, StableArenaIterMut};
 pub use stable_vec::{
-    MAX_LEN, StableVec, StableVecIter, StableVecIterMut, StableVecSlices, StableVecSlicesMut,
+    MAX_LEN, StableVec, StableVecIntoIter, StableVecIter, StableVecIterMut, StableVecSlices,
+    StableVecSlicesMut,
 };

@@ -9,12 +9,14 @@ ghost use Rattle.wasmi_arena.specs.Entries.{entries};
 mod any;
 mod compared;
 mod grow;
+mod into_iter;
 mod iter;
 mod iter_mut;
 mod pairs;
 mod whole;
 
 use crate::{ArenaError, ArenaKey, Bucket, ItemsLoan, MAX_LEN, StableVec, StableVecIterMut};
+pub use into_iter::StableArenaIntoIter;
 pub use iter::StableArenaIter;
 pub use iter_mut::StableArenaIterMut;
 use std::alloc::{Allocator, Global};

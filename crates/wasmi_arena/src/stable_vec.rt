@@ -15,6 +15,7 @@ mod defaults;
 mod ends;
 mod grow;
 mod index;
+mod into_iter;
 mod iter;
 mod iter_mut;
 mod pairs;
@@ -22,6 +23,7 @@ mod slices;
 mod slices_mut;
 
 use crate::{ArenaError, Bucket, BucketTable, ItemsLoan};
+pub use into_iter::StableVecIntoIter;
 pub use iter::StableVecIter;
 pub use iter_mut::StableVecIterMut;
 pub use slices::StableVecSlices;

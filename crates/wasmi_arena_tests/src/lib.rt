@@ -30,4 +30,6 @@ mod pairs;
 #[cfg(test)]
 mod slices;
 #[cfg(test)]
+mod taken;
+#[cfg(test)]
 mod vectors;

@@ -45,3 +45,59 @@ pub fn alloc_again(alloc: Global, n: u64, rounds: u64) -> Result<u64, ArenaError
     }
     Ok(sum)
 }
+
+// Replaces each value by a new one, and adds the old ones.
+#[inline(never)]
+fn move_all(
+    arena: &mut DedupArena<usize, u64>,
+    n: u64,
+    first: u64,
+    before: u64,
+) -> Result<u64, ArenaError> {
+    let mut sum = before;
+    for i in 0..n {
+        let old = arena.replace(i as usize, key_of(first.wrapping_add(i)))?;
+        sum = sum.wrapping_add(old);
+    }
+    Ok(sum)
+}
+
+pub fn replace(alloc: Global, n: u64, rounds: u64) -> Result<u64, ArenaError> {
+    let mut arena = DedupArena::new(alloc);
+    let mut sum = fill(&mut arena, n, 1)?;
+    let mut first = n;
+    for _ in 0..rounds {
+        sum = move_all(&mut arena, n, first, sum)?;
+        first = first.wrapping_add(n);
+    }
+    Ok(sum)
+}
+
+// The same, where each item was written to since its value was handed in.
+#[inline(never)]
+fn move_written(
+    arena: &mut DedupArena<usize, u64>,
+    n: u64,
+    first: u64,
+    before: u64,
+) -> Result<u64, ArenaError> {
+    let mut sum = before;
+    for i in 0..n {
+        let item = arena.get_mut(i as usize)?;
+        *item = !*item;
+        let old = arena.replace(i as usize, key_of(first.wrapping_add(i)))?;
+        sum = sum.wrapping_add(old);
+    }
+    Ok(sum)
+}
+
+pub fn replace_written(alloc: Global, n: u64, rounds: u64) -> Result<u64, ArenaError> {
+    let mut arena = DedupArena::new(alloc);
+    let mut sum = fill(&mut arena, n, 1)?;
+    let mut first = n;
+    for _ in 0..rounds {
+        sum = move_written(&mut arena, n, first, sum)?;
+        first = first.wrapping_add(n);
+    }
+    Ok(sum)
+}

@@ -8,7 +8,7 @@ use wasmi_collections::StringInterner;
 use wasmi_collections::string_interner::Sym;
 
 // `n` names, no two alike, and in no order.
-fn names(alloc: Global, n: u64) -> Result<Vec<String>, ArenaError> {
+pub(crate) fn names(alloc: Global, n: u64) -> Result<Vec<String>, ArenaError> {
     let mut names = Vec::new(alloc);
     for i in 0..n {
         let mut name = String::new(alloc);

@@ -18,6 +18,7 @@ mod map_rows;
 mod ordered_rows;
 mod random;
 mod set_rows;
+mod text_rows;
 mod vec_rows;
 
 use std::alloc::Global;
@@ -170,6 +171,30 @@ pub extern "C" fn wasmi_bench_dedup_alloc_new(alloc: Global, n: u64, rounds: u64
 #[unsafe(no_mangle)]
 pub extern "C" fn wasmi_bench_dedup_alloc_again(alloc: Global, n: u64, rounds: u64) -> u64 {
     dedup_rows::alloc_again(alloc, n, rounds).unwrap_or(0)
+}
+
+/// Replaces the `n` values of such an arena by new ones.
+#[unsafe(no_mangle)]
+pub extern "C" fn wasmi_bench_dedup_replace(alloc: Global, n: u64, rounds: u64) -> u64 {
+    dedup_rows::replace(alloc, n, rounds).unwrap_or(0)
+}
+
+/// The same, where each item was written to before.
+#[unsafe(no_mangle)]
+pub extern "C" fn wasmi_bench_dedup_replace_written(alloc: Global, n: u64, rounds: u64) -> u64 {
+    dedup_rows::replace_written(alloc, n, rounds).unwrap_or(0)
+}
+
+/// Looks up `n` names that jump about in an ordered map, each by its text.
+#[unsafe(no_mangle)]
+pub extern "C" fn wasmi_bench_ordered_map_get_str(alloc: Global, n: u64, rounds: u64) -> u64 {
+    text_rows::get::<wasmi_ordered::Map<String, u64>>(alloc, n, rounds).unwrap_or(0)
+}
+
+/// The same in a hashed map.
+#[unsafe(no_mangle)]
+pub extern "C" fn wasmi_bench_hashed_map_get_str(alloc: Global, n: u64, rounds: u64) -> u64 {
+    text_rows::get::<wasmi_hashed::Map<String, u64>>(alloc, n, rounds).unwrap_or(0)
 }
 
 /// Interns `n` names in an empty interner, no two alike, and drops it.

@@ -29,7 +29,7 @@ fn components_are_visited_from_both_ends(rt: HostRuntime) -> Result<(), Fail> {
     let mut number = 0u32;
     for (key, component) in &mut components {
         number = number.wrapping_add(1);
-        *component = (key + number) as i32;
+        *component = key.wrapping_add(number) as i32;
     }
     let mut entries = components.iter_mut();
     assert_equal!(rt; entries.next_back(), Some((6, &mut 9)));

@@ -1,5 +1,6 @@
 -- What a hashed map is once a `&mut` to a value of it has ended.
-use Rattle.std.specs.Prelude.{◌≡◌, ℕ, List, Option, String}
+use Rattle.std.specs.Prelude.{◌≡◌, ℕ, List, Option, String, Vec, vec_items}
+use Rattle.std.specs.Cmp.Lexicographic.{pointwise}
 use Rattle.std.specs.Borrow.{Fml, RattleType, MutBor, LendsSo}
 use Rattle.std.specs.HashMap.Lent.{HashMembers}
 use Rattle.std.specs.Hash as fed
@@ -7,6 +8,7 @@ use Rattle.std.specs.Map.{set_value}
 use Rattle.std.specs.Str.{bytes_eq}
 use Rattle.std.specs.String.{string_bytes, string_eq}
 use Rattle.std.specs.contracts.string.String.{the_row as Text}
+use Rattle.std.specs.contracts.vec.Vec.{the_row as Items}
 use Rattle.wasmi_map_specs.specs.Seen.{is_seen_as}
 use Rattle.std.specs.declared.alloc.Allocator as alloc
 use Rattle.std.specs.declared.hash.Hasher as hasher
@@ -30,3 +32,13 @@ module _ (B V S A H : RattleType) (heap_of_text : alloc.Ghosts B.Denot) (b : bui
   abbrev pub lends_text : MutBor (Entries (String B.Denot) V.Denot S.Denot) → List ℕ → Option (MutBor V.Denot) → Fml
   lends_text map text value = LendsSo text_map_row V map value
       (λ new last. new ≡ record map.now { entries = set_value (is_seen_as bytes_eq string_bytes text) map.now.entries last }) (λ new. new ≡ map.now)
+
+module _ (T B V S A H : RattleType) (g : HashMembers T.Denot) (heap_of_key : alloc.Ghosts B.Denot) (b : builder.Ghosts S.Denot H.Denot) (w : hasher.Ghosts H.Denot) (heap : alloc.Ghosts A.Denot) where
+  -- the row of a map whose keys are vectors
+  abbrev pub items_map_row : RattleType
+  items_map_row = the_row (Items T B heap_of_key) V S A H (record { eq = λ x y. pointwise g.eq (vec_items x) (vec_items y) }) (record { hash_input = λ k. fed.slice g.hash_input (vec_items k) }) b w heap
+
+  -- the same under the key of those items
+  abbrev pub lends_items : MutBor (Entries (Vec T.Denot B.Denot) V.Denot S.Denot) → List T.Denot → Option (MutBor V.Denot) → Fml
+  lends_items map items value = LendsSo items_map_row V map value
+      (λ new last. new ≡ record map.now { entries = set_value (is_seen_as (pointwise g.eq) vec_items items) map.now.entries last }) (λ new. new ≡ map.now)

@@ -9,6 +9,7 @@ ghost use Rattle.std.specs.Map.Iter.{ShowsInOrder, GivesInOrder, deref, deref_pa
 ghost use Rattle.std.specs.Option.{option_copied_mut};
 ghost use Rattle.wasmi_map_specs.specs.Maps.{value_at, ChangesAt};
 
+mod by_slice;
 mod by_text;
 mod compared;
 mod entry;
@@ -201,7 +202,8 @@ impl<K: Eq + Hash, V, S: BuildHasher, A: Allocator> Map<K, V, S, A> {
         Ok(())
     }
 
-    /// Whether the key is there. A `String` is looked up by [`contains_key_str`](Map::contains_key_str).
+    /// Whether the key is there. A `String` is looked up by
+    /// [`contains_key_str`](Map::contains_key_str), a vector by [`contains_key_slice`](Map::contains_key_slice).
     /// Expected constant time, no allocation.
     #[inline]
     pub fn contains_key(&self, key: &K) -> bool
@@ -210,7 +212,8 @@ impl<K: Eq + Hash, V, S: BuildHasher, A: Allocator> Map<K, V, S, A> {
         self.inner.contains_key(key)
     }
 
-    /// The value under a key, if there is one. A `String` is looked up by [`get_str`](Map::get_str).
+    /// The value under a key, if there is one. A `String` is looked up by
+    /// [`get_str`](Map::get_str), a vector by [`get_slice`](Map::get_slice).
     /// Expected constant time, no allocation.
     #[inline]
     pub fn get(&self, key: &K) -> Option<&V>

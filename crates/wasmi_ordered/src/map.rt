@@ -10,6 +10,7 @@ ghost use Rattle.std.specs.Option.{option_copied_mut};
 ghost use Rattle.std.specs.Ordering.{eq_by_cmp};
 ghost use Rattle.wasmi_map_specs.specs.Maps.{value_at, ChangesAt};
 
+mod by_slice;
 mod by_text;
 mod compared;
 mod ends;
@@ -179,7 +180,8 @@ impl<K: Hash + Ord, V, A: Allocator> Map<K, V, A> {
         Ok(())
     }
 
-    /// Whether the key is there. A `String` is looked up by [`contains_key_str`](Map::contains_key_str).
+    /// Whether the key is there. A `String` is looked up by
+    /// [`contains_key_str`](Map::contains_key_str), a vector by [`contains_key_slice`](Map::contains_key_slice).
     /// Logarithmic, no allocation.
     #[inline]
     pub fn contains_key(&self, key: &K) -> bool
@@ -188,7 +190,8 @@ impl<K: Hash + Ord, V, A: Allocator> Map<K, V, A> {
         self.inner.contains_key(key)
     }
 
-    /// The value under a key, if there is one. A `String` is looked up by [`get_str`](Map::get_str).
+    /// The value under a key, if there is one. A `String` is looked up by
+    /// [`get_str`](Map::get_str), a vector by [`get_slice`](Map::get_slice).
     /// Logarithmic, no allocation.
     #[inline]
     pub fn get(&self, key: &K) -> Option<&V>

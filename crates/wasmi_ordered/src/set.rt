@@ -10,6 +10,7 @@ ghost use Rattle.std.specs.Set.{is_member, remove_key};
 ghost use Rattle.wasmi_map_specs.specs.Sets.{ChangesAt};
 
 mod algebra;
+mod by_slice;
 mod by_text;
 mod compared;
 mod ends;

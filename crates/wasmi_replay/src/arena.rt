@@ -5,7 +5,7 @@ use crate::call::{Call, ItemCall};
 use crate::pair_key::PairKey;
 use crate::replay::Container;
 use crate::stable_vec::answer_place;
-use crate::walk::{renewed, take_steps, write_all};
+use crate::walk::{renewed, take_steps, write_all, write_each, write_steps_to_end};
 use std::alloc::Global;
 use std::io::Write;
 use std::ops::Range;
@@ -38,6 +38,11 @@ macro_rules! answer_arena {
         match $call {
             Call::Len => value($out, $arena.len()),
             Call::IsEmpty => value($out, $arena.is_empty()),
+            Call::Clear => {
+                $arena.clear();
+                value($out, "done")
+            }
+            Call::NextKey => result($out, $arena.next_key().map(|key| key.into_usize())),
             Call::Alloc(item) => result($out, $arena.alloc(item).map(|key| key.into_usize())),
             Call::FromIter(items) => keep($out, Self::from_iter($alloc, items), $arena),
             Call::Item(number, call) => match Key::from_usize(number) {
@@ -68,37 +73,28 @@ macro_rules! answer_keys {
                 _ => value($out, "no key"),
             },
             Call::RevMut(first) => $arena.write_back(first, $out),
-            Call::NextKey => result($out, $arena.next_key().map(|key| key.into_usize())),
             _ => bad($out),
         }
     };
 }
 
 macro_rules! answer_item {
-    ($arena:ident, $key:ident, $call:ident, $out:ident, $is_there:expr, $own:expr) => {
+    ($arena:ident, $key:ident, $call:ident, $out:ident, $own:expr) => {
         match $call {
             ItemCall::Get => result($out, $arena.get($key)),
             ItemCall::GetMut(new) => {
                 let item = $arena.get_mut($key);
                 result($out, item.map(|item| mem::replace(item, new)))
             }
-            ItemCall::Index if $is_there => value($out, $arena[$key]),
-            ItemCall::IndexMut(item) if $is_there => {
+            ItemCall::Put(item) => result($out, $arena.put($key, item)),
+            ItemCall::Has => value($out, $arena.has($key)),
+            ItemCall::Index if $arena.has($key) => value($out, $arena[$key]),
+            ItemCall::IndexMut(item) if $arena.has($key) => {
                 $arena[$key] = item;
                 value($out, "written")
             }
             ItemCall::Index | ItemCall::IndexMut(_) => value($out, "no item"),
             _ => $own,
-        }
-    };
-}
-
-macro_rules! answer_own_item {
-    ($arena:ident, $key:ident, $call:ident, $out:ident) => {
-        match $call {
-            ItemCall::Put(item) => result($out, $arena.put($key, item)),
-            ItemCall::Has => value($out, $arena.has($key)),
-            _ => bad($out),
         }
     };
 }
@@ -119,47 +115,6 @@ macro_rules! show_all {
     };
 }
 
-// An iterator that came to its end isn't asked again, since no contract says that it may be.
-macro_rules! write_steps_to_end {
-    ($arena:ident, $steps:ident, $first:ident, $out:ident) => {{
-        let mut new = $first;
-        let mut ended = false;
-        let mut entries = $arena.iter_mut();
-        for step in $steps.bytes() {
-            if ended {
-                write!($out, "none ")?;
-                continue;
-            }
-            let given = if step == b'f' {
-                entries.next()
-            } else {
-                entries.next_back()
-            };
-            match given {
-                Some((key, item)) => {
-                    write!($out, "{}={item} ", key.into_usize())?;
-                    renewed(item, &mut new);
-                }
-                None => {
-                    ended = true;
-                    write!($out, "none ")?;
-                }
-            }
-        }
-        writeln!($out, "left {}", entries.len())
-    }};
-}
-
-macro_rules! write_each {
-    ($out:ident, $first:ident, $len:expr, $entries:expr) => {{
-        let mut new = $first;
-        write_all!($out, $len, $entries, (key, item) => {
-            write!($out, " {}={item}", key.into_usize())?;
-            renewed(item, &mut new);
-        })
-    }};
-}
-
 impl<Key: ArenaKey> Container for StableArena<Key, i64> {
     fn empty(alloc: Global) -> Self {
         StableArena::new(alloc)
@@ -178,6 +133,9 @@ impl<Key: ArenaKey> Container for StableArena<Key, i64> {
         match call {
             Call::Clone => keep(out, self.clone(), other),
             Call::CloneIn => keep(out, self.clone_in(alloc), other),
+            Call::Last => option(out, self.last()),
+            Call::Keys(steps) => keys(self, steps, out),
+            Call::Values(steps) => values(self, steps, out),
             Call::Slices(_)
             | Call::Room
             | Call::OpenBuckets
@@ -192,14 +150,7 @@ impl<Key: ArenaKey> Container for StableArena<Key, i64> {
 
 impl<Key: ArenaKey> AnyArena<Key> for StableArena<Key, i64> {
     fn answer_item<W: Write>(&mut self, key: Key, call: ItemCall, out: &mut W) -> io::Result<()> {
-        answer_item!(
-            self,
-            key,
-            call,
-            out,
-            self.has(key),
-            answer_own_item!(self, key, call, out)
-        )
+        answer_item!(self, key, call, out, bad(out))
     }
 
     fn show_steps<W: Write>(&self, steps: &str, out: &mut W) -> io::Result<()> {
@@ -228,6 +179,22 @@ impl<Key: ArenaKey> AnyArena<Key> for StableArena<Key, i64> {
     }
 }
 
+fn keys<Key: ArenaKey, W: Write>(
+    arena: &StableArena<Key, i64>,
+    steps: &str,
+    out: &mut W,
+) -> io::Result<()> {
+    take_steps!(out, steps, arena.keys(), key => write!(out, "{} ", key.into_usize())?)
+}
+
+fn values<Key: ArenaKey, W: Write>(
+    arena: &StableArena<Key, i64>,
+    steps: &str,
+    out: &mut W,
+) -> io::Result<()> {
+    take_steps!(out, steps, arena.values(), item => write!(out, "{item} ")?)
+}
+
 impl<Key: PairKey> Container for Arena<Key, i64> {
     fn empty(alloc: Global) -> Self {
         Arena::new(alloc)
@@ -244,9 +211,9 @@ impl<Key: PairKey> Container for Arena<Key, i64> {
             return bad(out);
         };
         match call {
-            Call::Clear => {
-                self.clear();
-                value(out, "done")
+            Call::IntoIter(steps) => {
+                let arena = mem::replace(self, Arena::new(alloc));
+                take_out(arena, steps, out)
             }
             Call::Reserve(count) => {
                 let additional = usize::from(count);
@@ -269,16 +236,19 @@ impl<Key: PairKey> Container for Arena<Key, i64> {
     }
 }
 
+fn take_out<Key: ArenaKey, W: Write>(
+    arena: Arena<Key, i64>,
+    steps: &str,
+    out: &mut W,
+) -> io::Result<()> {
+    take_steps!(out, steps, arena.into_iter(), (key, item) => {
+        write!(out, "{}={item} ", key.into_usize())?
+    })
+}
+
 impl<Key: PairKey> AnyArena<Key> for Arena<Key, i64> {
     fn answer_item<W: Write>(&mut self, key: Key, call: ItemCall, out: &mut W) -> io::Result<()> {
-        answer_item!(
-            self,
-            key,
-            call,
-            out,
-            self.has(key),
-            answer_own_item!(self, key, call, out)
-        )
+        answer_item!(self, key, call, out, bad(out))
     }
 
     fn show_steps<W: Write>(&self, steps: &str, out: &mut W) -> io::Result<()> {
@@ -290,7 +260,7 @@ impl<Key: PairKey> AnyArena<Key> for Arena<Key, i64> {
     }
 
     fn write_steps<W: Write>(&mut self, steps: &str, first: i64, out: &mut W) -> io::Result<()> {
-        write_steps_to_end!(self, steps, first, out)
+        write_steps_to_end!(self, steps, first, out, entries => writeln!(out, "left {}", entries.len()))
     }
 
     fn write_each<W: Write>(&mut self, first: i64, out: &mut W) -> io::Result<()> {
@@ -319,11 +289,8 @@ impl<Key: ArenaKey> Container for DedupArena<Key, i64> {
             return bad(out);
         };
         match call {
-            Call::Clear => {
-                self.clear();
-                value(out, "done")
-            }
-            Call::KeyOf(item) => {
+            Call::KeyOf(item) => option(out, self.key_of(&item).map(|key| key.into_usize())),
+            Call::IndexOf(item) => {
                 let found = self.index().get(&item);
                 option(out, found.map(|key| key.into_usize()))
             }
@@ -339,8 +306,10 @@ impl<Key: ArenaKey> AnyArena<Key> for DedupArena<Key, i64> {
             key,
             call,
             out,
-            key.into_usize() < self.len(),
-            bad(out)
+            match call {
+                ItemCall::Replace(item) => result(out, self.replace(key, item)),
+                _ => bad(out),
+            }
         )
     }
 
@@ -353,7 +322,7 @@ impl<Key: ArenaKey> AnyArena<Key> for DedupArena<Key, i64> {
     }
 
     fn write_steps<W: Write>(&mut self, steps: &str, first: i64, out: &mut W) -> io::Result<()> {
-        write_steps_to_end!(self, steps, first, out)
+        write_steps_to_end!(self, steps, first, out, entries => writeln!(out, "left {}", entries.len()))
     }
 
     fn write_each<W: Write>(&mut self, first: i64, out: &mut W) -> io::Result<()> {

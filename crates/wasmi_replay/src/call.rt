@@ -14,13 +14,15 @@ pub enum Call<'a> {
     Reserve(u16),
     Push(i64),
     Pop,
+    First,
     Last,
     /// Write through `last_mut`.
     LastMut(i64),
     Alloc(i64),
     AllocMany(u16),
-    /// The key of an item, by the index of a `DedupArena`.
     KeyOf(i64),
+    /// The key of an item, by the index of a `DedupArena`.
+    IndexOf(i64),
     /// A call on the item at an index, or under the key of that number.
     Item(usize, ItemCall),
     Swap(usize, usize),
@@ -38,6 +40,10 @@ pub enum Call<'a> {
     Hash,
     /// Take items from an iterator: an `f` from the front, a `b` from the back.
     Iter(&'a str),
+    Keys(&'a str),
+    Values(&'a str),
+    /// The same by what `into_iter` returns.
+    IntoIter(&'a str),
     /// Take buckets from an iterator of slices, likewise.
     Slices(&'a str),
     /// All items, by a `for` over a reference.
@@ -66,6 +72,7 @@ pub enum ItemCall {
     /// Write through `get_mut`.
     GetMut(i64),
     Put(i64),
+    Replace(i64),
     Has,
     Set(i64),
     Unset,
@@ -91,6 +98,7 @@ impl<'a> Call<'a> {
             "extent" => Call::Extent,
             "clear" => Call::Clear,
             "pop" => Call::Pop,
+            "first" => Call::First,
             "last" => Call::Last,
             "clone" => Call::Clone,
             "clone_in" => Call::CloneIn,
@@ -115,6 +123,7 @@ impl<'a> Call<'a> {
             "alloc" => Call::Alloc(number(words)?),
             "alloc_many" => Call::AllocMany(number(words)?),
             "key_of" => Call::KeyOf(number(words)?),
+            "index_of" => Call::IndexOf(number(words)?),
             "for_mut" => Call::ForMut(number(words)?),
             "rev_mut" => Call::RevMut(number(words)?),
             "bucket" => Call::Bucket(number(words)?),
@@ -135,6 +144,9 @@ impl<'a> Call<'a> {
             "from_iter" => Call::FromIter(counted(words)?),
             "slices" => Call::Slices(steps(words)?),
             "iter" => Call::Iter(steps(words)?),
+            "keys" => Call::Keys(steps(words)?),
+            "values" => Call::Values(steps(words)?),
+            "into_iter" => Call::IntoIter(steps(words)?),
             "iter_mut" => Call::IterMut(steps(words)?, number(words)?),
             "slices_mut" => Call::SlicesMut(steps(words)?, number(words)?),
             _ => Call::Item(number(words)?, ItemCall::named(name, words)?),
@@ -149,6 +161,7 @@ impl ItemCall {
             "get" => ItemCall::Get,
             "get_mut" => ItemCall::GetMut(number(words)?),
             "put" => ItemCall::Put(number(words)?),
+            "replace" => ItemCall::Replace(number(words)?),
             "has" => ItemCall::Has,
             "set" => ItemCall::Set(number(words)?),
             "unset" => ItemCall::Unset,
@@ -179,8 +192,8 @@ where
     words.next()?.parse().ok()
 }
 
-// The next word, where it has no letter but `f` and `b`.
-fn steps<'a>(words: &mut Split<'a, char>) -> Option<&'a str> {
+/// The next word, where it has no letter but `f` and `b`.
+pub fn steps<'a>(words: &mut Split<'a, char>) -> Option<&'a str> {
     let word = words.next()?;
     if word.bytes().all(|step| step == b'f' || step == b'b') {
         Some(word)

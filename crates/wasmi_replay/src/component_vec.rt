@@ -1,8 +1,9 @@
 //! Calls on a `ComponentVec`. A line names a key by its number.
 
-use crate::answers::{bad, option, refusal, value};
+use crate::answers::{bad, done, keep, option, refusal, value};
 use crate::call::{Call, ItemCall};
 use crate::replay::Container;
+use crate::walk::{renewed, write_all, write_each, write_steps_to_end};
 use std::alloc::Global;
 use std::io::Write;
 use std::{io, mem};
@@ -16,7 +17,7 @@ impl<Key: ArenaKey> Container for ComponentVec<Key, i64> {
 
     fn answer<W: Write>(
         &mut self,
-        _other: &mut Self,
+        other: &mut Self,
         _alloc: Global,
         line: &str,
         out: &mut W,
@@ -30,6 +31,12 @@ impl<Key: ArenaKey> Container for ComponentVec<Key, i64> {
                 self.clear();
                 value(out, "done")
             }
+            Call::Reserve(count) => done(out, self.reserve(usize::from(count))),
+            Call::Clone => keep(out, self.clone(), other),
+            Call::Iter(steps) => iter(self, steps, out),
+            Call::For => all(self, out),
+            Call::IterMut(steps, first) => iter_mut(self, steps, first, out),
+            Call::ForMut(first) => all_mut(self, first, out),
             Call::Item(number, call) => match Key::from_usize(number) {
                 Some(key) => answer_item(self, key, call, out),
                 None => value(out, "no key"),
@@ -56,6 +63,7 @@ fn answer_item<Key: ArenaKey, W: Write>(
             Ok(old) => option(out, old),
             Err(error) => refusal(out, error),
         },
+        ItemCall::Has => value(out, components.has(key)),
         ItemCall::Unset => option(out, components.unset(key)),
         ItemCall::Index if components.get(key).is_some() => value(out, components[key]),
         ItemCall::IndexMut(new) if components.get(key).is_some() => {
@@ -63,6 +71,53 @@ fn answer_item<Key: ArenaKey, W: Write>(
             value(out, "written")
         }
         ItemCall::Index | ItemCall::IndexMut(_) => value(out, "no item"),
-        ItemCall::Put(_) | ItemCall::Has => bad(out),
+        ItemCall::Put(_) | ItemCall::Replace(_) => bad(out),
     }
+}
+
+// The iterators don't know how many components are left.
+fn iter<Key: ArenaKey, W: Write>(
+    components: &ComponentVec<Key, i64>,
+    steps: &str,
+    out: &mut W,
+) -> io::Result<()> {
+    let mut entries = components.iter();
+    for step in steps.bytes() {
+        let given = if step == b'f' {
+            entries.next()
+        } else {
+            entries.next_back()
+        };
+        match given {
+            Some((key, item)) => write!(out, "{}={item} ", key.into_usize())?,
+            None => write!(out, "none ")?,
+        }
+    }
+    writeln!(out)
+}
+
+fn all<Key: ArenaKey, W: Write>(
+    components: &ComponentVec<Key, i64>,
+    out: &mut W,
+) -> io::Result<()> {
+    write_all!(out, components.extent(), components, (key, item) => {
+        write!(out, " {}={item}", key.into_usize())?
+    })
+}
+
+fn iter_mut<Key: ArenaKey, W: Write>(
+    components: &mut ComponentVec<Key, i64>,
+    steps: &str,
+    first: i64,
+    out: &mut W,
+) -> io::Result<()> {
+    write_steps_to_end!(components, steps, first, out, entries => writeln!(out))
+}
+
+fn all_mut<Key: ArenaKey, W: Write>(
+    components: &mut ComponentVec<Key, i64>,
+    first: i64,
+    out: &mut W,
+) -> io::Result<()> {
+    write_each!(out, first, components.extent(), components)
 }

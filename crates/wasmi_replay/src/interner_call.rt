@@ -1,6 +1,6 @@
 //! What a line asks of an interner.
 
-use crate::call::{ended, number};
+use crate::call::{ended, number, steps};
 use std::str::Split;
 use wasmi_collections::string_interner::InternHint;
 
@@ -9,12 +9,18 @@ use wasmi_collections::string_interner::InternHint;
 pub enum InternerCall<'a> {
     Len,
     IsEmpty,
+    Clear,
+    Contains(&'a str),
     Get(&'a str),
     /// The same, with the texts that it compares counted.
     GetCounted(&'a str),
     GetOrIntern(&'a str),
     GetOrInternWithHint(InternHint, &'a str),
+    /// Intern texts, which have a comma between two.
+    Extend(&'a str),
     Resolve(u32),
+    /// Take symbols and texts from an iterator: an `f` from the front, a `b` from the back.
+    Iter(&'a str),
     /// Two symbols, by their numbers: printed, compared and hashed.
     Symbols(u32, u32),
     /// A clone, in the place of the other interner.
@@ -35,12 +41,16 @@ impl<'a> InternerCall<'a> {
         let call = match name {
             "len" => InternerCall::Len,
             "is_empty" => InternerCall::IsEmpty,
+            "clear" => InternerCall::Clear,
+            "contains" => InternerCall::Contains(words.next()?),
             "get" => InternerCall::Get(words.next()?),
             "get_counted" => InternerCall::GetCounted(words.next()?),
             "get_or_intern" => InternerCall::GetOrIntern(words.next()?),
             "get_or_intern_with_hint" => {
                 InternerCall::GetOrInternWithHint(hint(words.next()?)?, words.next()?)
             }
+            "extend" => InternerCall::Extend(words.next()?),
+            "iter" => InternerCall::Iter(steps(words)?),
             "resolve" => InternerCall::Resolve(number(words)?),
             "symbols" => InternerCall::Symbols(number(words)?, number(words)?),
             "clone" => InternerCall::Clone,

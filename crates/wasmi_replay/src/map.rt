@@ -3,8 +3,8 @@
 use crate::answers::{bad, done, found, keep, option, pair, refusal, result, value};
 use crate::replay::Container;
 use crate::table::answer_table;
-use crate::table_call::{EntryCall, KeyCall, MutCall, SideCall, TableCall, WalkCall};
-use crate::walk::{walk, write_all};
+use crate::table_call::{BackingCall, EntryCall, KeyCall, MutCall, SideCall, TableCall, WalkCall};
+use crate::walk::{walk, walk_ends, write_all};
 use std::alloc::Global;
 use std::io::Write;
 use std::{io, mem};
@@ -50,6 +50,14 @@ trait AnyMap: Sized {
 
     /// Adds a number to each item, and keeps those that differ from their keys in a bit of the mask. Counts the calls.
     fn thin(&mut self, mask: i64, add: i64) -> u64;
+
+    /// Makes a call that maps of the other backing don't have.
+    fn answer_backing<W: Write>(
+        &mut self,
+        other: &mut Self,
+        call: BackingCall,
+        out: &mut W,
+    ) -> io::Result<()>;
 }
 
 macro_rules! answer_key {
@@ -199,7 +207,7 @@ fn raised(item: &mut i64, add: i64) -> i64 {
 // Makes a call that sets don't have.
 fn answer_own<M: AnyMap, W: Write>(
     map: &mut M,
-    _other: &M,
+    other: &mut M,
     alloc: Global,
     call: TableCall,
     out: &mut W,
@@ -220,6 +228,7 @@ fn answer_own<M: AnyMap, W: Write>(
         TableCall::For => map.all(out),
         TableCall::ForMut(add) => map.all_mut(add, out),
         TableCall::Retain(mask, add) => value(out, map.thin(mask, add)),
+        TableCall::Backing(call) => map.answer_backing(other, call, out),
         _ => bad(out),
     }
 }
@@ -291,6 +300,43 @@ impl AnyMap for ordered::Map<i64, i64> {
     fn thin(&mut self, mask: i64, add: i64) -> u64 {
         thin!(self, mask, add)
     }
+
+    fn answer_backing<W: Write>(
+        &mut self,
+        other: &mut Self,
+        call: BackingCall,
+        out: &mut W,
+    ) -> io::Result<()> {
+        match call {
+            BackingCall::First => {
+                let found = self.first_key_value();
+                pair(out, found.map(|(key, item)| (*key, *item)))
+            }
+            BackingCall::Last => {
+                let found = self.last_key_value();
+                pair(out, found.map(|(key, item)| (*key, *item)))
+            }
+            BackingCall::PopFirst => pair(out, self.pop_first()),
+            BackingCall::PopLast => pair(out, self.pop_last()),
+            BackingCall::Range(from, to, steps) => range(self, from, to, steps, out),
+            BackingCall::SplitOff(key) => keep(out, self.split_off(&key), other),
+            BackingCall::Append => done(out, self.append(other)),
+            BackingCall::Capacity | BackingCall::ShrinkToFit => bad(out),
+        }
+    }
+}
+
+fn range<W: Write>(
+    map: &ordered::Map<i64, i64>,
+    from: i64,
+    to: i64,
+    steps: u16,
+    out: &mut W,
+) -> io::Result<()> {
+    if from > to {
+        return value(out, "no range");
+    }
+    walk_ends!(out, steps, map.range(from..to), (key, item) => "{key}={item} ")
 }
 
 impl Container for hashed::Map<i64, i64> {
@@ -359,5 +405,21 @@ impl AnyMap for hashed::Map<i64, i64> {
 
     fn thin(&mut self, mask: i64, add: i64) -> u64 {
         thin!(self, mask, add)
+    }
+
+    fn answer_backing<W: Write>(
+        &mut self,
+        _other: &mut Self,
+        call: BackingCall,
+        out: &mut W,
+    ) -> io::Result<()> {
+        match call {
+            BackingCall::Capacity => value(out, self.capacity() >= self.len()),
+            BackingCall::ShrinkToFit => {
+                self.shrink_to_fit();
+                value(out, "done")
+            }
+            _ => bad(out),
+        }
     }
 }

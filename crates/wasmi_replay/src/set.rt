@@ -3,8 +3,8 @@
 use crate::answers::{bad, done, keep, option, refusal, result, value};
 use crate::replay::Container;
 use crate::table::answer_table;
-use crate::table_call::{BothCall, KeyCall, MadeCall, TableCall, WalkCall};
-use crate::walk::{walk, walk_all, write_all};
+use crate::table_call::{BackingCall, BothCall, KeyCall, MadeCall, TableCall, WalkCall};
+use crate::walk::{walk, walk_all, walk_ends, write_all};
 use std::alloc::Global;
 use std::io::Write;
 use std::{io, mem};
@@ -33,6 +33,14 @@ trait AnySet: Sized {
 
     /// Keeps the elements that have a bit of the mask. Counts the calls.
     fn thin(&mut self, mask: i64) -> u64;
+
+    /// Makes a call that sets of the other backing don't have.
+    fn answer_backing<W: Write>(
+        &mut self,
+        other: &mut Self,
+        call: BackingCall,
+        out: &mut W,
+    ) -> io::Result<()>;
 }
 
 macro_rules! answer_key {
@@ -106,6 +114,7 @@ fn answer_own<S: AnySet + Drop, W: Write>(
         TableCall::WalkTaken(steps, WalkCall::Iter) => set.walk_taken(alloc, steps, out),
         TableCall::For => set.all(out),
         TableCall::Retain(mask, _) => value(out, set.thin(mask)),
+        TableCall::Backing(call) => set.answer_backing(other, call, out),
         _ => bad(out),
     }
 }
@@ -155,6 +164,37 @@ impl AnySet for ordered::Set<i64> {
     fn thin(&mut self, mask: i64) -> u64 {
         thin!(self, mask)
     }
+
+    fn answer_backing<W: Write>(
+        &mut self,
+        other: &mut Self,
+        call: BackingCall,
+        out: &mut W,
+    ) -> io::Result<()> {
+        match call {
+            BackingCall::First => option(out, self.first()),
+            BackingCall::Last => option(out, self.last()),
+            BackingCall::PopFirst => option(out, self.pop_first()),
+            BackingCall::PopLast => option(out, self.pop_last()),
+            BackingCall::Range(from, to, steps) => range(self, from, to, steps, out),
+            BackingCall::SplitOff(from) => keep(out, self.split_off(&from), other),
+            BackingCall::Append => done(out, self.append(other)),
+            BackingCall::Capacity | BackingCall::ShrinkToFit => bad(out),
+        }
+    }
+}
+
+fn range<W: Write>(
+    set: &ordered::Set<i64>,
+    from: i64,
+    to: i64,
+    steps: u16,
+    out: &mut W,
+) -> io::Result<()> {
+    if from > to {
+        return value(out, "no range");
+    }
+    walk_ends!(out, steps, set.range(from..to), element => "{element} ")
 }
 
 impl Container for hashed::Set<i64> {
@@ -201,5 +241,21 @@ impl AnySet for hashed::Set<i64> {
 
     fn thin(&mut self, mask: i64) -> u64 {
         thin!(self, mask)
+    }
+
+    fn answer_backing<W: Write>(
+        &mut self,
+        _other: &mut Self,
+        call: BackingCall,
+        out: &mut W,
+    ) -> io::Result<()> {
+        match call {
+            BackingCall::Capacity => value(out, self.capacity() >= self.len()),
+            BackingCall::ShrinkToFit => {
+                self.shrink_to_fit();
+                value(out, "done")
+            }
+            _ => bad(out),
+        }
     }
 }

@@ -28,12 +28,15 @@ impl Container for StableVec<i64> {
         match call {
             Call::Len => value(out, self.len()),
             Call::IsEmpty => value(out, self.is_empty()),
-            Call::Push(item) => result(out, self.push(item)),
-            Call::Item(index, ItemCall::Get) => option(out, self.get(index)),
-            Call::Item(index, ItemCall::GetMut(new)) => {
-                let item = self.get_mut(index);
-                option(out, item.map(|item| mem::replace(item, new)))
+            Call::Clear => {
+                self.clear();
+                value(out, "done")
             }
+            Call::Push(item) => result(out, self.push(item)),
+            Call::Pop => option(out, self.pop()),
+            Call::First => option(out, self.first()),
+            Call::Last => option(out, self.last()),
+            Call::Item(index, call) => answer_item(self, index, call, out),
             Call::Swap(first, second) => done(out, self.swap(first, second)),
             Call::Extend(items) => done(out, self.extend(items)),
             Call::FromIter(items) => keep(out, StableVec::from_iter(alloc, items), self),
@@ -50,6 +53,30 @@ impl Container for StableVec<i64> {
             Call::RevMut(first) => all_mut_back(self, first, out),
             call => answer_place(self, call, out),
         }
+    }
+}
+
+// Makes a call on the item at an index.
+fn answer_item<W: Write>(
+    vec: &mut StableVec<i64>,
+    index: usize,
+    call: ItemCall,
+    out: &mut W,
+) -> io::Result<()> {
+    match call {
+        ItemCall::Get => option(out, vec.get(index)),
+        ItemCall::GetMut(new) => {
+            let item = vec.get_mut(index);
+            option(out, item.map(|item| mem::replace(item, new)))
+        }
+        ItemCall::Put(item) => result(out, vec.put(index, item)),
+        ItemCall::Index if index < vec.len() => value(out, vec[index]),
+        ItemCall::IndexMut(item) if index < vec.len() => {
+            vec[index] = item;
+            value(out, "written")
+        }
+        ItemCall::Index | ItemCall::IndexMut(_) => value(out, "no item"),
+        _ => bad(out),
     }
 }
 

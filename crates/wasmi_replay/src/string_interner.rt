@@ -1,8 +1,9 @@
 //! Calls on a `StringInterner`. A line names a symbol by its number.
 
-use crate::answers::{bad, keep, option, result, value};
+use crate::answers::{bad, done, keep, option, result, value};
 use crate::interner_call::InternerCall;
 use crate::replay::Container;
+use crate::walk::take_steps;
 use std::alloc::Global;
 use std::hash::{DefaultHasher, Hash, Hasher};
 use std::io;
@@ -28,6 +29,11 @@ impl Container for StringInterner {
         match call {
             InternerCall::Len => value(out, self.len()),
             InternerCall::IsEmpty => value(out, self.is_empty()),
+            InternerCall::Clear => {
+                self.clear();
+                value(out, "done")
+            }
+            InternerCall::Contains(text) => value(out, self.contains(text)),
             InternerCall::Get(text) => option(out, self.get(text).map(Sym::into_u32)),
             InternerCall::GetCounted(text) => counted(self, text, out),
             InternerCall::GetOrIntern(text) => {
@@ -38,6 +44,8 @@ impl Container for StringInterner {
                 let symbol = self.get_or_intern_with_hint(text, hint);
                 result(out, symbol.map(Sym::into_u32))
             }
+            InternerCall::Extend(texts) => done(out, self.extend(texts.split(','))),
+            InternerCall::Iter(steps) => iter(self, steps, out),
             InternerCall::Resolve(number) => match self.resolve(Sym::from_u32(number)) {
                 Some(text) => writeln!(out, "\"{text}\""),
                 None => value(out, "none"),
@@ -61,6 +69,10 @@ fn counted<W: Write>(interner: &StringInterner, text: &str, out: &mut W) -> io::
         Some(symbol) => writeln!(out, "{} {is_few}", symbol.into_usize()),
         None => writeln!(out, "none {is_few}"),
     }
+}
+
+fn iter<W: Write>(interner: &StringInterner, steps: &str, out: &mut W) -> io::Result<()> {
+    take_steps!(out, steps, interner.iter(), (symbol, text) => write!(out, "{symbol}=\"{text}\" ")?)
 }
 
 // Writes two symbols, how they compare, and the hash of the first.

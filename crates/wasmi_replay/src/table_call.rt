@@ -38,6 +38,7 @@ pub enum TableCall {
     Clone,
     Both(BothCall),
     Made(MadeCall),
+    Backing(BackingCall),
 }
 
 /// A call on one key.
@@ -118,6 +119,25 @@ pub enum MadeCall {
     Sub,
 }
 
+/// A call that one backing alone has.
+#[derive(Clone, Copy)]
+pub enum BackingCall {
+    /// The least key, with its item.
+    First,
+    Last,
+    PopFirst,
+    PopLast,
+    /// The keys from one on and below another one: so many, from the front and the back in turn, and then the rest.
+    Range(i64, i64, u16),
+    /// What is from a key on takes the place of the other container.
+    SplitOff(i64),
+    /// Take all of the other container.
+    Append,
+    /// Whether there is room for what is there.
+    Capacity,
+    ShrinkToFit,
+}
+
 impl TableCall {
     /// Reads a line, given without its line feed. `None` if it names no call, or not with its numbers.
     pub fn parse(line: &str) -> Option<TableCall> {
@@ -158,9 +178,25 @@ impl TableCall {
             "bitor" => return Some(TableCall::Made(MadeCall::BitOr)),
             "bitxor" => return Some(TableCall::Made(MadeCall::BitXor)),
             "sub" => return Some(TableCall::Made(MadeCall::Sub)),
-            _ => return TableCall::of_walk(name, words),
+            _ => return TableCall::of_backing(name, words),
         };
         Some(TableCall::Both(call))
+    }
+
+    fn of_backing(name: &str, words: &mut Split<'_, char>) -> Option<TableCall> {
+        let call = match name {
+            "first" => BackingCall::First,
+            "last" => BackingCall::Last,
+            "pop_first" => BackingCall::PopFirst,
+            "pop_last" => BackingCall::PopLast,
+            "range" => BackingCall::Range(number(words)?, number(words)?, number(words)?),
+            "split_off" => BackingCall::SplitOff(number(words)?),
+            "append" => BackingCall::Append,
+            "capacity" => BackingCall::Capacity,
+            "shrink_to_fit" => BackingCall::ShrinkToFit,
+            _ => return TableCall::of_walk(name, words),
+        };
+        Some(TableCall::Backing(call))
     }
 
     fn of_walk(name: &str, words: &mut Split<'_, char>) -> Option<TableCall> {

@@ -18,4 +18,5 @@ pub mod symbols;
 pub mod tables;
 #[cfg(test)]
 mod tests;
+pub mod transfer;
 pub mod write;

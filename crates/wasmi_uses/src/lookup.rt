@@ -1,6 +1,8 @@
 //! Look-ups by the keys that a walk over an arena gives.
 ghost use Rattle.std.specs.Prelude.{◌≡◌, ◌≤◌, length, slice_get, IfSome, Some};
 
+use anyhow::{Context, Result};
+use std::fmt;
 use wasmi_arena::laws::walked_entries_read;
 use wasmi_arena::{ArenaKey, StableArena};
 
@@ -32,4 +34,24 @@ pub fn first_above<Key: ArenaKey>(arena: &StableArena<Key, u64>, limit: u64) -> 
         Some((key, _)) => Some((key, arena[key])),
         None => None,
     }
+}
+
+// Says which key failed, and how many items there were.
+#[derive(Drop)]
+struct Lookup {
+    key: u32,
+    len: usize,
+}
+
+impl fmt::Display for Lookup {
+    fn fmt<W: fmt::Write>(&self, f: &mut fmt::Formatter<W>) -> fmt::Result {
+        write!(f, "key {} of an arena of {} items", self.key, self.len)
+    }
+}
+
+/// The item under a key, or an error that says which key it was. Constant time.
+pub fn read(arena: &StableArena<u32, u64>, key: u32) -> Result<u64> {
+    let len = arena.len();
+    let item = arena.get(key).context(Lookup { key, len })?;
+    Ok(*item)
 }

@@ -8,13 +8,14 @@ use crate::exports::{note, noted_of};
 use crate::frames::tail_call;
 use crate::imports::{take_offered, take_offered_hashed};
 use crate::linker::{export, import, symbol_again, symbol_and_text, symbol_of_new};
-use crate::lookup::{any_differs, first_above};
+use crate::lookup::{any_differs, first_above, read};
 use crate::properties::set_once;
 use crate::reserve::put_both;
 use crate::search::{position_of, push_and_find};
 use crate::store::FuncStore;
 use crate::symbols::{Symbols, intern_both};
 use crate::tables::{add_once, add_once_hashed, reset};
+use crate::transfer::transfer;
 use crate::write::put_or_alloc;
 use std::test::Fail;
 use wasmi_arena::{StableArena, StableVec};
@@ -64,6 +65,12 @@ fn look_ups_by_the_keys_of_a_walk(rt: HostRuntime) -> Result<(), Fail> {
     }
     assert_equal!(rt; first_above(&one, 65), Some((33, 66)));
     assert_equal!(rt; first_above(&one, 78), None);
+    assert_equal!(rt; read(&one, 39).ok(), Some(78));
+    let text = match read(&one, 40) {
+        Ok(_) => String::new(rt.alloc()),
+        Err(error) => format!(in rt.alloc(); "{error:#}")?,
+    };
+    assert_equal!(rt; text.as_str(), "key 40 of an arena of 40 items: encounteded out of bounds key");
     Ok(())
 }
 
@@ -294,5 +301,23 @@ fn entities_with_properties(rt: HostRuntime) -> Result<(), Fail> {
     assert_equal!(rt; entities.get(2), Some(("ann", None)));
     assert_equal!(rt; entities.get(3), None);
     assert!(rt; entities.set(3, 1).is_err());
+    Ok(())
+}
+
+#[test]
+fn two_items_are_written_at_once(rt: HostRuntime) -> Result<(), Fail> {
+    let mut arena: StableArena<u32, u64> = StableArena::new(rt.alloc());
+    for i in 0..40u64 {
+        arena.alloc(i)?;
+    }
+    for (from, to, done, source, target) in [
+        (39, 3, true, Some(0), Some(42)),
+        (3, 4, true, Some(0), Some(46)),
+        (5, 5, false, Some(5), Some(5)),
+        (5, 40, false, Some(5), None),
+    ] {
+        assert_equal!(rt; transfer(&mut arena, from, to), done);
+        assert_equal!(rt; (arena.get(from).ok(), arena.get(to).ok()), (source.as_ref(), target.as_ref()));
+    }
     Ok(())
 }

@@ -9,7 +9,7 @@ impl Generator {
         if self.random.once_in(times) {
             return self.add();
         }
-        match self.random.below(24) {
+        match self.random.below(25) {
             0 => Call::Len,
             1 => Call::IsEmpty,
             2..=8 => self.item(),
@@ -24,6 +24,7 @@ impl Generator {
             20 => self.rebuilt(),
             21 => Call::Eq,
             22 => self.some_written(),
+            23 => self.items_taken_out(),
             _ => self.all_written(),
         }
     }
@@ -56,6 +57,16 @@ impl Generator {
         }
         self.len = 0;
         Call::Clear
+    }
+
+    /// Seldom, a walk over the items that are taken out; never over many.
+    fn items_taken_out(&mut self) -> Call {
+        if self.len > LONG || !self.random.once_in(4) {
+            return Call::Len;
+        }
+        let steps = self.steps();
+        self.len = 0;
+        Call::IntoIter(steps)
     }
 
     /// All items where there are few.

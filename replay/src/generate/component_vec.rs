@@ -10,7 +10,7 @@ impl Generator {
             let number = self.settable(target);
             return self.set(number);
         }
-        match self.random.below(16) {
+        match self.random.below(20) {
             0 => Call::Extent,
             1..=6 => self.component(),
             7..=9 => Call::Item(self.index(), ItemCall::Unset),
@@ -18,6 +18,9 @@ impl Generator {
             12 => self.cleared(),
             13 => self.exchanged(),
             14 => self.set_alike(),
+            15 => Call::Reserve(self.random.below(100) as u16),
+            16..=17 => self.components_walked(),
+            18 => self.components_cloned(),
             _ => Call::Eq,
         }
     }
@@ -25,13 +28,52 @@ impl Generator {
     /// A call on a component: mostly on one that may be there.
     fn component(&mut self) -> Call {
         let new = self.value();
-        let call = match self.random.below(5) {
+        let call = match self.random.below(6) {
             0 => ItemCall::Get,
             1 => ItemCall::GetMut(new),
             2 => ItemCall::Index,
+            3 => ItemCall::Has,
             _ => ItemCall::IndexMut(new),
         };
         Call::Item(self.index(), call)
+    }
+
+    /// A walk over the components, of which some are written and then read. Never over many.
+    fn components_walked(&mut self) -> Call {
+        if self.len > LONG {
+            return Call::Extent;
+        }
+        let (steps, first) = (self.steps(), self.value());
+        let read = match self.len {
+            0..=SHORT => Call::For,
+            _ => Call::Iter(steps.clone()),
+        };
+        match self.random.below(4) {
+            0 => read,
+            1 => Call::Iter(steps),
+            2 if self.len <= SHORT || self.seldom() => {
+                self.pending.push(read);
+                Call::ForMut(first)
+            }
+            _ => {
+                self.pending.push(read);
+                Call::IterMut(steps, first)
+            }
+        }
+    }
+
+    /// A clone takes the place of the other components, and is compared, mostly after a change. Never of many.
+    fn components_cloned(&mut self) -> Call {
+        if self.len > LONG {
+            return Call::Extent;
+        }
+        self.other_len = self.len;
+        self.pending.push(Call::Eq);
+        if !self.random.once_in(3) {
+            let change = self.component();
+            self.pending.push(change);
+        }
+        Call::Clone
     }
 
     /// A number to set: below the extent or past it, but not far, since places are kept for all numbers below it. Or

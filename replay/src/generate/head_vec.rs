@@ -34,7 +34,7 @@ impl Generator {
     }
 
     /// Seldom, as many calls as take out all items and one more. Never of many.
-    fn emptied(&mut self) -> Call {
+    pub(super) fn emptied(&mut self) -> Call {
         if self.len > SHORT || !self.random.once_in(4) {
             return self.popped();
         }

@@ -11,7 +11,7 @@ impl Generator {
         if self.random.once_in(times) {
             return self.interned(target);
         }
-        match self.random.below(20) {
+        match self.random.below(24) {
             0 => InternerCall::Len,
             1 => InternerCall::IsEmpty,
             2..=4 => InternerCall::Get(self.text(target)),
@@ -21,8 +21,22 @@ impl Generator {
             13..=14 => self.interner_beside(),
             15 if self.len.min(self.other_len) <= LONG => InternerCall::Eq,
             16 if self.len <= SHORT || self.seldom() => InternerCall::Debug,
+            17..=18 => InternerCall::Contains(self.text(target)),
+            19 if self.len <= LONG => InternerCall::Iter(self.steps()),
+            20 if self.len < target => self.several_interned(target),
+            21 if self.len <= LONG && self.random.once_in(8) => {
+                self.len = 0;
+                InternerCall::Clear
+            }
             _ => self.interned(target),
         }
+    }
+
+    fn several_interned(&mut self, target: usize) -> InternerCall {
+        let count = 1 + self.random.below(5);
+        self.len += count;
+        let texts: Vec<_> = (0..count).map(|_| self.text(target)).collect();
+        InternerCall::Extend(texts.join(","))
     }
 
     fn interned(&mut self, target: usize) -> InternerCall {

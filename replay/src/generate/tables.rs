@@ -1,7 +1,7 @@
 //! Calls on maps and sets.
 
 use super::{Generator, Kind, EDGES, LONG, SHORT};
-use crate::table_call::{BothCall, EntryCall, KeyCall, TableCall, WalkCall};
+use crate::table_call::{BackingCall, BothCall, EntryCall, KeyCall, TableCall, WalkCall};
 
 /// How many of the keys that were put in are kept.
 const RECENT: usize = 64;
@@ -16,7 +16,7 @@ impl Generator {
         if self.random.once_in(times) {
             return self.added(target);
         }
-        match self.random.below(20) {
+        match self.random.below(22) {
             0 => TableCall::Len,
             1 => TableCall::IsEmpty,
             2..=6 => self.looked_up(target),
@@ -29,6 +29,7 @@ impl Generator {
             15..=16 => self.table_beside(target),
             17 => TableCall::Eq,
             18 => self.thinned(),
+            19..=20 => self.of_backing(target),
             _ => TableCall::Reserve(self.random.below(300) as u16),
         }
     }
@@ -271,6 +272,61 @@ impl Generator {
             _ => (),
         }
         TableCall::Clone
+    }
+
+    /// A call that one backing alone has. Never on many keys.
+    fn of_backing(&mut self, target: usize) -> TableCall {
+        if self.len.max(self.other_len) > LONG {
+            return TableCall::Len;
+        }
+        TableCall::Backing(if self.is_ordered {
+            self.of_ordered(target)
+        } else {
+            self.random
+                .one_of(&[BackingCall::Capacity, BackingCall::ShrinkToFit])
+        })
+    }
+
+    fn of_ordered(&mut self, target: usize) -> BackingCall {
+        let key = self.key(target);
+        match self.random.below(10) {
+            0 => BackingCall::First,
+            1 => BackingCall::Last,
+            2 => BackingCall::PopFirst,
+            3 => BackingCall::PopLast,
+            4..=7 => {
+                let is_wide = self.len <= SHORT || self.seldom();
+                let to = match self.random.below(8) {
+                    0 => key,
+                    1 => key.wrapping_sub(1),
+                    _ if is_wide => self.key(target),
+                    width => key.wrapping_add(width as i64),
+                };
+                BackingCall::Range(key, to, self.few_steps())
+            }
+            8 => {
+                self.other_len = self.len;
+                self.shown_both();
+                BackingCall::SplitOff(key)
+            }
+            _ if self.len + self.other_len < target.max(SHORT) => {
+                self.len += self.other_len;
+                self.other_len = 0;
+                self.shown_both();
+                BackingCall::Append
+            }
+            _ => BackingCall::PopFirst,
+        }
+    }
+
+    /// The next calls print both containers, where they have few keys, and go on with the other one.
+    fn shown_both(&mut self) {
+        if self.len + self.other_len > 2 * SHORT {
+            return;
+        }
+        (self.len, self.other_len) = (self.other_len, self.len);
+        let calls = [TableCall::For, TableCall::Exchange, TableCall::Debug];
+        self.pending_tables.extend(calls);
     }
 
     /// A call that drops some keys, or seldom all. Never of many.

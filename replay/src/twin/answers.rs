@@ -4,7 +4,7 @@ use std::fmt::Display;
 use std::io::{self, Write};
 use std::mem;
 use std::panic::{self, AssertUnwindSafe};
-use wasmi_collections::arena::{ArenaError, ArenaKey};
+use wasmi_collections::arena::ArenaKey;
 
 /// Writes the value, or `none`.
 pub fn option(out: &mut impl Write, found: Option<impl Display>) -> io::Result<()> {
@@ -15,7 +15,7 @@ pub fn option(out: &mut impl Write, found: Option<impl Display>) -> io::Result<(
 }
 
 /// Writes the value, or `error` and the text of the error.
-pub fn result(out: &mut impl Write, outcome: Result<impl Display, ArenaError>) -> io::Result<()> {
+pub fn result(out: &mut impl Write, outcome: Result<impl Display, impl Display>) -> io::Result<()> {
     match outcome {
         Ok(found) => writeln!(out, "{found}"),
         Err(error) => writeln!(out, "error {error}"),

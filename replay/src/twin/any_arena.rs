@@ -172,7 +172,7 @@ impl<A: AnyArena> ArenaTwin<A> {
                 Some(()) => writeln!(out, "written"),
                 None => writeln!(out, "no item"),
             },
-            ItemCall::Set(_) | ItemCall::Unset => bad(out),
+            ItemCall::Set(_) | ItemCall::Unset | ItemCall::Replace(_) => bad(out),
         }
     }
 }

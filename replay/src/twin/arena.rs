@@ -1,7 +1,7 @@
 //! Calls on the Rust crate's `Arena`.
 
 use crate::call::Call;
-use crate::twin::answers::{bad, result};
+use crate::twin::answers::{bad, keyed, result, take_steps};
 use crate::twin::any_arena::{arena_methods, pair, AnyArena, Entries};
 use std::fmt::Debug;
 use std::io::{self, Write};
@@ -17,6 +17,12 @@ impl<Key: ArenaKey + Debug> AnyArena for Arena<Key, i64> {
             Call::Clear => {
                 self.clear();
                 writeln!(out, "done")
+            }
+            // The port alone takes items out; here the arena is emptied after a walk.
+            Call::IntoIter(steps) => {
+                take_steps(self.iter(), &steps, keyed, out)?;
+                self.clear();
+                Ok(())
             }
             // By docs/DIFFERENCES.md, `Arena`: no `reserve` and no `room` here. There is room after it.
             Call::Reserve(_) => writeln!(out, "true"),

@@ -51,6 +51,40 @@ impl<Key: ArenaKey> Handed<Key> {
         Ok(())
     }
 
+    /// The port alone has this call. The value takes the place of the one handed in under the key, and becomes the item,
+    /// unless it was handed in under another key.
+    fn replace(&mut self, key: Key, new: i64) -> Result<i64, String> {
+        let number = key.into_usize();
+        let there = self.arena.get_mut(key).map_err(|error| error.to_string())?;
+        let old = mem::replace(there, new);
+        match self.key_of(new) {
+            Some(at) if at == number => (),
+            Some(_) => {
+                self.arena[key] = old;
+                return Err("item is already in the arena".to_owned());
+            }
+            None => {
+                self.handed[number] = new;
+                self.rebuild();
+            }
+        }
+        Ok(old)
+    }
+
+    /// Makes the arena anew, with the values handed in for keys, and its items.
+    fn rebuild(&mut self) {
+        let mut arena: DedupArena<Key, i64> = self.handed.iter().copied().collect();
+        for (key, item) in &self.arena {
+            arena[key] = *item;
+        }
+        self.arena = arena;
+    }
+
+    /// The port alone has this call.
+    fn next_key(&self) -> Result<Key, ArenaError> {
+        Key::from_usize(self.handed.len()).ok_or(ArenaError::NotEnoughKeys)
+    }
+
     fn key_of(&self, item: i64) -> Option<usize> {
         self.handed.iter().position(|handed| *handed == item)
     }
@@ -72,7 +106,10 @@ impl<Key: ArenaKey> DedupTwin<Key> {
     fn answer_item(&mut self, key: Key, call: ItemCall, out: &mut impl Write) -> io::Result<()> {
         match call {
             ItemCall::Get => result(out, self.one.arena.get(key)),
-            ItemCall::GetMut(item) => result(out, self.write(key, item)),
+            // The port alone has the second call, and `Has` and `Replace`.
+            ItemCall::GetMut(item) | ItemCall::Put(item) => result(out, self.write(key, item)),
+            ItemCall::Has => writeln!(out, "{}", self.one.arena.get(key).is_ok()),
+            ItemCall::Replace(item) => result(out, self.one.replace(key, item)),
             ItemCall::Index => match unless_it_panics(|| self.one.arena[key]) {
                 Some(item) => writeln!(out, "{item}"),
                 None => writeln!(out, "no item"),
@@ -100,7 +137,8 @@ impl<Key: ArenaKey + Debug> Container for DedupTwin<Key> {
                 writeln!(out, "done")
             }
             Call::Alloc(item) => result(out, self.one.alloc(item).map(Key::into_usize)),
-            Call::KeyOf(item) => option(out, self.one.key_of(item)),
+            Call::NextKey => result(out, self.one.next_key().map(Key::into_usize)),
+            Call::KeyOf(item) | Call::IndexOf(item) => option(out, self.one.key_of(item)),
             Call::FromIter(first, count) => result(
                 out,
                 self.one.collect(counted(first, count)).map(|()| "done"),

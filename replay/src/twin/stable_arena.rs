@@ -1,7 +1,7 @@
 //! Calls on the Rust crate's `StableArena`.
 
 use crate::call::Call;
-use crate::twin::answers::{bad, option};
+use crate::twin::answers::{bad, option, take_steps};
 use crate::twin::any_arena::{arena_methods, items, AnyArena, Entries};
 use crate::twin::buckets;
 use std::fmt::Debug;
@@ -20,6 +20,19 @@ impl<Key: ArenaKey + Debug> AnyArena for StableArena<Key, i64> {
             Call::Clone | Call::CloneIn => {
                 *other = items(self).collect();
                 writeln!(out, "done")
+            }
+            Call::Clear => {
+                *self = StableArena::new();
+                writeln!(out, "done")
+            }
+            Call::Last => option(out, self.iter().next_back().map(|(_, item)| *item)),
+            Call::Keys(steps) => {
+                let text = |(key, _): (Key, _)| key.into_usize().to_string();
+                take_steps(self.iter(), &steps, text, out)
+            }
+            Call::Values(steps) => {
+                let text = |(_, item): (_, &i64)| item.to_string();
+                take_steps(self.iter(), &steps, text, out)
             }
             Call::Slices(steps) => buckets::write_slices(len, &steps, get, out),
             Call::Room => writeln!(out, "{}", buckets::room(len)),

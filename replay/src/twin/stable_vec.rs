@@ -22,6 +22,20 @@ impl VecTwin {
         }
     }
 
+    /// The port alone has this call. Here the vector is made anew from the items before the last.
+    fn pop(&mut self) -> Option<i64> {
+        let mut items: Vec<i64> = self.vec.iter().copied().collect();
+        let last = items.pop();
+        self.vec = items.into_iter().collect();
+        last
+    }
+
+    /// The port alone has this call.
+    fn put(&mut self, index: usize, item: i64) -> Result<i64, ArenaError> {
+        let there = self.vec.get_mut(index).ok_or(ArenaError::KeyOutOfBounds)?;
+        Ok(mem::replace(there, item))
+    }
+
     /// The port alone has this call.
     fn swap(&mut self, first: usize, second: usize) -> Result<(), ArenaError> {
         let [one, other] = self.vec.get_disjoint_mut([first, second])?;
@@ -45,6 +59,27 @@ impl Container for VecTwin {
             Call::Item(index, ItemCall::Get) => option(out, vec.get(index)),
             Call::Item(index, ItemCall::GetMut(item)) => {
                 option(out, vec.get_mut(index).map(|old| mem::replace(old, item)))
+            }
+            Call::Item(index, ItemCall::Put(item)) => result(out, self.put(index, item)),
+            // The port alone is read by index; its caller proves that there is an item.
+            Call::Item(index, ItemCall::Index) => match vec.get(index) {
+                Some(item) => writeln!(out, "{item}"),
+                None => writeln!(out, "no item"),
+            },
+            Call::Item(index, ItemCall::IndexMut(item)) => match vec.get_mut(index) {
+                Some(there) => {
+                    *there = item;
+                    writeln!(out, "written")
+                }
+                None => writeln!(out, "no item"),
+            },
+            // The port alone has these calls.
+            Call::Pop => option(out, self.pop()),
+            Call::First => option(out, vec.get(0)),
+            Call::Last => option(out, vec.iter().next_back()),
+            Call::Clear => {
+                *vec = StableVec::new();
+                writeln!(out, "done")
             }
             Call::Swap(first, second) => {
                 let outcome = self.swap(first, second);

@@ -2,7 +2,7 @@
 
 use crate::interner_call::InternerCall;
 use crate::line::Line;
-use crate::twin::answers::{bad, option};
+use crate::twin::answers::{bad, option, take_steps};
 use crate::twin::Container;
 use std::hash::{DefaultHasher, Hash, Hasher};
 use std::io::{self, Write};
@@ -26,6 +26,23 @@ impl Container for InternerTwin {
         match call {
             InternerCall::Len => writeln!(out, "{}", interner.len()),
             InternerCall::IsEmpty => writeln!(out, "{}", interner.is_empty()),
+            // By docs/DIFFERENCES.md, '`StringInterner`, further calls', the Rust crate has neither `clear`, `contains`,
+            // `extend` nor `iter`.
+            InternerCall::Clear => {
+                *interner = StringInterner::new();
+                writeln!(out, "done")
+            }
+            InternerCall::Contains(text) => writeln!(out, "{}", interner.get(text).is_some()),
+            InternerCall::Extend(texts) => {
+                for text in texts.split(',') {
+                    interner.get_or_intern(text);
+                }
+                writeln!(out, "done")
+            }
+            InternerCall::Iter(steps) => {
+                let text = |(number, text): (usize, &str)| format!("{number}=\"{text}\"");
+                take_steps(texts(interner).into_iter().enumerate(), &steps, text, out)
+            }
             InternerCall::Get(text) => option(out, interner.get(text).map(Sym::into_u32)),
             // By docs/DIFFERENCES.md, `StringInterner`, the Rust crate counts nothing. The port says whether it
             // compared no more texts than it may.

@@ -4,6 +4,7 @@
 //! `hash-collections` its map and set are `hashbrown`'s with the standard library's state, behind calls of one line.
 //! So are the standard library's, which stand here for them.
 
+mod backing;
 mod map;
 mod set;
 

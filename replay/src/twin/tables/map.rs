@@ -1,5 +1,6 @@
 //! Calls on maps.
 
+use super::backing::Backing;
 use super::{braced, stepped, walk};
 use crate::line::Line;
 use crate::table_call::{EntryCall, KeyCall, TableCall, WalkCall};
@@ -212,6 +213,9 @@ macro_rules! map_twin {
                     TableCall::Debug => {
                         let texts = map.iter().map(|(key, item)| format!("{key}: {item}"));
                         return braced(texts, out);
+                    }
+                    TableCall::Backing(call) => {
+                        return map.answer_backing(&mut self.other, call, out)
                     }
                     TableCall::Both(_) => return bad(out),
                 }

@@ -1,5 +1,6 @@
 //! Calls on sets.
 
+use super::backing::Backing;
 use super::{braced, stepped, walk, walk_all};
 use crate::line::Line;
 use crate::table_call::{BothCall, KeyCall, TableCall, WalkCall};
@@ -114,6 +115,9 @@ macro_rules! set_twin {
                     TableCall::Eq => return writeln!(out, "{}", *set == self.other),
                     TableCall::Debug => return braced(set.iter().map(i64::to_string), out),
                     TableCall::Both(call) => return self.answer_both(call, out),
+                    TableCall::Backing(call) => {
+                        return set.answer_backing(&mut self.other, call, out)
+                    }
                     _ => return bad(out),
                 }
                 writeln!(out, "done")
