@@ -4,6 +4,7 @@ use std::fmt::Write;
 use std::hash::{Hash, Hasher};
 use std::test::Fail;
 use wasmi_arena::ArenaKey;
+use wasmi_collections::StringInterner;
 use wasmi_collections::arena::{Arena, ArenaError, DedupArena};
 use wasmi_collections::run::{DedupCommand, DedupReply, run_dedup};
 use wasmi_vectors::assert_equal;
@@ -407,5 +408,60 @@ fn a_text_that_is_there_is_not_copied(rt: HostRuntime) -> Result<(), Fail> {
         assert_equal!(rt; log.requests(), asked.wrapping_add(5));
     }
     assert_equal!(rt; (log.returned(), log.misplaced()), (log.given(), 0));
+    Ok(())
+}
+
+// A value without a key or without memory, and an item without a place.
+#[test]
+fn what_is_refused_is_dropped(rt: HostRuntime) -> Result<(), Fail> {
+    for nth in 1..12 {
+        let log = Log::new();
+        {
+            let heap = Observed::new(rt.alloc(), &log);
+            let mut arena: DedupArena<Tiny, String<&Observed<'_>>, &Observed<'_>> = DedupArena::new(
+                &heap,
+            );
+            log.refuse_once(nth);
+            for text in ["p", "q", "r", "s", "t"] {
+                if let Ok(value) = String::from_str(&heap, text) {
+                    let _key = arena.alloc(value);
+                }
+            }
+            log.refuse_none();
+            assert!(rt; arena.len() > 2, "at {nth}");
+            let mut texts = two_texts(&heap)?;
+            let refused = texts.put(9, String::from_str(&heap, "z")?).err();
+            assert_equal!(rt; refused, Some(ArenaError::KeyOutOfBounds));
+        }
+        assert_equal!(rt; (log.returned(), log.misplaced()), (log.given(), 0), "at {nth}");
+    }
+    Ok(())
+}
+
+// From empty on, past the growths of each part.
+#[test]
+fn many_values_and_texts(rt: HostRuntime) -> Result<(), Fail> {
+    let mut numbers: DedupArena<usize, u32> = DedupArena::new(rt.alloc());
+    let mut texts: DedupArena<usize, String> = DedupArena::new(rt.alloc());
+    let mut interner = StringInterner::new(rt.alloc());
+    let mut long = String::new(rt.alloc());
+    for _ in 0..7_000 {
+        long.push_str("0123456789")?;
+    }
+    for number in 0..5_000u32 {
+        let short = format!(in rt.alloc(); "{number}")?;
+        let text = if number == 4_500 {
+            long.as_str()
+        } else {
+            short.as_str()
+        };
+        assert_equal!(rt; numbers.alloc_ref(&number), Ok(number as usize));
+        assert_equal!(rt; texts.alloc_str(rt.alloc(), text), Ok(number as usize));
+        assert_equal!(rt; interner.extend([text]), Ok(()));
+    }
+    assert_equal!(rt; (numbers.len(), texts.len(), interner.len()), (5_000, 5_000, 5_000));
+    assert_equal!(rt; (texts.key_of_str(long.as_str()), texts.key_of_str("4500")), (Some(4_500), None));
+    let symbol = interner.get(long.as_str()).map(|symbol| symbol.into_u32());
+    assert_equal!(rt; symbol, Some(4_500));
     Ok(())
 }

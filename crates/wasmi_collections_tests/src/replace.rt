@@ -98,7 +98,7 @@ impl Hash for Counting<'_> {
     }
 }
 
-// What one call compares, clones and drops in an arena of the numbers below `len`, under whose key 6
+// What one call compares, clones and drops in an arena of the numbers below `len`, under whose key 7
 // something else was written.
 fn costs(alloc: Global, len: u32, key: usize, number: u32) -> Result<(u64, u64, u64), ArenaError> {
     let counts = Counts::new();
@@ -107,8 +107,8 @@ fn costs(alloc: Global, len: u32, key: usize, number: u32) -> Result<(u64, u64, 
         let counts = &counts;
         let _key = arena.alloc(Counting { number, counts })?;
     }
-    *arena.get_mut(6)? = Counting {
-        number: 7_777,
+    *arena.get_mut(7)? = Counting {
+        number: 12_345,
         counts: &counts,
     };
     let value = Counting {
@@ -126,17 +126,36 @@ fn costs(alloc: Global, len: u32, key: usize, number: u32) -> Result<(u64, u64, 
 // item was written, it is cloned to be looked up. What isn't returned is dropped.
 #[test]
 fn a_call_costs_the_same_in_any_arena(rt: HostRuntime) -> Result<(), Fail> {
-    for len in [100, 1_000] {
+    for len in [100, 1_000, 5_000] {
         for (key, number, want) in [
-            (5, 5_555, (2, 1, 1)),
-            (6, 5_555, (2, 2, 2)),
-            (6, 6, (1, 0, 0)),
+            (5, 9_999, (2, 1, 1)),
+            (7, 9_999, (2, 2, 2)),
+            (7, 7, (1, 0, 0)),
             (5, 8, (1, 0, 1)),
-            (5_000, 8, (0, 0, 1)),
+            (50_000, 8, (0, 0, 1)),
         ] {
             assert_equal!(rt; costs(rt.alloc(), len, key, number)?, want, "{number} at {key} of {len}");
         }
     }
+    Ok(())
+}
+
+// A value that is looked up is compared with no other that was handed in.
+#[test]
+fn a_look_compares_one_value(rt: HostRuntime) -> Result<(), Fail> {
+    let counts = Counts::new();
+    let mut arena: DedupArena<usize, Counting<'_>> = DedupArena::new(rt.alloc());
+    for number in 0..1_000u32 {
+        let counts = &counts;
+        let _key = arena.alloc(Counting { number, counts })?;
+    }
+    let value = Counting {
+        number: 500,
+        counts: &counts,
+    };
+    let _before = counts.taken();
+    assert_equal!(rt; (arena.key_of(&value), counts.taken()), (Some(500), (1, 0, 0)));
+    assert_equal!(rt; (arena.alloc_ref(&value), counts.taken()), (Ok(500), (1, 0, 0)));
     Ok(())
 }
 
@@ -197,25 +216,46 @@ fn a_new_value_needs_no_key(rt: HostRuntime) -> Result<(), Fail> {
     Ok(())
 }
 
-// A number whose clone is the next one.
+// A text whose clone has one more character.
 #[derive(Debug, PartialEq, Eq, Hash, Drop)]
-struct Next(u32);
+struct Longer<'a, 'l>(String<&'a Observed<'l>>);
 
-impl Clone for Next {
+impl Clone for Longer<'_, '_> {
     fn clone(&self) -> Result<Self, AllocError> {
-        Ok(Next(self.0.wrapping_add(1)))
+        let mut text = self.0.clone()?;
+        text.push('x')?;
+        Ok(Longer(text))
     }
 }
 
+fn text_to_lengthen<'a, 'l>(
+    heap: &'a Observed<'l>,
+    text: &str,
+) -> Result<Longer<'a, 'l>, AllocError> {
+    Ok(Longer(String::from_str(heap, text)?))
+}
+
+// What is refused is dropped, and so are the clones that were made for it.
 #[test]
 fn a_clone_that_differs_changes_nothing(rt: HostRuntime) -> Result<(), Fail> {
-    let mut arena: DedupArena<usize, Next> = DedupArena::from_iter(rt.alloc(), [Next(0), Next(1)])?;
-    assert_equal!(rt; arena.replace(0, Next(5)), Err(ArenaError::OutOfSystemMemory));
-    assert_equal!(rt; (arena.get(0), arena.get(1)), (Ok(&Next(1)), Ok(&Next(2))));
-    for (key, number) in [0, 1, 5].iter().enumerate() {
-        assert_equal!(rt; arena.alloc(Next(*number)), Ok(key));
+    let log = Log::new();
+    {
+        let heap = Observed::new(rt.alloc(), &log);
+        let mut arena: DedupArena<usize, Longer<'_, '_>, &Observed<'_>> = DedupArena::new(&heap);
+        for text in ["a", "b"] {
+            let _key = arena.alloc(text_to_lengthen(&heap, text)?)?;
+        }
+        let refused = arena.replace(0, text_to_lengthen(&heap, "d")?).err();
+        assert_equal!(rt; refused, Some(ArenaError::OutOfSystemMemory));
+        for (key, item) in ["ax", "bx"].iter().enumerate() {
+            assert_equal!(rt; arena.get(key).map(|there| there.0.as_str()), Ok(*item));
+        }
+        for (key, text) in ["a", "b", "d"].iter().enumerate() {
+            assert_equal!(rt; arena.alloc(text_to_lengthen(&heap, *text)?), Ok(key));
+        }
+        assert_equal!(rt; arena.index().len(), 3);
     }
-    assert_equal!(rt; arena.index().len(), 3);
+    assert_equal!(rt; (log.returned(), log.misplaced()), (log.given(), 0));
     Ok(())
 }
 
@@ -293,12 +333,16 @@ fn a_refused_growth_changes_nothing(rt: HostRuntime) -> Result<(), Fail> {
             for value in 0..len {
                 let _key = arena.alloc(value)?;
             }
+            let asked = log.requests();
             log.refuse_once(1);
-            let first = if arena.replace(0, 99).is_err() { 0 } else { 99 };
-            refused = refused.wrapping_add(if first == 0 { 1 } else { 0 });
+            let first = arena.replace(0, 99);
             log.refuse_none();
-            assert_equal!(rt; arena.alloc(first), Ok(0));
-            assert_equal!(rt; arena.get(0), Ok(&first));
+            if first.is_err() {
+                refused = refused.wrapping_add(1);
+                assert_equal!(rt; (log.requests().wrapping_sub(asked), arena.get(0)), (1, Ok(&0)));
+                assert_equal!(rt; (arena.alloc(0), arena.replace(0, 99)), (Ok(0), Ok(0)));
+            }
+            assert_equal!(rt; arena.get(0), Ok(&99));
             for value in 1..len {
                 assert_equal!(rt; arena.alloc(value), Ok(value as usize), "of {len}");
             }
@@ -307,5 +351,47 @@ fn a_refused_growth_changes_nothing(rt: HostRuntime) -> Result<(), Fail> {
         assert_equal!(rt; (log.returned(), log.misplaced()), (log.given(), 0));
     }
     assert!(rt; refused > 2);
+    Ok(())
+}
+
+// One entry more than there are values goes into the index, and no item.
+#[test]
+fn many_calls_ask_for_one_block(rt: HostRuntime) -> Result<(), Fail> {
+    let log = Log::new();
+    let heap = Observed::new(rt.alloc(), &log);
+    let mut arena: DedupArena<usize, u32, &Observed<'_>> = DedupArena::new(&heap);
+    for value in 0..4u32 {
+        let _key = arena.alloc(value)?;
+    }
+    let asked = log.requests();
+    for value in 4..1_004u32 {
+        assert_equal!(rt; arena.replace((value % 4) as usize, value), Ok(value.wrapping_sub(4)));
+    }
+    assert!(rt; log.requests().wrapping_sub(asked) < 2);
+    Ok(())
+}
+
+// The clone of the value is refused, or a block of the index.
+#[test]
+fn a_refused_text_is_dropped(rt: HostRuntime) -> Result<(), Fail> {
+    let mut refused = 0u64;
+    for len in 1..30u32 {
+        let log = Log::new();
+        {
+            let heap = Observed::new(rt.alloc(), &log);
+            let mut arena: Texts<'_, '_> = DedupArena::new(&heap);
+            for number in 0..len {
+                let _key = arena.alloc(format!(in &heap; "{number}")?)?;
+            }
+            let value = String::from_str(&heap, "new")?;
+            log.refuse_once(2);
+            if arena.replace(0, value).is_err() {
+                refused = refused.wrapping_add(1);
+            }
+            log.refuse_none();
+        }
+        assert_equal!(rt; (log.returned(), log.misplaced()), (log.given(), 0));
+    }
+    assert!(rt; refused > 1);
     Ok(())
 }
