@@ -165,44 +165,51 @@ fn runs_byte_by_byte(rt: HostRuntime) -> Result<(), Fail> {
     Ok(())
 }
 
+fn key(number: usize) -> Result<EntityKey, Fail> {
+    match EntityKey::from_usize(number) {
+        Some(key) => Ok(key),
+        None => Err("each number below 2^32 has a key".into()),
+    }
+}
+
 #[test]
 fn a_store_of_entities(rt: HostRuntime) -> Result<(), Fail> {
+    let nothing = ArenaError::KeyOutOfBounds;
     let mut store = EntityStore::new(rt.alloc());
-    for (number, (name, kind)) in [("ann", "user"), ("bob", "user"), ("ann", "group")]
-        .into_iter()
-        .enumerate()
-    {
+    for (name, kind, number, counts) in [
+        ("ann", "user", 0, (1, 1, 1)),
+        ("bob", "user", 1, (2, 2, 1)),
+        ("ann", "group", 2, (3, 2, 2)),
+    ] {
         assert_eq!(rt; store.add(name, kind)?.into_usize(), number);
+        assert_eq!(rt; (store.len(), store.names(), store.kinds()), counts);
     }
-    assert_eq!(rt; (store.len(), store.names(), store.kinds()), (3, 2, 2));
-    let [Some(ann), Some(bob), Some(group), Some(none)] = [0, 1, 2, 5].map(EntityKey::from_usize)
-    else {
-        return Ok(());
-    };
-    assert_eq!(rt; store.set(bob, 42), Ok(None));
-    assert_eq!(rt; store.set(bob, 7), Ok(Some(42)));
-    assert_eq!(rt; store.set(none, 7), Err(ArenaError::KeyOutOfBounds));
-    assert_eq!(rt; store.rename_kind(ann, "admin"), Ok(()));
-    assert_eq!(rt; store.rename_kind(bob, "admin"), Ok(()));
-    assert_eq!(rt;
-        store.rename_kind(group, "admin"),
-        Err(ArenaError::DuplicateItem)
-    );
-    assert_eq!(rt;
-        store.rename_kind(none, "admin"),
-        Err(ArenaError::KeyOutOfBounds)
-    );
-    assert_eq!(rt; store.get(ann), Ok(("ann", "admin", None)));
-    assert_eq!(rt; store.get(bob), Ok(("bob", "admin", Some(7))));
-    assert_eq!(rt; store.get(group), Ok(("ann", "group", None)));
-    assert_eq!(rt; store.get(none), Err(ArenaError::KeyOutOfBounds));
-    assert_eq!(rt; store.unset(bob), Ok(Some(7)));
-    assert_eq!(rt; store.unset(none), Err(ArenaError::KeyOutOfBounds));
-    assert_eq!(rt; store.get(bob), Ok(("bob", "admin", None)));
-    let eve = store.add("eve", "user")?;
-    assert_eq!(rt;
-        (eve.into_usize(), store.len(), store.names(), store.kinds()),
-        (3, 4, 3, 3)
-    );
+    for (number, property, old) in [
+        (1, 42, Ok(None)),
+        (1, 7, Ok(Some(42))),
+        (5, 7, Err(nothing)),
+    ] {
+        assert_eq!(rt; store.set(key(number)?, property), old);
+    }
+    for (number, done) in [
+        (0, Ok(())),
+        (1, Ok(())),
+        (2, Err(ArenaError::DuplicateItem)),
+        (5, Err(nothing)),
+    ] {
+        assert_eq!(rt; store.rename_kind(key(number)?, "admin"), done);
+    }
+    for (number, entity, property) in [
+        (0, Ok(("ann", "admin", None)), Ok(None)),
+        (1, Ok(("bob", "admin", Some(7))), Ok(Some(7))),
+        (1, Ok(("bob", "admin", None)), Ok(None)),
+        (2, Ok(("ann", "group", None)), Ok(None)),
+        (5, Err(nothing), Err(nothing)),
+    ] {
+        assert_eq!(rt; store.get(key(number)?), entity);
+        assert_eq!(rt; store.unset(key(number)?), property);
+    }
+    assert_eq!(rt; store.add("eve", "user")?.into_usize(), 3);
+    assert_eq!(rt; (store.len(), store.names(), store.kinds()), (4, 3, 3));
     Ok(())
 }
