@@ -26,15 +26,15 @@ fn components_are_visited_from_both_ends(rt: HostRuntime) -> Result<(), Fail> {
     assert_equal!(rt; entries.next_back(), Some((4, &40)));
     assert_equal!(rt; entries.next(), None);
     assert_equal!(rt; entries.next_back(), None);
-    let mut number = 0u32;
+    let mut number = 0i32;
     for (key, component) in &mut components {
         number = number.wrapping_add(1);
-        *component = key.wrapping_add(number) as i32;
+        *component = i32::try_from(key).unwrap_or(0).wrapping_add(number);
     }
     let mut entries = components.iter_mut();
     assert_equal!(rt; entries.next_back(), Some((6, &mut 9)));
     assert_equal!(rt; entries.next(), Some((1, &mut 2)));
-    assert_equal!(rt; components[4], 6);
+    assert_equal!(rt; components.get(4), Some(&6));
     for (key, is_there) in [(0, false), (1, true), (7, false), (8, false)] {
         assert_equal!(rt; components.has(key), is_there);
     }

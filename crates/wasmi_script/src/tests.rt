@@ -1,5 +1,6 @@
 //! Worked replies, texts and statuses, and readers and writers that go byte by byte or fail.
 
+use std::alloc::Global;
 use std::io;
 use std::io::{ErrorKind, Read, Write};
 use std::test::Fail;
@@ -172,44 +173,60 @@ fn key(number: usize) -> Result<EntityKey, Fail> {
     }
 }
 
+fn counts(store: &EntityStore) -> (usize, usize, usize) {
+    (store.len(), store.names(), store.kinds())
+}
+
+// What is kept under a number, as a text.
+fn shown(alloc: Global, store: &EntityStore, number: usize) -> Result<String, Fail> {
+    match store.get(key(number)?) {
+        Ok((name, kind, property)) => Ok(format!(in alloc; "{name} {kind} {property:?}")?),
+        Err(error) => Ok(format!(in alloc; "{error}")?),
+    }
+}
+
+// Each step of the test below, of a store that is lent.
+fn add_three(store: &mut EntityStore) -> Result<(usize, usize, usize), Fail> {
+    let first = store.add("ann", "user")?.into_usize();
+    let second = store.add("bob", "user")?.into_usize();
+    Ok((first, second, store.add("ann", "group")?.into_usize()))
+}
+
+fn set_twice(store: &mut EntityStore) -> Result<(Option<u64>, Option<u64>), Fail> {
+    let first = store.set(key(1)?, 42)?;
+    Ok((first, store.set(key(1)?, 7)?))
+}
+
+fn refused(store: &mut EntityStore, number: usize) -> Result<Option<ArenaError>, Fail> {
+    Ok(store.rename_kind(key(number)?, "admin").err())
+}
+
+fn unset_twice(store: &mut EntityStore) -> Result<(Option<u64>, Option<u64>), Fail> {
+    let first = store.unset(key(1)?)?;
+    Ok((first, store.unset(key(1)?)?))
+}
+
 #[test]
 fn a_store_of_entities(rt: HostRuntime) -> Result<(), Fail> {
-    let nothing = ArenaError::KeyOutOfBounds;
     let mut store = EntityStore::new(rt.alloc());
-    for (name, kind, number, counts) in [
-        ("ann", "user", 0, (1, 1, 1)),
-        ("bob", "user", 1, (2, 2, 1)),
-        ("ann", "group", 2, (3, 2, 2)),
-    ] {
-        assert_eq!(rt; store.add(name, kind)?.into_usize(), number);
-        assert_eq!(rt; (store.len(), store.names(), store.kinds()), counts);
-    }
-    for (number, property, old) in [
-        (1, 42, Ok(None)),
-        (1, 7, Ok(Some(42))),
-        (5, 7, Err(nothing)),
-    ] {
-        assert_eq!(rt; store.set(key(number)?, property), old);
-    }
-    for (number, done) in [
-        (0, Ok(())),
-        (1, Ok(())),
-        (2, Err(ArenaError::DuplicateItem)),
-        (5, Err(nothing)),
-    ] {
-        assert_eq!(rt; store.rename_kind(key(number)?, "admin"), done);
-    }
-    for (number, entity, property) in [
-        (0, Ok(("ann", "admin", None)), Ok(None)),
-        (1, Ok(("bob", "admin", Some(7))), Ok(Some(7))),
-        (1, Ok(("bob", "admin", None)), Ok(None)),
-        (2, Ok(("ann", "group", None)), Ok(None)),
-        (5, Err(nothing), Err(nothing)),
-    ] {
-        assert_eq!(rt; store.get(key(number)?), entity);
-        assert_eq!(rt; store.unset(key(number)?), property);
-    }
-    assert_eq!(rt; store.add("eve", "user")?.into_usize(), 3);
-    assert_eq!(rt; (store.len(), store.names(), store.kinds()), (4, 3, 3));
+    let keys = add_three(&mut store)?;
+    assert_eq!(rt; (keys, counts(&store)), ((0, 1, 2), (3, 2, 2)));
+    let old = set_twice(&mut store)?;
+    assert_eq!(rt; old, (None, Some(42)));
+    let (user, again) = (refused(&mut store, 0)?, refused(&mut store, 1)?);
+    assert_eq!(rt; (user, again), (None, None));
+    let (group, none) = (refused(&mut store, 2)?, refused(&mut store, 5)?);
+    assert_eq!(rt; group, Some(ArenaError::DuplicateItem));
+    assert_eq!(rt; none, Some(ArenaError::KeyOutOfBounds));
+    let (ann, bob) = (shown(rt.alloc(), &store, 0)?, shown(rt.alloc(), &store, 1)?);
+    assert_eq!(rt;
+        (ann.as_str(), bob.as_str()),
+        ("ann admin None", "bob admin Some(7)")
+    );
+    let (group, none) = (shown(rt.alloc(), &store, 2)?, shown(rt.alloc(), &store, 5)?);
+    assert_eq!(rt; group.as_str(), "ann group None");
+    assert_eq!(rt; none.as_str(), "encounteded out of bounds key");
+    let taken = unset_twice(&mut store)?;
+    assert_eq!(rt; (taken, counts(&store)), ((Some(7), None), (3, 2, 2)));
     Ok(())
 }
