@@ -1,11 +1,9 @@
 //! Worked replies, texts and statuses, and readers and writers that go byte by byte or fail.
 
-use std::alloc::Global;
 use std::io;
 use std::io::{ErrorKind, Read, Write};
 use std::test::Fail;
-use wasmi_arena::{ArenaError, ArenaKey};
-use wasmi_script_lib::{EntityKey, EntityStore, ScriptError, answer, run};
+use wasmi_script_lib::{ScriptError, answer, run};
 
 #[test]
 fn replies(rt: HostRuntime) -> Result<(), Fail> {
@@ -163,70 +161,5 @@ fn runs_byte_by_byte(rt: HostRuntime) -> Result<(), Fail> {
         );
         assert_eq!(rt; sink.bytes.as_slice(), written, "with {fault:?}");
     }
-    Ok(())
-}
-
-fn key(number: usize) -> Result<EntityKey, Fail> {
-    match EntityKey::from_usize(number) {
-        Some(key) => Ok(key),
-        None => Err("each number below 2^32 has a key".into()),
-    }
-}
-
-fn counts(store: &EntityStore) -> (usize, usize, usize) {
-    (store.len(), store.names(), store.kinds())
-}
-
-// What is kept under a number, as a text.
-fn shown(alloc: Global, store: &EntityStore, number: usize) -> Result<String, Fail> {
-    match store.get(key(number)?) {
-        Ok((name, kind, property)) => Ok(format!(in alloc; "{name} {kind} {property:?}")?),
-        Err(error) => Ok(format!(in alloc; "{error}")?),
-    }
-}
-
-// Each step of the test below, of a store that is lent.
-fn add_three(store: &mut EntityStore) -> Result<(usize, usize, usize), Fail> {
-    let first = store.add("ann", "user")?.into_usize();
-    let second = store.add("bob", "user")?.into_usize();
-    Ok((first, second, store.add("ann", "group")?.into_usize()))
-}
-
-fn set_twice(store: &mut EntityStore) -> Result<(Option<u64>, Option<u64>), Fail> {
-    let first = store.set(key(1)?, 42)?;
-    Ok((first, store.set(key(1)?, 7)?))
-}
-
-fn refused(store: &mut EntityStore, number: usize) -> Result<Option<ArenaError>, Fail> {
-    Ok(store.rename_kind(key(number)?, "admin").err())
-}
-
-fn unset_twice(store: &mut EntityStore) -> Result<(Option<u64>, Option<u64>), Fail> {
-    let first = store.unset(key(1)?)?;
-    Ok((first, store.unset(key(1)?)?))
-}
-
-#[test]
-fn a_store_of_entities(rt: HostRuntime) -> Result<(), Fail> {
-    let mut store = EntityStore::new(rt.alloc());
-    let keys = add_three(&mut store)?;
-    assert_eq!(rt; (keys, counts(&store)), ((0, 1, 2), (3, 2, 2)));
-    let old = set_twice(&mut store)?;
-    assert_eq!(rt; old, (None, Some(42)));
-    let (user, again) = (refused(&mut store, 0)?, refused(&mut store, 1)?);
-    assert_eq!(rt; (user, again), (None, None));
-    let (group, none) = (refused(&mut store, 2)?, refused(&mut store, 5)?);
-    assert_eq!(rt; group, Some(ArenaError::DuplicateItem));
-    assert_eq!(rt; none, Some(ArenaError::KeyOutOfBounds));
-    let (ann, bob) = (shown(rt.alloc(), &store, 0)?, shown(rt.alloc(), &store, 1)?);
-    assert_eq!(rt;
-        (ann.as_str(), bob.as_str()),
-        ("ann admin None", "bob admin Some(7)")
-    );
-    let (group, none) = (shown(rt.alloc(), &store, 2)?, shown(rt.alloc(), &store, 5)?);
-    assert_eq!(rt; group.as_str(), "ann group None");
-    assert_eq!(rt; none.as_str(), "encounteded out of bounds key");
-    let taken = unset_twice(&mut store)?;
-    assert_eq!(rt; (taken, counts(&store)), ((Some(7), None), (3, 2, 2)));
     Ok(())
 }
