@@ -1,4 +1,5 @@
 mod Same
 mod Places
+mod Values
 mod Gone
 mod Ended

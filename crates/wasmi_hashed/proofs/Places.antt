@@ -15,7 +15,6 @@ use Rattle.std.specs.HashMap.Entry.{entry_key, entry_map_ref, entry_value, IsEnt
 use Rattle.std.specs.Prelude.{None, Some, Result, Ok, Err, IfOk, IsSome, OnOk, OnErr}
 use Rattle.std.specs.declared.alloc.AllocFailed.{AllocFailed}
 use Rattle.std.specs.declared.collections.hash_map.Entry.{Entry as Place}
-use Rattle.std.specs.declared.collections.hash_map.Entry.TheVariants.{Occupied, Vacant}
 use Rattle.std.specs.declared.cmp.PartialEq as eq
 use Rattle.std.specs.declared.hash.Hash as hash
 use Rattle.std.specs.declared.hash.Hasher as hasher
@@ -26,18 +25,13 @@ use Rattle.wasmi_arena.specs.declared.error.ArenaError.{ArenaError}
 use Rattle.wasmi_hashed.specs.declared.map.entry.Entry.{Entry}
 
 module _ {K V S A H : Type 0} {g : eq.Ghosts K} {h : hash.Ghosts K} {b : builder.Ghosts S H} {w : hasher.Ghosts H} where
-  -- which place it is, without the key that is kept
-  is_found : (P Q R : Type 0) (e : Place K V S A H g h b w) → MatchEntry e (P × R) Q → MatchEntry e P Q
-  is_found P Q R (Occupied o) known = known.0
-  is_found P Q R (Vacant v) known = known
-
   -- of the standard library's clauses
   pub is_place : {E : Type 0} (same : K → K → Bool) (table : HashMap K V S) (key : K) (r : Result (Place K V S A H g h b w) E)
       → IfOk r (λ e. entry_value e ≡ None → entry_key e ≡ key) → IfOk r (λ e. same key (entry_key e) ≡ true) → IfOk r (λ e. entry_value e ≡ value_at same table.entries key)
       → IfOk r (λ e. MatchEntry e (IsSome (value_at same table.entries key) × (get_key same table key ≡ Some (entry_key e))) (value_at same table.entries key ≡ None))
       → IfOk r (λ e. (entry_map_ref e).now.entries ≡ table.entries) → IfOk r (IsEntryFor same table key) → IfOk r (IsRemovalFor same table key)
       → IfOk r (IsPlaceOf same (map_of table) key)
-  is_place same table key (Ok e) is_key is_same is_value found entries written removed = (is_key, is_same, is_value, is_found _ _ _ e found, entries, written.1, written.3, removed.1)
+  is_place same table key (Ok e) is_key is_same is_value found entries written removed = (is_key, is_same, is_value, found, entries, written.1, written.3, removed.1)
   is_place same table key (Err failed) is_key is_same is_value found entries written removed = tt
 
   -- what the map is once the table, lent on to a place, has come back

@@ -14,8 +14,8 @@ use Rattle.std.specs.HashMap.{HashMap, hasher_of, IsUnchanged}
 use Rattle.std.specs.HashMap.Entry.{entry_key, entry_map_ref, entry_value, map_with_value, map_without_entry, MatchEntry}
 use Rattle.std.specs.HashMap.Lent.{HashMembers}
 use Rattle.std.specs.List.Sorted.{IsPermutation}
-use Rattle.std.specs.Map.{remove_entry, set_value}
-use Rattle.std.specs.Prelude.{◌≡◌, Bool, true, ◌∷◌, Result, OnErr, None, IsSome, MatchOption}
+use Rattle.std.specs.Map.{lookup_key, remove_entry, set_value}
+use Rattle.std.specs.Prelude.{◌≡◌, Bool, true, ◌∷◌, Result, OnErr, None, Some, IsSome, MatchOption}
 use Rattle.wasmi_map_specs.specs.Made.{IsMadeOf}
 use Rattle.wasmi_map_specs.specs.Maps.{value_at}
 use Rattle.wasmi_hashed.specs.Entries.{Entries}
@@ -35,12 +35,13 @@ module _ {K V S A H : Type 0} {g : eq.Ghosts K} {h : hash.Ghosts K} {b : builder
   place (Occupied occupied) = table.Occupied occupied.entry
   place (Vacant vacant) = table.Vacant vacant.entry
 
-  -- the place of a key in this map: its key and value, the map as it is, and what that becomes with a
-  -- value written under the key and with the key taken out
+  -- the place of a key in this map: its key, the stored one if it is there, and its value, the map as it
+  -- is, and what that becomes with a value written under the key and with the key taken out
   abbrev pub IsPlaceOf : (K → K → Bool) → Entries K V S → K → Place K V S A H g h b w → Type 0
   IsPlaceOf same map key there = (entry_value there ≡ None → entry_key there ≡ key) × (same key (entry_key there) ≡ true)
       × (entry_value there ≡ value_at same map.entries key)
-      × MatchEntry there (IsSome (value_at same map.entries key)) (value_at same map.entries key ≡ None)
+      × MatchEntry there (IsSome (value_at same map.entries key) × (lookup_key (same key) map.entries ≡ Some (entry_key there)))
+      (value_at same map.entries key ≡ None)
       × ((entry_map_ref there).now.entries ≡ map.entries)
       × ((last : V) → MatchOption (value_at same map.entries key)
       (IsPermutation ((key, last) ∷ map.entries) (map_with_value there last).entries)

@@ -1,7 +1,7 @@
--- What a hashed map is once a `&mut` to a value of it has ended.
+-- What a hashed map is once a `&mut` to a value of it, or to all of them, has ended.
 use Rattle.std.specs.Prelude.{◌≡◌, ℕ, List, Option, String, Vec, vec_items}
 use Rattle.std.specs.Cmp.Lexicographic.{pointwise}
-use Rattle.std.specs.Borrow.{Fml, RattleType, MutBor, LendsSo}
+use Rattle.std.specs.Borrow.{Fml, GName, RattleType, MutBor, Array, LendsSo, follows}
 use Rattle.std.specs.HashMap.Lent.{HashMembers}
 use Rattle.std.specs.Hash as fed
 use Rattle.std.specs.Map.{set_value}
@@ -10,6 +10,7 @@ use Rattle.std.specs.String.{string_bytes, string_eq}
 use Rattle.std.specs.contracts.string.String.{the_row as Text}
 use Rattle.std.specs.contracts.vec.Vec.{the_row as Items}
 use Rattle.wasmi_map_specs.specs.Seen.{is_seen_as}
+use Rattle.wasmi_map_specs.specs.Values.{with_values}
 use Rattle.std.specs.declared.alloc.Allocator as alloc
 use Rattle.std.specs.declared.hash.Hasher as hasher
 use Rattle.std.specs.declared.hash.BuildHasher as builder
@@ -22,6 +23,11 @@ module _ (K V S A H : RattleType) (g : HashMembers K.Denot) (b : builder.Ghosts 
   abbrev pub lends_get : MutBor (Entries K.Denot V.Denot S.Denot) → K.Denot → Option (MutBor V.Denot) → Fml
   lends_get map key value = LendsSo (the_row K V S A H (record { eq = g.eq }) (record { hash_input = g.hash_input }) b w heap) V map value
       (λ new last. new ≡ record map.now { entries = set_value (g.eq key) map.now.entries last }) (λ new. new ≡ map.now)
+
+  -- the values are those written last through the loan of this name, and nothing else changes
+  abbrev pub lends_values : MutBor (Entries K.Denot V.Denot S.Denot) → GName → Fml
+  lends_values map name = follows (the_row K V S A H (record { eq = g.eq }) (record { hash_input = g.hash_input }) b w heap) (Array V 0) map.ghost_name name
+      (λ values. record map.now { entries = with_values map.now.entries values })
 
 module _ (B V S A H : RattleType) (heap_of_text : alloc.Ghosts B.Denot) (b : builder.Ghosts S.Denot H.Denot) (w : hasher.Ghosts H.Denot) (heap : alloc.Ghosts A.Denot) where
   -- the row of a map with `String` keys

@@ -1,6 +1,6 @@
 //! A map whose keys are found by their hash.
-ghost use Rattle.std.specs.Prelude.{◌≡◌, ◌==◌, ◌<◌, ◌^◌, ◌+◌, [], ◌∷◌, length, MatchOption, IfOk, OnOk, OnErr, IsOk, IsOkUnless, IsSome, Some, None, is_some, option_map, option_copied, if◌then◌else◌};
-ghost use Rattle.std.specs.HashMap.IterMut.{iter_mut_rest, values_mut_rest, IterMutCanStep};
+ghost use Rattle.std.specs.Prelude.{◌≡◌, ◌==◌, ◌<◌, ◌^◌, ◌+◌, [], ◌∷◌, length, MatchOption, IfNone, IfOk, OnOk, OnErr, IsOk, IsOkUnless, IsSome, Some, None, is_some, option_map, option_copied, if◌then◌else◌};
+ghost use Rattle.std.specs.HashMap.IterMut.{iter_mut_rest, iter_mut_name, values_mut_rest, values_mut_name, IterMutCanStep};
 ghost use Rattle.std.specs.List.{IsDistinct};
 ghost use Rattle.std.specs.List.Sorted.{IsPermutation};
 ghost use Rattle.std.specs.Map.{keys_of, values_of, lookup_key, remove_entry, set_value};
@@ -8,6 +8,7 @@ ghost use Rattle.std.specs.Map.Calls.{CalledAtPair, TakesPair, CallableOnEachPai
 ghost use Rattle.std.specs.Map.Iter.{ShowsInOrder, GivesInOrder, deref, deref_pair};
 ghost use Rattle.std.specs.Option.{option_copied_mut};
 ghost use Rattle.wasmi_map_specs.specs.Maps.{value_at, ChangesAt};
+ghost use Rattle.wasmi_map_specs.specs.Values.{KeepsKeys};
 
 mod by_slice;
 mod by_text;
@@ -65,7 +66,7 @@ impl<K: Eq + Hash, V, A: Allocator> Map<K, V, FixedState, A> {
 impl<K: Eq + Hash, V, S: BuildHasher, A: Allocator> Map<K, V, S, A> {
     ghost use Rattle.std.specs.Borrow.{sem};
     ghost use Rattle.wasmi_hashed.specs.MapEntry.{map_of, lends_inner};
-    ghost use Rattle.wasmi_hashed.specs.MapLend.{lends_get};
+    ghost use Rattle.wasmi_hashed.specs.MapLend.{lends_get, lends_values};
 
     /// An empty map whose keys are hashed by `state`, which asks `alloc` for memory when an entry comes.
     /// Constant time.
@@ -119,6 +120,8 @@ impl<K: Eq + Hash, V, S: BuildHasher, A: Allocator> Map<K, V, S, A> {
     /// Each key with its value to write to, in unspecified order.
     /// Linear to the end, no allocation.
     pub fn iter_mut(&mut self) -> IterMut<'_, K, V>
+        ensures* writes_back { sem 𝓛 (lends_values K.row V.row S.row A.row S.Hasher.row K.Hash S.BuildHasher S.Hasher.Hasher A.Allocator self.entry (iter_mut_name result)) }
+        ensures keeps { KeepsKeys self.old.entries }
         ensures entries { iter_mut_rest result ≡ self.old.entries }
         ensures ready { IterMutCanStep result }
         ensures distinct { IsDistinct K.eq (keys_of self.old.entries) }
@@ -180,6 +183,8 @@ impl<K: Eq + Hash, V, S: BuildHasher, A: Allocator> Map<K, V, S, A> {
     /// The values to write to, in the order of [`keys`](Map::keys).
     /// Linear to the end, no allocation.
     pub fn values_mut(&mut self) -> ValuesMut<'_, K, V>
+        ensures* writes_back { sem 𝓛 (lends_values K.row V.row S.row A.row S.Hasher.row K.Hash S.BuildHasher S.Hasher.Hasher A.Allocator self.entry (values_mut_name result)) }
+        ensures keeps { KeepsKeys self.old.entries }
         ensures values { values_mut_rest result ≡ values_of self.old.entries }
         ensures len { length (values_mut_rest result) ≡ length self.old.entries }
         ensures bound { length self.old.entries < 2 ^ 63 }
@@ -269,6 +274,7 @@ impl<K: Eq + Hash, V, S: BuildHasher, A: Allocator> Map<K, V, S, A> {
         ensures entries { IfOk result (λ old. MatchOption old
             (IsPermutation ((key, value) ∷ self.old.entries) self.new.entries)
             (λ _. self.new.entries ≡ set_value (K.eq key) self.old.entries value)) }
+        ensures keys_stay { IfOk result (λ old. IsSome old → keys_of self.new.entries ≡ keys_of self.old.entries) }
         ensures len { IfOk result (λ old. length self.new.entries
             ≡ length self.old.entries + (if is_some old then 0 else 1)) }
         ensures hasher { self.new.hasher ≡ self.old.hasher }
@@ -291,6 +297,7 @@ impl<K: Eq + Hash, V, S: BuildHasher, A: Allocator> Map<K, V, S, A> {
         ensures old { result ≡ value_at K.eq self.old.entries key.now }
         ensures changes { ChangesAt K.eq self.old.entries key.now None self.new.entries }
         ensures entries { IsPermutation (remove_entry (K.eq key.now) self.old.entries) self.new.entries }
+        ensures unchanged { IfNone result (self.new ≡ self.old) }
         ensures len { length self.new.entries + (if is_some result then 1 else 0) ≡ length self.old.entries }
         ensures hasher { self.new.hasher ≡ self.old.hasher }
     {
@@ -305,6 +312,7 @@ impl<K: Eq + Hash, V, S: BuildHasher, A: Allocator> Map<K, V, S, A> {
         ensures value { option_map (λ pair. pair.1) result ≡ value_at K.eq self.old.entries key.now }
         ensures changes { ChangesAt K.eq self.old.entries key.now None self.new.entries }
         ensures entries { IsPermutation (remove_entry (K.eq key.now) self.old.entries) self.new.entries }
+        ensures unchanged { IfNone result (self.new ≡ self.old) }
         ensures len { length self.new.entries + (if is_some result then 1 else 0) ≡ length self.old.entries }
         ensures hasher { self.new.hasher ≡ self.old.hasher }
     {
@@ -359,13 +367,20 @@ impl<'a, K: Eq + Hash, V, S: BuildHasher, A: Allocator> IntoIterator for &'a Map
 
 /// Each key with its value to write to, as [`iter_mut`](Map::iter_mut).
 impl<'a, K: Eq + Hash, V, S: BuildHasher, A: Allocator> IntoIterator for &'a mut Map<K, V, S, A> {
+    ghost use Rattle.std.specs.Borrow.{sem};
+    ghost use Rattle.wasmi_hashed.specs.MapLend.{lends_values};
+
     type Item = (&'a K, &'a mut V);
 
     type IntoIter = IterMut<'a, K, V>;
 
     ghost into_iter_gives = { λ map it. (iter_mut_rest it ≡ map.now.entries) × IterMutCanStep it × IsDistinct K.eq (keys_of map.now.entries) × (length map.now.entries < 2 ^ 63) };
 
-    fn into_iter(self) -> IterMut<'a, K, V> {
+    fn into_iter(self) -> IterMut<'a, K, V>
+        ensures* writes_back { sem 𝓛 (lends_values K.row V.row S.row A.row S.Hasher.row K.Hash S.BuildHasher S.Hasher.Hasher A.Allocator self.entry (iter_mut_name result)) }
+        ensures keeps { KeepsKeys self.old.entries }
+        ensures into_iter_gives { (iter_mut_rest result ≡ self.old.entries) × IterMutCanStep result × IsDistinct K.eq (keys_of self.old.entries) × (length self.old.entries < 2 ^ 63) }
+    {
         self.iter_mut()
     }
 }

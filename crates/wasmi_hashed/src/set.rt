@@ -1,6 +1,6 @@
 //! A set whose elements are found by their hash.
-ghost use Rattle.std.specs.Prelude.{◌≡◌, ◌==◌, ◌<◌, ◌^◌, ◌+◌, [], ◌∷◌, true, false, not, length, MatchOption, find, IfOk, OnOk, OnErr, IsOk, IsOkUnless, IsTrue, is_some, option_copied, if◌then◌else◌};
-ghost use Rattle.std.specs.Bool.{MatchBool};
+ghost use Rattle.std.specs.Prelude.{◌≡◌, ◌==◌, ◌<◌, ◌^◌, ◌+◌, [], ◌∷◌, true, false, not, length, MatchOption, find, IfNone, IfOk, OnOk, OnErr, IsOk, IsOkUnless, IsTrue, is_some, option_copied, if◌then◌else◌};
+ghost use Rattle.std.specs.Bool.{MatchBool, OnFalse};
 ghost use Rattle.std.specs.Fn.{CalledAt};
 ghost use Rattle.std.specs.List.{IsDistinct};
 ghost use Rattle.std.specs.List.Retain.{IsFiltered};
@@ -170,6 +170,7 @@ impl<T: Eq + Hash, S: BuildHasher, A: Allocator> Set<T, S, A> {
         ensures elements { IfOk result (λ added. MatchBool added
             (IsPermutation (value ∷ self.old.elements) self.new.elements)
             (self.new.elements ≡ self.old.elements)) }
+        ensures unchanged { IfOk result (λ added. OnFalse added (self.new ≡ self.old)) }
         ensures len { IfOk result (λ added. length self.new.elements
             ≡ length self.old.elements + (if added then 1 else 0)) }
         ensures hasher { self.new.hasher ≡ self.old.hasher }
@@ -191,6 +192,7 @@ impl<T: Eq + Hash, S: BuildHasher, A: Allocator> Set<T, S, A> {
         ensures there { result ≡ is_member T.eq self.old.elements value.now }
         ensures changes { ChangesAt T.eq self.old.elements value.now false self.new.elements }
         ensures elements { IsPermutation (remove_key (T.eq value.now) self.old.elements) self.new.elements }
+        ensures unchanged { OnFalse result (self.new ≡ self.old) }
         ensures len { length self.new.elements + (if result then 1 else 0) ≡ length self.old.elements }
         ensures hasher { self.new.hasher ≡ self.old.hasher }
     {
@@ -205,6 +207,7 @@ impl<T: Eq + Hash, S: BuildHasher, A: Allocator> Set<T, S, A> {
         ensures there { is_some result ≡ is_member T.eq self.old.elements value.now }
         ensures changes { ChangesAt T.eq self.old.elements value.now false self.new.elements }
         ensures elements { IsPermutation (remove_key (T.eq value.now) self.old.elements) self.new.elements }
+        ensures unchanged { IfNone result (self.new ≡ self.old) }
         ensures len { length self.new.elements + (if is_some result then 1 else 0) ≡ length self.old.elements }
         ensures hasher { self.new.hasher ≡ self.old.hasher }
     {

@@ -1,2 +1,3 @@
 pub mod Handed
 pub mod Made
+pub mod Values

@@ -3,3 +3,4 @@ pub mod Maps
 pub mod Same
 pub mod Seen
 pub mod Sets
+pub mod Values

@@ -11,12 +11,12 @@ use Rattle.std.specs.declared.cmp.Ordering.{Ordering}
 use Rattle.std.specs.declared.cmp.Ordering.TheVariants.{Equal}
 use Rattle.std.specs.BTreeMap.{BTreeMap, insert_entry, IsUnchanged}
 use Rattle.std.specs.BTreeMap.Entry.{entry_map_ref, entry_key, entry_value, map_with_value, map_without_entry, MatchEntry}
-use Rattle.std.specs.Map.{remove_entry}
+use Rattle.std.specs.Map.{lookup_key, remove_entry}
 use Rattle.std.specs.Ordering.{eq_by_cmp}
 use Rattle.wasmi_map_specs.specs.Made.{IsMadeOf}
 use Rattle.wasmi_map_specs.specs.Maps.{value_at}
 use Rattle.std.specs.BTreeMap.Lent.{OrdMembers}
-use Rattle.std.specs.Prelude.{◌≡◌, List, Result, None, IsSome}
+use Rattle.std.specs.Prelude.{◌≡◌, List, Result, None, Some, IsSome}
 use Rattle.std.specs.Borrow.{Fml, RattleType, MutBor, RestsIfErr, Lends, follows_if, follows_so, name_if_ok}
 use mathlib.Core.Option.{none}
 use Rattle.std.specs.contracts.collections.BTreeMap.{the_row as InnerRow}
@@ -32,12 +32,14 @@ module _ {Key Value Heap : Type 0} {equal : eq.Ghosts Key} {total : ord.Ghosts K
   place (Occupied occupied) = tree.Occupied occupied.entry
   place (Vacant vacant) = tree.Vacant vacant.entry
 
-  -- the place of a key in a map of these entries: its key and value, the entries as they are, and what
-  -- they become with a value written under the key and with the key taken out
+  -- the place of a key in a map of these entries: its key, the stored one if it is there, and its value,
+  -- the entries as they are, and what they become with a value written under the key and with the key taken
+  -- out
   abbrev pub IsPlaceOf : (Key → Key → Ordering) → List (Key × Value) → Key → Place Key Value Heap total equal order → Type 0
   IsPlaceOf cmp entries key there = (entry_value there ≡ None → entry_key there ≡ key) × (cmp key (entry_key there) ≡ Equal)
       × (entry_value there ≡ value_at (eq_by_cmp cmp) entries key)
-      × MatchEntry there (IsSome (value_at (eq_by_cmp cmp) entries key)) (value_at (eq_by_cmp cmp) entries key ≡ None)
+      × MatchEntry there (IsSome (value_at (eq_by_cmp cmp) entries key) × (lookup_key (eq_by_cmp cmp key) entries ≡ Some (entry_key there)))
+      (value_at (eq_by_cmp cmp) entries key ≡ None)
       × ((entry_map_ref there).now.entries ≡ entries)
       × ((last : Value) → (map_with_value there last).entries ≡ insert_entry cmp entries key last)
       × ((map_without_entry there).entries ≡ remove_entry (eq_by_cmp cmp key) entries)

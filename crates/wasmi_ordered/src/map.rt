@@ -1,5 +1,5 @@
 //! A map that keeps its keys in order.
-ghost use Rattle.std.specs.Prelude.{◌≡◌, ◌==◌, ◌<◌, ◌^◌, ◌+◌, [], length, IfOk, OnOk, OnErr, IsOk, IsOkUnless, IsSome, Some, None, is_some, option_map, option_copied, if◌then◌else◌};
+ghost use Rattle.std.specs.Prelude.{◌≡◌, ◌==◌, ◌<◌, ◌^◌, ◌+◌, [], length, IfNone, IfOk, OnOk, OnErr, IsOk, IsOkUnless, IsSome, Some, None, is_some, option_map, option_copied, if◌then◌else◌};
 ghost use Rattle.std.specs.BTreeMap.{insert_entry};
 ghost use Rattle.std.specs.BTreeMap.IterMut.{iter_mut_rest, values_mut_rest, IterMutCanStep};
 ghost use Rattle.std.specs.List.Sorted.{IsStrictlySortedBy};
@@ -247,6 +247,7 @@ impl<K: Hash + Ord, V, A: Allocator> Map<K, V, A> {
         ensures value { OnOk result (value_at (eq_by_cmp K.cmp) self.new key ≡ Some value) }
         ensures changes { OnOk result (ChangesAt (eq_by_cmp K.cmp) self.old key (Some value) self.new) }
         ensures entries { OnOk result (self.new ≡ insert_entry K.cmp self.old key value) }
+        ensures keys_stay { IfOk result (λ old. IsSome old → keys_of self.new ≡ keys_of self.old) }
         ensures len { IfOk result (λ old. length self.new
             ≡ length self.old + (if is_some old then 0 else 1)) }
         ensures absent { OnErr result (value_at (eq_by_cmp K.cmp) self.old key ≡ None) }
@@ -268,6 +269,7 @@ impl<K: Hash + Ord, V, A: Allocator> Map<K, V, A> {
         ensures old { result ≡ value_at (eq_by_cmp K.cmp) self.old key.now }
         ensures changes { ChangesAt (eq_by_cmp K.cmp) self.old key.now None self.new }
         ensures entries { self.new ≡ remove_entry (eq_by_cmp K.cmp key.now) self.old }
+        ensures unchanged { IfNone result (self.new ≡ self.old) }
         ensures len { length self.new + (if is_some result then 1 else 0) ≡ length self.old }
     {
         self.inner.remove(key)
@@ -283,6 +285,7 @@ impl<K: Hash + Ord, V, A: Allocator> Map<K, V, A> {
             ≡ value_at (eq_by_cmp K.cmp) self.old key.now }
         ensures changes { ChangesAt (eq_by_cmp K.cmp) self.old key.now None self.new }
         ensures entries { self.new ≡ remove_entry (eq_by_cmp K.cmp key.now) self.old }
+        ensures unchanged { IfNone result (self.new ≡ self.old) }
         ensures len { length self.new + (if is_some result then 1 else 0) ≡ length self.old }
     {
         self.inner.remove_entry(key)

@@ -1,6 +1,7 @@
 //! A set that keeps its elements in order.
-ghost use Rattle.std.specs.Prelude.{◌≡◌, ◌==◌, ◌<◌, ◌^◌, ◌+◌, [], true, false, not, length, find, IfOk, OnOk, OnErr, IsOk, IsOkUnless, IsTrue, is_some, option_copied, if◌then◌else◌};
+ghost use Rattle.std.specs.Prelude.{◌≡◌, ◌==◌, ◌<◌, ◌^◌, ◌+◌, [], true, false, not, length, find, IfNone, IfOk, OnOk, OnErr, IsOk, IsOkUnless, IsTrue, is_some, option_copied, if◌then◌else◌};
 ghost use Rattle.std.specs.BTreeSet.{insert_key, replace_key};
+ghost use Rattle.std.specs.Bool.{OnFalse};
 ghost use Rattle.std.specs.Fn.{CalledAt};
 ghost use Rattle.std.specs.List.Retain.{IsFiltered};
 ghost use Rattle.std.specs.List.Sorted.{IsStrictlySortedBy};
@@ -148,6 +149,7 @@ impl<T: Hash + Ord, A: Allocator> Set<T, A> {
         ensures element { OnOk result (is_member (eq_by_cmp T.cmp) self.new value ≡ true) }
         ensures changes { OnOk result (ChangesAt (eq_by_cmp T.cmp) self.old value true self.new) }
         ensures elements { OnOk result (self.new ≡ insert_key T.cmp self.old value) }
+        ensures unchanged { IfOk result (λ added. OnFalse added (self.new ≡ self.old)) }
         ensures len { IfOk result (λ added. length self.new
             ≡ length self.old + (if added then 1 else 0)) }
         ensures absent { OnErr result (is_member (eq_by_cmp T.cmp) self.old value ≡ false) }
@@ -168,6 +170,7 @@ impl<T: Hash + Ord, A: Allocator> Set<T, A> {
         ensures there { result ≡ is_member (eq_by_cmp T.cmp) self.old value.now }
         ensures changes { ChangesAt (eq_by_cmp T.cmp) self.old value.now false self.new }
         ensures elements { self.new ≡ remove_key (eq_by_cmp T.cmp value.now) self.old }
+        ensures unchanged { OnFalse result (self.new ≡ self.old) }
         ensures len { length self.new + (if result then 1 else 0) ≡ length self.old }
     {
         self.inner.remove(value)
@@ -181,6 +184,7 @@ impl<T: Hash + Ord, A: Allocator> Set<T, A> {
         ensures there { is_some result ≡ is_member (eq_by_cmp T.cmp) self.old value.now }
         ensures changes { ChangesAt (eq_by_cmp T.cmp) self.old value.now false self.new }
         ensures elements { self.new ≡ remove_key (eq_by_cmp T.cmp value.now) self.old }
+        ensures unchanged { IfNone result (self.new ≡ self.old) }
         ensures len { length self.new + (if is_some result then 1 else 0) ≡ length self.old }
     {
         self.inner.take(value)

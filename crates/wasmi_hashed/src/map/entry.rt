@@ -5,7 +5,7 @@ ghost use Rattle.std.specs.Fn.{FnOnceReturnsAt};
 ghost use Rattle.std.specs.HashMap.{hasher_of, IsUnchanged};
 ghost use Rattle.std.specs.HashMap.Entry.{entry_follows_ok, entry_key, entry_map_ref, entry_value, map_with_value, map_without_entry, MatchEntry};
 ghost use Rattle.std.specs.List.Sorted.{IsPermutation};
-ghost use Rattle.std.specs.Map.{remove_entry, set_value};
+ghost use Rattle.std.specs.Map.{lookup_key, remove_entry, set_value};
 ghost use Rattle.std.specs.Map.Calls.{ModifiesValue};
 ghost use Rattle.std.specs.Option.{UnwrapsOrElse};
 ghost use Rattle.wasmi_map_specs.specs.Maps.{value_at};
@@ -53,8 +53,8 @@ impl<K: Eq + Hash, V, S: BuildHasher, A: Allocator> Map<K, V, S, A> {
     /// Amortised expected constant time; asks for memory only where the key is new.
     ///
     /// Fails with `OutOfSystemMemory` if the key isn't there and there is no memory for it, and then the
-    /// map is as before, and the key is dropped. What is done with the place needs no search and no
-    /// memory.
+    /// map has the entries that it had, and the key is dropped. What is done with the place needs no
+    /// search and no memory.
     #[inline]
     pub fn entry(&mut self, key: K) -> Result<Entry<'_, K, V, S, A>, ArenaError>
     where
@@ -66,7 +66,9 @@ impl<K: Eq + Hash, V, S: BuildHasher, A: Allocator> Map<K, V, S, A> {
         ensures value { IfOk result (λ entry. entry_value (place entry)
             ≡ value_at K.eq self.old.entries key) }
         ensures found { IfOk result (λ entry. MatchEntry (place entry)
-            (IsSome (value_at K.eq self.old.entries key)) (value_at K.eq self.old.entries key ≡ None)) }
+            (IsSome (value_at K.eq self.old.entries key)
+            × (lookup_key (K.eq key) self.old.entries ≡ Some (entry_key (place entry))))
+            (value_at K.eq self.old.entries key ≡ None)) }
         ensures entries { IfOk result (λ entry. (entry_map_ref (place entry)).now.entries ≡ self.old.entries) }
         ensures written { IfOk result (λ entry. (last : V) → MatchOption (value_at K.eq self.old.entries key)
             (IsPermutation ((key, last) ∷ self.old.entries) (map_with_value (place entry) last).entries)

@@ -12,8 +12,8 @@ use std::hash::{BuildHasher, Hash};
 use wasmi_arena::ArenaError;
 
 impl<K: Eq + Hash, V, S: BuildHasher, A: Allocator> Map<K, V, S, A> {
-    /// A clone of each key and value, in a map over a clone of the allocator, with a clone of the state.
-    /// Linear.
+    /// A clone of each key and value, in a map over a clone of the allocator, with a clone of the state
+    /// that hashes the keys. Linear. The contract speaks of the entries alone, not of that state.
     ///
     /// Fails with `OutOfSystemMemory` if there is no memory, the clone of a key, a value, the state or
     /// the allocator fails, or a key's clone doesn't equal it or has another hash.

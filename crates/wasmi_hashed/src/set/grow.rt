@@ -12,8 +12,8 @@ use std::hash::{BuildHasher, Hash};
 use wasmi_arena::ArenaError;
 
 impl<T: Eq + Hash, S: BuildHasher, A: Allocator> Set<T, S, A> {
-    /// A clone of each element, in a set over a clone of the allocator, with a clone of the state.
-    /// Linear.
+    /// A clone of each element, in a set over a clone of the allocator, with a clone of the state that
+    /// hashes the elements. Linear. The contract speaks of the elements alone, not of that state.
     ///
     /// Fails with `OutOfSystemMemory` if there is no memory, the clone of an element, the state or the
     /// allocator fails, or an element's clone doesn't equal it or has another hash.

@@ -4,7 +4,7 @@ ghost use Rattle.std.specs.Borrow.{Bor, MutBor, sem};
 ghost use Rattle.std.specs.Fn.{FnOnceReturnsAt};
 ghost use Rattle.std.specs.BTreeMap.{insert_entry, IsUnchanged};
 ghost use Rattle.std.specs.BTreeMap.Entry.{entry_follows_ok, entry_key, entry_map_ref, entry_value, map_with_value, map_without_entry, MatchEntry};
-ghost use Rattle.std.specs.Map.{remove_entry};
+ghost use Rattle.std.specs.Map.{lookup_key, remove_entry};
 ghost use Rattle.std.specs.Map.Calls.{ModifiesValue};
 ghost use Rattle.std.specs.Option.{UnwrapsOrElse};
 ghost use Rattle.std.specs.Ordering.{eq_by_cmp};
@@ -64,7 +64,9 @@ impl<K: Hash + Ord, V, A: Allocator> Map<K, V, A> {
         ensures value { IfOk result (λ entry. entry_value (place entry)
             ≡ value_at (eq_by_cmp K.cmp) self.old key) }
         ensures found { IfOk result (λ entry. MatchEntry (place entry)
-            (IsSome (value_at (eq_by_cmp K.cmp) self.old key)) (value_at (eq_by_cmp K.cmp) self.old key ≡ None)) }
+            (IsSome (value_at (eq_by_cmp K.cmp) self.old key)
+            × (lookup_key (eq_by_cmp K.cmp key) self.old ≡ Some (entry_key (place entry))))
+            (value_at (eq_by_cmp K.cmp) self.old key ≡ None)) }
         ensures entries { IfOk result (λ entry. (entry_map_ref (place entry)).now.entries ≡ self.old) }
         ensures written { IfOk result (λ entry. (last : V) → (map_with_value (place entry) last).entries
             ≡ insert_entry K.cmp self.old key last) }

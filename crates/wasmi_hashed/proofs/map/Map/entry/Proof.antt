@@ -1,11 +1,11 @@
 -- `entry` lends the inner map, and hands on what the inner map lends. Assumes `Logic`.
-use Rattle.std.proofs.Common.{◌≡◌, List, [], ◌∷◌, refl, sym, ap, ◌∙◌, subst, MutBor, None}
+use Rattle.std.proofs.Common.{◌≡◌, List, [], ◌∷◌, refl, sym, ap, ◌∙◌, subst, MutBor, None, Some}
 use Rattle.std.proofs.raw_atomic.Walks.{proved_at}
 use Rattle.std.specs.Prelude.{IfOk, IsSome, MatchOption, OnErr, IsOkUnless, true}
 use Rattle.std.specs.HashMap.{hasher_of}
 use Rattle.std.specs.HashMap.Entry.{entry_key, entry_map_ref, entry_value, map_with_value, map_without_entry, MatchEntry}
 use Rattle.std.specs.List.Sorted.{IsPermutation}
-use Rattle.std.specs.Map.{remove_entry, set_value}
+use Rattle.std.specs.Map.{lookup_key, remove_entry, set_value}
 use Rattle.std.specs.contracts.collections.HashMap.{the_row as InnerRow}
 use Rattle.std.specs.contracts.collections.hash_map.Entry as PlaceType
 use Rattle.std.specs.contracts.alloc.AllocFailed as FailedType
@@ -156,7 +156,7 @@ entry_spec 𝓤 𝓛 𝓜 𝓡 wired X Y S Z N LX LY LS LZ LN e de p dp h dh s d
     use0 𝓛 (raw (fact 𝓤 (IfOk res (λ entry. (last : Y.Denot) → hasher_of (map_with_value (place entry) last) ≡ map.now.hasher)))) (fact_i 𝓤 _ (emp 𝓤) (each_ok res is (λ entry told. told.6))) $
     use0 𝓛 (raw (fact 𝓤 (IfOk res (λ entry. (last : Y.Denot) → MatchOption (value_at p.eq map.now.entries key) (IsPermutation ((key, last) ∷ map.now.entries) (map_with_value (place entry) last).entries) (λ _. (map_with_value (place entry) last).entries ≡ set_value (p.eq key) map.now.entries last))))) (fact_i 𝓤 _ (emp 𝓤) (each_ok res is (λ entry told. told.5))) $
     use0 𝓛 (raw (fact 𝓤 (IfOk res (λ entry. (entry_map_ref (place entry)).now.entries ≡ map.now.entries)))) (fact_i 𝓤 _ (emp 𝓤) (each_ok res is (λ entry told. told.4))) $
-    use0 𝓛 (raw (fact 𝓤 (IfOk res (λ entry. MatchEntry (place entry) (IsSome (value_at p.eq map.now.entries key)) (value_at p.eq map.now.entries key ≡ None))))) (fact_i 𝓤 _ (emp 𝓤) (each_ok res is (λ entry told. told.3))) $
+    use0 𝓛 (raw (fact 𝓤 (IfOk res (λ entry. MatchEntry (place entry) (IsSome (value_at p.eq map.now.entries key) × (lookup_key (p.eq key) map.now.entries ≡ Some (entry_key (place entry)))) (value_at p.eq map.now.entries key ≡ None))))) (fact_i 𝓤 _ (emp 𝓤) (each_ok res is (λ entry told. told.3))) $
     use0 𝓛 (raw (fact 𝓤 (IfOk res (λ entry. entry_value (place entry) ≡ value_at p.eq map.now.entries key)))) (fact_i 𝓤 _ (emp 𝓤) (each_ok res is (λ entry told. told.2))) $
     use0 𝓛 (raw (fact 𝓤 (IfOk res (λ entry. p.eq key (entry_key (place entry)) ≡ true)))) (fact_i 𝓤 _ (emp 𝓤) (each_ok res is (λ entry told. told.1))) $
     use0 𝓛 (raw (fact 𝓤 (IfOk res (λ entry. entry_value (place entry) ≡ None → entry_key (place entry) ≡ key)))) (fact_i 𝓤 _ (emp 𝓤) (each_ok res is (λ entry told. told.0))) $

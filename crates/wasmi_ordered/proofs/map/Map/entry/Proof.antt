@@ -1,11 +1,11 @@
 -- `entry` lends the inner map, and hands on what the inner map lends. Assumes `Logic`.
-use Rattle.std.proofs.Common.{◌≡◌, List, [], ◌∷◌, refl, sym, ap, ◌∙◌, subst, MutBor, None}
+use Rattle.std.proofs.Common.{◌≡◌, List, [], ◌∷◌, refl, sym, ap, ◌∙◌, subst, MutBor, None, Some}
 use Rattle.std.proofs.raw_atomic.Walks.{proved_at}
 use Rattle.std.specs.Prelude.{IfOk, IsSome, OnErr, IsOkUnless}
 use Rattle.std.specs.Ordering.{eq_by_cmp}
 use Rattle.std.specs.BTreeMap.{insert_entry}
 use Rattle.std.specs.BTreeMap.Entry.{entry_key, entry_map_ref, entry_value, map_with_value, map_without_entry, MatchEntry}
-use Rattle.std.specs.Map.{remove_entry}
+use Rattle.std.specs.Map.{lookup_key, remove_entry}
 use Rattle.std.specs.declared.cmp.Ordering.TheVariants.{Equal}
 use Rattle.std.specs.contracts.collections.BTreeMap.{the_row as InnerRow}
 use Rattle.std.specs.contracts.collections.btree_map.Entry as PlaceType
@@ -153,7 +153,7 @@ entry_spec 𝓤 𝓛 𝓜 𝓡 wired X Y Z LX LY LZ h dh e de p dp o dt q dq g d
     use0 𝓛 (raw (fact 𝓤 (IfOk res (λ entry. (map_without_entry (place entry)).entries ≡ remove_entry (eq_by_cmp o.cmp key) map.now)))) (fact_i 𝓤 _ (emp 𝓤) (each_ok res is (λ entry told. told.6))) $
     use0 𝓛 (raw (fact 𝓤 (IfOk res (λ entry. (last : Y.Denot) → (map_with_value (place entry) last).entries ≡ insert_entry o.cmp map.now key last)))) (fact_i 𝓤 _ (emp 𝓤) (each_ok res is (λ entry told. told.5))) $
     use0 𝓛 (raw (fact 𝓤 (IfOk res (λ entry. (entry_map_ref (place entry)).now.entries ≡ map.now)))) (fact_i 𝓤 _ (emp 𝓤) (each_ok res is (λ entry told. told.4))) $
-    use0 𝓛 (raw (fact 𝓤 (IfOk res (λ entry. MatchEntry (place entry) (IsSome (value_at (eq_by_cmp o.cmp) map.now key)) (value_at (eq_by_cmp o.cmp) map.now key ≡ None))))) (fact_i 𝓤 _ (emp 𝓤) (each_ok res is (λ entry told. told.3))) $
+    use0 𝓛 (raw (fact 𝓤 (IfOk res (λ entry. MatchEntry (place entry) (IsSome (value_at (eq_by_cmp o.cmp) map.now key) × (lookup_key (eq_by_cmp o.cmp key) map.now ≡ Some (entry_key (place entry)))) (value_at (eq_by_cmp o.cmp) map.now key ≡ None))))) (fact_i 𝓤 _ (emp 𝓤) (each_ok res is (λ entry told. told.3))) $
     use0 𝓛 (raw (fact 𝓤 (IfOk res (λ entry. entry_value (place entry) ≡ value_at (eq_by_cmp o.cmp) map.now key)))) (fact_i 𝓤 _ (emp 𝓤) (each_ok res is (λ entry told. told.2))) $
     use0 𝓛 (raw (fact 𝓤 (IfOk res (λ entry. o.cmp key (entry_key (place entry)) ≡ Equal)))) (fact_i 𝓤 _ (emp 𝓤) (each_ok res is (λ entry told. told.1))) $
     use0 𝓛 (raw (fact 𝓤 (IfOk res (λ entry. entry_value (place entry) ≡ None → entry_key (place entry) ≡ key)))) (fact_i 𝓤 _ (emp 𝓤) (each_ok res is (λ entry told. told.0))) $
