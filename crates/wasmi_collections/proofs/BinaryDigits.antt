@@ -23,6 +23,36 @@ digits_up_to_le zero n = omega arith
 digits_up_to_le (suc most) zero = omega arith
 digits_up_to_le (suc most) (suc n) = let half = digits_up_to_le most (suc n / 2) in omega arith
 
+-- with more digits to come a number has no fewer
+digits_up_to_more : (most n : ℕ) → digits_up_to most n ≤ digits_up_to (suc most) n
+digits_up_to_more zero n = omega arith
+digits_up_to_more (suc most) zero = omega arith
+digits_up_to_more (suc most) (suc n) = let half = digits_up_to_more most (suc n / 2) in omega arith
+
+digits_up_to_above : (most n : ℕ) → n < 2 ^ most → n < 2 ^ digits_up_to most n
+digits_up_to_above zero n h = h
+digits_up_to_above (suc most) zero h = omega arith
+digits_up_to_above (suc most) (suc n) h =
+    let half = digits_up_to_above most (suc n / 2) (omega (arith, pow-succ' 2 most)) in
+    omega (arith, half, pow-succ' 2 (digits_up_to most (suc n / 2)))
+
+digits_up_to_least : (most n d : ℕ) → n < 2 ^ d → digits_up_to most n ≤ d
+digits_up_to_least zero n d h = omega arith
+digits_up_to_least (suc most) zero d h = omega arith
+digits_up_to_least (suc most) (suc n) zero h = absurd (omega arith)
+digits_up_to_least (suc most) (suc n) (suc d) h =
+    let half = digits_up_to_least most (suc n / 2) d (omega (arith, pow-succ' 2 d)) in omega (arith, half)
+
+-- a number is below the power of two with so many digits
+pub digits_above : (n : ℕ) → n < 2 ^ 64 → n < 2 ^ digits n
+unfolding digits
+digits_above n h = digits_up_to_above 64 n h
+
+-- and below none that is less
+pub digits_least : (n d : ℕ) → n < 2 ^ d → digits n ≤ d
+unfolding digits
+digits_least n d h = digits_up_to_least 64 n d h
+
 pub digits_le : (n : ℕ) → digits n ≤ 64
 unfolding digits
 digits_le n = digits_up_to_le 64 n
@@ -36,3 +66,12 @@ digits_half m (suc n) some small half =
     let first = digits_up_to_mono 64 m (suc n / 2) half in
     let same = digits_up_to-suc 63 (suc n / 2) below in
     omega arith
+
+-- and a number at most one above the double has at most one digit more
+pub digits_double : (m n : ℕ) → n ≤ m + m + 1 → digits n ≤ digits m + 1
+unfolding digits
+digits_double m zero h = omega arith
+digits_double m (suc n) h =
+    let halves = digits_up_to_mono 63 (suc n / 2) m (omega (arith, h)) in
+    let more = digits_up_to_more 63 m in
+    omega (arith, halves, more)

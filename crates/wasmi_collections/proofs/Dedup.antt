@@ -43,6 +43,9 @@ module _ {T : Type 0} {eq : T → T → Bool} (laws : IsEquivalence eq) where
   pub position-congr : (v w : T) → eq v w ≡ true → (xs : List T) → position_from (eq v) 0 xs ≡ position_from (eq w) 0 xs
   position-congr v w same xs = λ i. position_from (λ x. laws.congr v w x same i) 0 xs
 
+  pub position-alike : (v w : T) → eq v w ≡ true → (xs : List T) → position (eq v) xs ≡ position (eq w) xs
+  position-alike v w same xs = position_from-zero (eq v) xs ∙ (position-congr v w same xs ∙ sym (position_from-zero (eq w) xs))
+
   pub all_differ : (v : T) (i : ℕ) (xs : List T) → position_from (eq v) i xs ≡ None → AllByRecursion (λ x. eq v x ≡ false) xs
   all_differ v i [] none = tt
   all_differ v i (x ∷ xs) none = next (eq v x) refl none (all_differ v (i + 1) xs)

@@ -1,18 +1,20 @@
 -- An index of texts finds each by its bytes.
-use Rattle.std.proofs.Common.{◌≡◌, ℕ, ◌+◌, Bool, true, false, cond, List, [], ◌∷◌, ◌++◌, length, map, slice_set, Option, Some, None, option_map, refl, sym, ap, ◌∙◌, subst, string_bytes, inl, inr}
+use Rattle.std.proofs.Common.{◌≡◌, ℕ, ◌+◌, ◌<◌, ◌≤◌, Bool, true, false, cond, List, [], ◌∷◌, ◌++◌, length, map, slice_set, Option, Some, None, option_map, refl, sym, ap, ◌∙◌, subst, string_bytes, inl, inr, Result, Ok, Err, IfOk, OnErr, is_some, true≢false, arith}
 use Rattle.std.specs.List.{AllByRecursion, IsDistinct, position, position_from}
 use Rattle.std.specs.Str.{bytes_eq}
 use Rattle.std.specs.String.{string_eq}
 use Rattle.std.specs.declared.string.String.{String}
 use Rattle.std.proofs.lemmas.Iterator.Adapters.{position_from-zero}
-use Rattle.std.proofs.lemmas.List.{map-append, map-set}
+use Rattle.std.proofs.lemmas.List.{length-map, map-append, map-set}
 use Rattle.std.proofs.lemmas.Option.{none-some}
 use Rattle.std.proofs.lemmas.Slice.Eq.{bytes_eq-Decides}
-use Rattle.wasmi_arena.specs.Keys.{Keys}
+use Rattle.std.proofs.lemmas.List.Quantifiers.{position-Some}
+use Rattle.wasmi_arena.specs.Keys.{Keys, KeyLaw}
 use Rattle.wasmi_map_specs.specs.Seen.{value_seen_as}
 use Rattle.wasmi_collections.specs.Dedup.{DedupState, IsIndex, AllocatesValue, ReplacesValue}
 use Rattle.wasmi_collections.specs.Interner.{symbol_of, AreDistinctTexts}
 use Rattle.wasmi_collections.proofs.Dedup.{position-by_view}
+use Rattle.wasmi_collections.proofs.DedupRuns.{position-stays, some_is}
 
 -- a string with this text
 abbrev HasText : Type 0 → List ℕ → Type 0
@@ -59,6 +61,19 @@ module _ {K Z : Type 0} (keys : Keys K) (handed : List (String Z)) (index : List
           of_text text (value_with text 0 handed p (sym (position_from-zero (bytes_eq text) (map string_bytes handed)) ∙ at))
       next None found None at = found ∙ sym (ap (option_map keys.key) at)
 
+-- a text that has a key has the place of the key's number
+pub place_of_text : {K Z : Type 0} (keys : Keys K) (law : KeyLaw keys) (handed : List (String Z)) (text : List ℕ) (key : K) → length handed ≤ keys.count
+    → option_map keys.key (symbol_of (map string_bytes handed) text) ≡ Some key → (keys.number key < length handed) × (symbol_of (map string_bytes handed) text ≡ Some (keys.number key))
+place_of_text keys law handed text key few is = next (symbol_of (map string_bytes handed) text) refl is
+  where
+    next : (o : Option ℕ) → symbol_of (map string_bytes handed) text ≡ o → option_map keys.key o ≡ Some key → (keys.number key < length handed) × (o ≡ Some (keys.number key))
+    next None at is = absurd (true≢false (sym (ap is_some is)))
+    next (Some p) at is =
+        let low = (position-Some (bytes_eq text) (map string_bytes handed) p text at).0 in
+        let counted = length-map handed string_bytes in
+        let same : keys.number key ≡ p = sym (ap keys.number (some_is (keys.key p) key is)) ∙ law.numbered p (omega (arith, low, few, counted)) in
+        (omega (arith, low, counted, same), ap Some (sym same))
+
 -- ---- the texts of both lists
 
 module _ {Z : Type 0} where
@@ -80,6 +95,15 @@ module _ {Z : Type 0} where
   not_found handed value p absent is = none-some p (sym absent ∙ (sym (position-by_view bytes_eq string_bytes value handed) ∙ is))
 
   module _ {K : Type 0} (keys : Keys K) (old new : DedupState (String Z)) where
+    -- a text that has a key keeps it, whether a value is taken or refused
+    pub texts_stay : {E : Type 0} (value : String Z) (result : Result K E) → IfOk result (λ key. AllocatesValue keys string_eq same_bytes old value key new) → OnErr result (new ≡ old)
+        → (other : List ℕ) (p : ℕ) → symbol_of (map string_bytes old.handed) other ≡ Some p → symbol_of (map string_bytes new.handed) other ≡ Some p
+    texts_stay value (Ok key) allocates refused other p is = elim allocates [
+      | inl found ↦ ap (λ (s : DedupState (String Z)). symbol_of (map string_bytes s.handed) other) found.3 ∙ is
+      | inr added ↦ ap (λ texts. symbol_of texts other) (ap (map string_bytes) added.handed_are ∙ map-append string_bytes old.handed (value ∷ [])) ∙ position-stays (bytes_eq other) (map string_bytes old.handed) (string_bytes value ∷ []) p is
+    ]
+    texts_stay value (Err error) allocates refused other p is = ap (λ (s : DedupState (String Z)). symbol_of (map string_bytes s.handed) other) refused ∙ is
+
     -- one that is handed in goes to the end of both lists
     pub texts_allocated : (value : String Z) (key : K) → symbol_of (map string_bytes old.handed) (string_bytes value) ≡ None → AllocatesValue keys string_eq same_bytes old value key new
         → (key ≡ keys.key (length old.handed)) × (map string_bytes new.handed ≡ map string_bytes old.handed ++ string_bytes value ∷ []) × (map string_bytes new.items ≡ map string_bytes old.items ++ string_bytes value ∷ [])

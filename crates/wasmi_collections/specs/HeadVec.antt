@@ -1,9 +1,23 @@
 -- What a contract says of a head vector, which is the list of its items.
-use Rattle.std.specs.Prelude.{◌-◌, List, [], ◌∷◌, ◌++◌, length, take, Option, slice_get}
+use Rattle.std.specs.Prelude.{◌+◌, ◌-◌, ℕ, List, [], ◌∷◌, ◌++◌, length, take, Option, slice_get}
 use Rattle.std.specs.declared.cmp.Ordering.{Ordering}
-use Rattle.std.specs.Option.{option_cmp, option_partial_cmp}
+use Rattle.std.specs.declared.vec.Vec.{Vec}
+use Rattle.std.specs.Option.{option_cmp, option_partial_cmp, option_to_list}
 use Rattle.std.specs.Ordering.{ordering_then, partial_ordering_then}
 use Rattle.std.specs.Cmp.Lexicographic.{slice_cmp, slice_partial_cmp}
+use Rattle.std.specs.Vec.{vec_items, vec_len, vec_capacity}
+
+-- what a head vector is: the list of its items, and how many more can be pushed before memory is asked for
+pub record HeadState (T : Type 0) : Type 0 where
+  pub items : List T
+  pub room : ℕ
+
+-- the last item beside what stands before it: the last needs no place in the block of the others
+abbrev pub state_of : {T A : Type 0} → Option T → Vec T A → HeadState T
+state_of last rest = record {
+  items = vec_items rest ++ option_to_list last;
+  room = vec_capacity rest + 1 - (vec_len rest + length (option_to_list last));
+}
 
 module _ {T : Type 0} where
   -- the last item of a list, if it has one

@@ -1,7 +1,8 @@
 //! A list with fast access to its last item.
-ghost use Rattle.std.specs.Prelude.{◌≡◌, ◌==◌, [], ◌∷◌, ◌++◌, length, IfOk, OnOk, OnErr, IsOk, IsOkUnless, option_copied};
+ghost use Rattle.std.specs.Prelude.{◌≡◌, ◌+◌, ◌<◌, ◌≤◌, ◌==◌, [], ◌∷◌, ◌++◌, length, IfOk, OnOk, OnErr, IsOk, IsOkUnless, option_copied};
 ghost use Rattle.std.specs.List.{AllZip};
 ghost use Rattle.std.specs.Option.{option_copied_mut};
+ghost use Rattle.std.specs.Cmp.{on_per, on_equiv, on_po, on_total};
 ghost use Rattle.std.specs.Cmp.Lexicographic.{pointwise, lists_per, lists_equiv};
 ghost use Rattle.wasmi_collections.specs.HeadVec.{last_item, before_last, head_cmp, head_partial_cmp};
 ghost use Rattle.wasmi_collections.specs.HeadVecLaws.{head_po, head_total, head_agrees, head_ties};
@@ -25,12 +26,12 @@ pub struct HeadVec<T, A: Allocator = Global> {
 }
 
 impl<T, A: Allocator> Model for HeadVec<T, A> {
-    ghost use Rattle.std.specs.Prelude.{◌≡◌, List, [], ◌++◌, IfNone};
-    ghost use Rattle.std.specs.Option.{option_to_list};
+    ghost use Rattle.std.specs.Prelude.{◌≡◌, [], IfNone};
+    ghost use Rattle.wasmi_collections.specs.HeadVec.{HeadState, state_of};
 
-    ghost Value = { List T };
+    ghost Value = { HeadState T };
 
-    ghost view = { λ vec. vec.rest.items ++ option_to_list vec.head };
+    ghost view = { λ vec. state_of vec.head vec.rest };
 
     // Without a last item there is none.
     ghost invariant = { λ vec. IfNone vec.head (vec.rest.items ≡ []) };
@@ -43,7 +44,7 @@ impl<T, A: Allocator> HeadVec<T, A> {
     /// An empty list, which asks `alloc` for memory when a second item is pushed. Constant time, no
     /// allocation.
     pub fn new(alloc: A) -> Self
-        ensures { result ≡ [] }
+        ensures { result ≡ record { items = []; room = 1 } }
     {
         HeadVec {
             head: None,
@@ -55,7 +56,8 @@ impl<T, A: Allocator> HeadVec<T, A> {
     pub fn clear(&mut self)
     where
         T: Drop,
-        ensures { self.new ≡ [] }
+        ensures items { self.new.items ≡ [] }
+        ensures room { self.new.room ≡ self.old.room + length self.old.items }
     {
         self.head = None;
         self.rest.clear();
@@ -64,7 +66,7 @@ impl<T, A: Allocator> HeadVec<T, A> {
     /// The number of items. Constant time.
     #[inline]
     pub fn len(&self) -> usize
-        ensures { result ≡ length self.now }
+        ensures { result ≡ length self.now.items }
     {
         match self.head {
             Some(_) => 1 + self.rest.len(),
@@ -74,7 +76,7 @@ impl<T, A: Allocator> HeadVec<T, A> {
 
     /// Whether there is no item. Constant time.
     pub fn is_empty(&self) -> bool
-        ensures { result ≡ (length self.now == 0) }
+        ensures { result ≡ (length self.now.items == 0) }
     {
         self.len() == 0
     }
@@ -82,7 +84,7 @@ impl<T, A: Allocator> HeadVec<T, A> {
     /// The last item, if there is one. Constant time.
     #[inline]
     pub fn last(&self) -> Option<&T>
-        ensures { option_copied result ≡ last_item self.now }
+        ensures { option_copied result ≡ last_item self.now.items }
     {
         self.head.as_ref()
     }
@@ -91,7 +93,7 @@ impl<T, A: Allocator> HeadVec<T, A> {
     #[inline]
     pub fn last_mut(&mut self) -> Option<&mut T>
         ensures* writes_back { sem 𝓛 (lends_last T.row A.row A.Allocator self.entry result) }
-        ensures value { option_copied_mut result ≡ last_item self.old }
+        ensures value { option_copied_mut result ≡ last_item self.old.items }
     {
         match &mut self.head {
             Some(head) => Some(head),
@@ -102,14 +104,16 @@ impl<T, A: Allocator> HeadVec<T, A> {
     /// Puts an item at the end.
     ///
     /// Fails with `OutOfSystemMemory` if there is no memory for the item that was the last, and then the
-    /// list is as before, and the item is dropped. Into an empty list it needs no memory. Amortized
-    /// constant time.
+    /// list is as before, and the item is dropped. Into an empty list it needs no memory, nor in the place of
+    /// an item that was taken out, and then it doesn't fail. Amortized constant time.
     #[inline]
     pub fn push(&mut self, value: T) -> Result<(), ArenaError>
     where
         T: Drop,
-        ensures ok { OnOk result (self.new ≡ self.old ++ value ∷ []) }
-        ensures first { length self.old ≡ 0 → IsOk result }
+        ensures ok { OnOk result (self.new.items ≡ self.old.items ++ value ∷ []) }
+        ensures room { OnOk result (self.old.room ≤ self.new.room + 1) }
+        ensures with_room { 0 < self.old.room → IsOk result }
+        ensures first { length self.old.items ≡ 0 → IsOk result }
         ensures errors { IsOkUnless result ArenaError.OutOfSystemMemory }
         ensures err { OnErr result (self.new ≡ self.old) }
     {
@@ -125,8 +129,9 @@ impl<T, A: Allocator> HeadVec<T, A> {
     /// Takes out the last item, if there is one. Constant time, and gives no memory back.
     #[inline]
     pub fn pop(&mut self) -> Option<T>
-        ensures item { result ≡ last_item self.old }
-        ensures rest { self.new ≡ before_last self.old }
+        ensures item { result ≡ last_item self.old.items }
+        ensures rest { self.new.items ≡ before_last self.old.items }
+        ensures room { self.new.room + length self.new.items ≡ self.old.room + length self.old.items }
     {
         let head = self.rest.pop();
         mem::replace(&mut self.head, head)
@@ -141,7 +146,7 @@ impl<T: Clone, A: Allocator> HeadVec<T, A> {
     pub fn clone(&self) -> Result<Self, ArenaError>
     where
         A: Clone,
-        ensures items { IfOk result (AllZip T.is_clone self.now) }
+        ensures items { IfOk result (λ other. AllZip T.is_clone self.now.items other.items) }
         ensures errors { IsOkUnless result ArenaError.OutOfSystemMemory }
     {
         match &self.head {
@@ -155,9 +160,9 @@ impl<T: Clone, A: Allocator> HeadVec<T, A> {
 }
 
 impl<T: PartialEq, A: Allocator> PartialEq for HeadVec<T, A> {
-    ghost eq = { pointwise T.eq };
+    ghost eq = { λ a b. pointwise T.eq a.items b.items };
 
-    ghost laws = { lists_per T.laws };
+    ghost laws = { on_per (λ v. v.items) (lists_per T.laws) };
 
     fn eq(&self, other: &Self) -> bool {
         self.head == other.head && self.rest == other.rest
@@ -165,15 +170,15 @@ impl<T: PartialEq, A: Allocator> PartialEq for HeadVec<T, A> {
 }
 
 impl<T: Eq, A: Allocator> Eq for HeadVec<T, A> {
-    ghost laws = { lists_equiv T.Eq.laws };
+    ghost laws = { on_equiv (λ v. v.items) (lists_equiv T.Eq.laws) };
 }
 
 /// The last items are compared first, and then the lists of the others. An empty list is less than any
 /// other.
 impl<T: PartialOrd, A: Allocator> PartialOrd for HeadVec<T, A> {
-    ghost partial_cmp = { head_partial_cmp T.partial_cmp };
+    ghost partial_cmp = { λ a b. head_partial_cmp T.partial_cmp a.items b.items };
 
-    ghost laws = { head_po T.PartialOrd.laws };
+    ghost laws = { on_po (λ v. v.items) (head_po T.PartialOrd.laws) };
 
     fn partial_cmp(&self, other: &Self) -> Option<Ordering> {
         match self.head.partial_cmp(&other.head)? {
@@ -184,13 +189,13 @@ impl<T: PartialOrd, A: Allocator> PartialOrd for HeadVec<T, A> {
 }
 
 impl<T: Ord, A: Allocator> Ord for HeadVec<T, A> {
-    ghost cmp = { head_cmp T.cmp };
+    ghost cmp = { λ a b. head_cmp T.cmp a.items b.items };
 
-    ghost total = { head_total T.total };
+    ghost total = { on_total (λ v. v.items) (head_total T.total) };
 
-    ghost matches_partial_cmp = { head_agrees T.matches_partial_cmp };
+    ghost matches_partial_cmp = { λ a b. head_agrees T.matches_partial_cmp a.items b.items };
 
-    ghost matches_eq = { head_ties T.cmp T.matches_eq };
+    ghost matches_eq = { λ a b. head_ties T.cmp T.matches_eq a.items b.items };
 
     fn cmp(&self, other: &Self) -> Ordering {
         match self.head.cmp(&other.head) {

@@ -25,7 +25,8 @@ pub use appended::{
     appended_texts, appended_values, strings_by_bytes, symbols_of_distinct_texts, texts_handed_in,
 };
 pub use interner::{
-    equal_in_length_order, equal_symbols_of_equal_texts, interned_texts, length_order,
+    binary_digits, equal_in_length_order, equal_symbols_of_equal_texts, interned_texts,
+    length_order,
 };
 use std::cmp::Ordering;
 use std::hash::Hash;
@@ -42,7 +43,7 @@ pub fn head_vec_order<T: Ord>()
 
 /// Two head vectors are equal where their lists are, if two items are.
 pub fn equal_head_vecs<T: PartialEq>(a: &HeadVec<T>, b: &HeadVec<T>) -> bool
-    ensures { ((x y : T) → (IsTrue (T.eq x y) ↔ (x ≡ y))) → (IsTrue result ↔ (a.now ≡ b.now)) }
+    ensures { ((x y : T) → (IsTrue (T.eq x y) ↔ (x ≡ y))) → (IsTrue result ↔ (a.now.items ≡ b.now.items)) }
 {
     a == b
 }

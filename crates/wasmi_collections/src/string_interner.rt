@@ -210,6 +210,8 @@ impl<A: Allocator> StringInterner<A> {
         ensures symbol { result ≡ symbol_of self.now text.now }
         ensures few_steps { steps.new ≤ steps.old + digits (length self.now) }
         ensures some_steps { 0 < length self.now → steps.old < steps.new }
+        ensures many_steps { symbol_of self.now text.now ≡ None
+            → steps.old + digits (length self.now + 1) ≤ steps.new + 1 }
     {
         find(&self.index, &self.texts, text, steps).ok()
     }

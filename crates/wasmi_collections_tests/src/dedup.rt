@@ -411,6 +411,28 @@ fn a_text_that_is_there_is_not_copied(rt: HostRuntime) -> Result<(), Fail> {
     Ok(())
 }
 
+// However long it is.
+#[test]
+fn a_long_text_that_is_there_is_not_copied(rt: HostRuntime) -> Result<(), Fail> {
+    let mut long = String::new(rt.alloc());
+    for _ in 0..7_000 {
+        long.push_str("0123456789")?;
+    }
+    let log = Log::new();
+    let heap = Observed::new(rt.alloc(), &log);
+    let mut texts = two_texts(&heap)?;
+    let mut interner = StringInterner::new(&heap);
+    let key = texts.alloc_str(&heap, long.as_str())?;
+    let symbol = interner.get_or_intern(long.as_str())?;
+    log.refuse_from(1);
+    let asked = log.requests();
+    assert_equal!(rt; texts.alloc_str(&heap, long.as_str()), Ok(key));
+    assert_equal!(rt; interner.get_or_intern(long.as_str()), Ok(symbol));
+    assert_equal!(rt; interner.extend([long.as_str()]), Ok(()));
+    assert_equal!(rt; log.requests(), asked);
+    Ok(())
+}
+
 // A value without a key or without memory, and an item without a place.
 #[test]
 fn what_is_refused_is_dropped(rt: HostRuntime) -> Result<(), Fail> {

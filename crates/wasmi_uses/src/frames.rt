@@ -8,8 +8,8 @@ use wasmi_collections::HeadVec;
 
 /// Puts a frame in the place of the one that runs, and returns that one, if there is one.
 pub fn tail_call<T: Drop, A: Allocator>(frames: &mut HeadVec<T, A>, frame: T) -> Option<T>
-    ensures was { result ≡ last_item frames.old }
-    ensures runs { IfSome result (λ _. frames.new ≡ with_last frames.old frame) }
+    ensures was { result ≡ last_item frames.old.items }
+    ensures runs { IfSome result (λ _. frames.new.items ≡ with_last frames.old.items frame) }
     ensures none { IfNone result (frames.new ≡ frames.old) }
 {
     match frames.last_mut() {

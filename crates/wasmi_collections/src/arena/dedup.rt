@@ -167,7 +167,8 @@ impl<Key: ArenaKey, T: Eq + Hash, A: Allocator> DedupArena<Key, T, A> {
     /// As [`alloc`](DedupArena::alloc), of a value that isn't given away. Nothing is cloned or allocated for
     /// one that is there. A new one is cloned twice: its first clone is handed in.
     ///
-    /// A clone that is equal to another value that was handed in has the key of that one.
+    /// A clone that is equal to another value that was handed in has the key of that one. Where clones are equal
+    /// to their values, the key is that of the value from then on.
     pub fn alloc_ref(&mut self, value: &T) -> Result<Key, ArenaError>
     where
         T: Clone,
@@ -182,6 +183,9 @@ impl<Key: ArenaKey, T: Eq + Hash, A: Allocator> DedupArena<Key, T, A> {
             × (Key.keys.count ≤ length self.old.handed)) }
         ensures refused { IfErr result (λ error. RefusesValue Key.keys T.eq self.old value.now error) }
         ensures err { OnErr result (self.new ≡ self.old) }
+        ensures known { ((clone : T) → T.is_clone value.now clone → IsTrue (T.eq value.now clone))
+            → IfOk result (λ key.
+            position (T.eq value.now) self.new.handed ≡ Some (Key.keys.number key)) }
         ensures within { IfOk result (λ key. Key.keys.number key < length self.new.items) }
         ensures kept { (other : T) (p : ℕ) → position (T.eq other) self.old.handed ≡ Some p
             → position (T.eq other) self.new.handed ≡ Some p }

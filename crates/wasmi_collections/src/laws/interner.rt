@@ -1,8 +1,9 @@
-//! Laws of the length order, of interned texts and of runs of an interner.
-ghost use Rattle.std.specs.Prelude.{◌≡◌, ◌↔◌, ◌<◌, ℕ, List, length, map, IsTrue, Some, slice_get};
+//! Laws of the length order, of interned texts, of the steps of a search, and of runs of an interner.
+ghost use Rattle.std.specs.Prelude.{◌≡◌, ◌↔◌, ◌<◌, ◌≤◌, ◌^◌, ℕ, List, length, map, IsTrue, Some, slice_get};
 ghost use Rattle.std.specs.Cmp.{IsTotalOrder};
 ghost use Rattle.std.specs.Cmp.Lexicographic.{slice_cmp};
 ghost use Rattle.std.specs.Ordering.{nat_cmp};
+ghost use Rattle.wasmi_collections.specs.BinaryDigits.{digits};
 ghost use Rattle.wasmi_collections.specs.Interner.{symbol_of, Interns};
 ghost use Rattle.wasmi_collections.specs.InternerSteps.{InternStep, text_to_intern};
 ghost use Rattle.wasmi_collections.specs.LenOrder.{len_cmp, text_of};
@@ -37,6 +38,13 @@ pub fn interned_texts()
     ensures again { (old : List (List ℕ)) (text : List ℕ) (symbol : ℕ) (new : List (List ℕ))
         (other : ℕ) (newer : List (List ℕ)) → Interns old text symbol new → Interns new text other newer
         → (other ≡ symbol) × (newer ≡ new) }
+{}
+
+/// As many binary digits as a number has, which is below 2^64, so many has the least power of two above it
+/// as its exponent.
+pub fn binary_digits()
+    ensures above { (n : ℕ) → n < 2 ^ 64 → n < 2 ^ digits n }
+    ensures least { (n d : ℕ) → n < 2 ^ d → digits n ≤ d }
 {}
 
 /// Of two commands of a run that intern texts, and that were replied to with symbols, the symbols are equal

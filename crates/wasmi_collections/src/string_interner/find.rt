@@ -52,6 +52,7 @@ pub(super) fn find<A: Allocator>(
         × IsIndexOf (map string_bytes texts.now.items ++ text.now ∷ []) (insert index.now.symbols rank (length texts.now.items))) }
     ensures few_steps { steps.new ≤ steps.old + digits (length texts.now.items) }
     ensures some_steps { 0 < length texts.now.items → steps.old < steps.new }
+    ensures many_steps { IfErr result (λ _. steps.old + digits (length texts.now.items + 1) ≤ steps.new + 1) }
 {
     // proof: the probe owns its counter, since a `&mut` in it would lend what `search` gives back.
     let mut probe = TextProbe {

@@ -1,5 +1,5 @@
 //! A binary search.
-ghost use Rattle.std.specs.Prelude.{◌≡◌, ℕ, ◌+◌, ◌-◌, ◌<◌, ◌≤◌, ◌^◌, List, length, Some, slice_get};
+ghost use Rattle.std.specs.Prelude.{◌≡◌, ℕ, ◌+◌, ◌-◌, ◌<◌, ◌≤◌, ◌^◌, List, length, IfErr, Some, slice_get};
 ghost use Rattle.std.specs.declared.cmp.Ordering.{Ordering};
 ghost use Rattle.wasmi_collections.specs.BinaryDigits.{digits};
 ghost use Rattle.wasmi_collections.specs.Search.{IsSearchable, IsFound};
@@ -27,7 +27,7 @@ pub trait Probe {
 ///
 /// Returns the place of the item that is `Equal`, or as an error the place where it belongs: the number
 /// of items that are `Less`. It looks at most as often as `len` has binary digits, so at 10 items of
-/// 1000.
+/// 1000. Where nothing is `Equal` it looks at most once less often than `len + 1` has, so at 9 at least.
 pub fn search<P: Probe>(len: usize, probe: &mut P) -> Result<usize, usize>
     requires whole { len ≡ length (P.orders probe.old) }
     requires in_order { IsSearchable (P.orders probe.old) }
@@ -36,6 +36,7 @@ pub fn search<P: Probe>(len: usize, probe: &mut P) -> Result<usize, usize>
     ensures kept { P.orders probe.new ≡ P.orders probe.old }
     ensures few_looks { P.looks probe.new ≤ P.looks probe.old + digits len }
     ensures looked { 0 < len → P.looks probe.old < P.looks probe.new }
+    ensures many_looks { IfErr result (λ _. P.looks probe.old + digits (len + 1) ≤ P.looks probe.new + 1) }
 {
     let mut low = 0;
     let mut high = len;

@@ -1,5 +1,5 @@
 //! Calls by a text, where the values are `String`s: no value has to be made for a text that is there.
-ghost use Rattle.std.specs.Prelude.{ℕ, String, ◌≡◌, ◌<◌, ◌≤◌, ◌↔◌, length, map, None, Some, Ok, IfSome, IfOk, IfErr, OnErr, IsErrOf, ◌⊎◌, option_map};
+ghost use Rattle.std.specs.Prelude.{ℕ, List, String, ◌≡◌, ◌<◌, ◌≤◌, ◌↔◌, length, map, None, Some, Ok, IfSome, IfOk, IfErr, OnErr, IsErrOf, ◌⊎◌, option_map};
 ghost use Rattle.std.specs.String.{string_bytes, string_eq};
 ghost use Rattle.wasmi_collections.specs.Dedup.{AllocatesValue};
 ghost use Rattle.wasmi_collections.specs.Interner.{symbol_of};
@@ -12,8 +12,11 @@ impl<Key: ArenaKey, B: Allocator, A: Allocator> DedupArena<Key, String<B>, A> {
     /// The key of a text, if a value with it was handed in. Nothing is handed in. Expected constant time, no
     /// allocation.
     pub fn key_of_str(&self, text: &str) -> Option<Key>
-        ensures { result
+        ensures value { result
             ≡ option_map Key.keys.key (symbol_of (map string_bytes self.now.handed) text.now) }
+        ensures known { IfSome result (λ key.
+            symbol_of (map string_bytes self.now.handed) text.now ≡ Some (Key.keys.number key)) }
+        ensures within { IfSome result (λ key. Key.keys.number key < length self.now.items) }
     {
         match self.index.get_str(text) {
             Some(key) => Some(*key),
@@ -38,6 +41,12 @@ impl<Key: ArenaKey, B: Allocator, A: Allocator> DedupArena<Key, String<B>, A> {
         ensures errors { IfErr result (λ error. (error ≡ ArenaError.NotEnoughKeys)
             ⊎ (error ≡ ArenaError.OutOfSystemMemory)) }
         ensures err { OnErr result (self.new ≡ self.old) }
+        ensures known { IfOk result (λ key.
+            symbol_of (map string_bytes self.new.handed) text.now ≡ Some (Key.keys.number key)) }
+        ensures within { IfOk result (λ key. Key.keys.number key < length self.new.items) }
+        ensures kept { (other : List ℕ) (p : ℕ)
+            → symbol_of (map string_bytes self.old.handed) other ≡ Some p
+            → symbol_of (map string_bytes self.new.handed) other ≡ Some p }
     {
         if let Some(key) = self.key_of_str(text) {
             return Ok(key);

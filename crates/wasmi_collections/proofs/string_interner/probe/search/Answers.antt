@@ -1,5 +1,5 @@
 use Rattle.std.proofs.Common.{◌+◌, ◌-◌, ◌/◌, ◌∙◌, arith}
-use Rattle.wasmi_collections.proofs.BinaryDigits.{digits_le, digits_half}
+use Rattle.wasmi_collections.proofs.BinaryDigits.{digits_le, digits_half, digits_double, digits_least}
 use Rattle.wasmi_collections.proofs.Search.{narrowed_low, narrowed_high, narrowed_to_none}
 use Rattle.wasmi_collections.proofs.string_interner.probe.search.Goals as goal
 
@@ -10,7 +10,7 @@ look-requires-clause-countable g c =
 
 pub loop-low-preserved-in-Less : goal.loop-low-preserved-in-Less
 loop-low-preserved-in-Less g c =
-    let (narrowed, kept, few, more, looked) = c.loop-low.invariant in
+    let (narrowed, kept, few, more, looked, many) = c.loop-low.invariant in
     let some = c.loop-low-test.true in
     let here = rw kept at c.in-Less.ensures.order in (
       narrowed_low _ _ _ _ c.requires.in_order narrowed (omega arith) here,
@@ -18,6 +18,7 @@ loop-low-preserved-in-Less g c =
       omega (arith, digits_half (c.loop-low.high - (c.loop-low.low + (c.loop-low.high - c.loop-low.low) / 2 + 1)) (c.loop-low.high - c.loop-low.low) (omega arith) (omega arith) (omega arith)),
       omega arith,
       λ h. omega arith,
+      omega (arith, many, digits_double (c.loop-low.high - (c.loop-low.low + (c.loop-low.high - c.loop-low.low) / 2 + 1) + 1) (c.loop-low.high - c.loop-low.low + 1) (omega arith)),
     )
 
 pub returns-in-Equal-clause-few_looks : goal.returns-in-Equal-clause-few_looks
@@ -28,7 +29,7 @@ returns-in-Equal-clause-few_looks g c =
 
 pub loop-low-preserved : goal.loop-low-preserved
 loop-low-preserved g c =
-    let (narrowed, kept, few, more, looked) = c.loop-low.invariant in
+    let (narrowed, kept, few, more, looked, many) = c.loop-low.invariant in
     let some = c.loop-low-test.true in
     let here = rw kept at c.in-Greater.ensures.order in (
       narrowed_high _ _ _ _ c.requires.in_order narrowed (omega arith) (omega arith) here,
@@ -36,6 +37,7 @@ loop-low-preserved g c =
       omega (arith, digits_half (c.loop-low.low + (c.loop-low.high - c.loop-low.low) / 2 - c.loop-low.low) (c.loop-low.high - c.loop-low.low) (omega arith) (omega arith) (omega arith)),
       omega arith,
       λ h. omega arith,
+      omega (arith, many, digits_double (c.loop-low.low + (c.loop-low.high - c.loop-low.low) / 2 - c.loop-low.low + 1) (c.loop-low.high - c.loop-low.low + 1) (omega arith)),
     )
 
 pub returns-clause-found : goal.returns-clause-found
@@ -43,3 +45,9 @@ returns-clause-found g c =
     let narrowed = c.loop-low.invariant.0 in
     let past = c.loop-low-test.false in
     narrowed_to_none c.loop-low.low _ (omega arith) narrowed.before (λ i more within. narrowed.after i (omega arith) within)
+
+pub returns-clause-many_looks : goal.returns-clause-many_looks
+returns-clause-many_looks g c =
+    let (narrowed, kept, few, more, looked, many) = c.loop-low.invariant in
+    let past = c.loop-low-test.false in
+    omega (arith, many, digits_least (c.loop-low.high - c.loop-low.low + 1) 1 (omega arith))
