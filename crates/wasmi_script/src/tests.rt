@@ -33,6 +33,25 @@ fn replies(rt: HostRuntime) -> Result<(), Fail> {
             "bad line 1\nbad line 2\nkey 0\nsym 0\ntext \nkey 0\ntext \nkey 1\n\
                 counts 1 2 1 32\n",
         ),
+        (
+            "e ann user\ne bob user\ne ann group\nv 1 42\nv 1 7\nk 0 admin\nq 1\nq 2\n\
+                k 2 admin\nk 5 admin\nq 5\nq\nn\ne x\nv 0 x\ne ann \n",
+            "entity 0\nentity 1\nentity 2\nwas none\nwas 42\ndone\nis 7 bob admin\n\
+                is none ann group\nerror item is already in the arena\n\
+                error encounteded out of bounds key\nerror encounteded out of bounds key\n\
+                bad line 12\ncounts 0 0 0 0\nbad line 14\nbad line 15\nentity 3\n",
+        ),
+        (
+            "e a b c \nq 0\nk 0 \nq 00\ne  k\ne\ne \nv 0\nv 0 \nv 0 +1\nv 0 1 2\nk 0\nk  x\nk 0  x\n\
+                q 0\nv 4294967296 1\nv 18446744073709551616 1\nv 0 18446744073709551615\n\
+                k 4294967295 x\nk 4294967296 x\nq 4294967296\nq 18446744073709551616\nq 0 \nq 0",
+            "entity 0\nis none a b c \ndone\nis none a \nbad line 5\nbad line 6\nbad line 7\nbad line 8\n\
+                bad line 9\nbad line 10\nbad line 11\nbad line 12\nbad line 13\ndone\n\
+                is none a  x\nerror encounteded out of bounds key\nbad line 17\nwas none\n\
+                error encounteded out of bounds key\nerror encounteded out of bounds key\n\
+                error encounteded out of bounds key\nbad line 22\nbad line 23\n\
+                is 18446744073709551615 a  x\n",
+        ),
     ];
     for (script, wanted) in cases {
         let replies = answer(rt.alloc(), script)?;

@@ -1,5 +1,6 @@
 -- What a store shows, after each call.
 use Rattle.std.proofs.Common.{◌≡◌, ◌⊎◌, ℕ, zero, suc, ◌+◌, ◌<◌, ◌≤◌, ◌^◌, Bool, true, false, cond, List, [], ◌∷◌, ◌++◌, length, map, slice_get, slice_set, slice_index_or, Option, Some, None, option_map, Result, Ok, Err, IfOk, OnOk, OnErr, IsErrOf, refl, ap, ◌∙◌, subst, sym, inl, inr, arith, length-append, true≢false}
+use Rattle.std.specs.Prelude.{◌≢◌, ◌↔◌, IsSome, is_some, not, ◌&&◌}
 use Rattle.std.specs.List.{AllByRecursion, IsDistinct}
 use Rattle.std.specs.Str.{bytes_eq}
 use Rattle.std.proofs.lemmas.List.{get_or_append_left, get_or_past, get_or-map}
@@ -12,7 +13,7 @@ use Rattle.wasmi_arena.specs.declared.error.ArenaError.{ArenaError}
 use Rattle.wasmi_arena.specs.declared.error.ArenaError.TheVariants.{NotEnoughKeys}
 use Rattle.wasmi_collections.specs.Interner.{symbol_of, AreDistinctTexts}
 use Rattle.wasmi_dense.specs.Components.{component_at, ChangesAt}
-use Rattle.wasmi_script_lib.specs.Store.{Entity, texts_with, with_new, with_entity, with_property, with_renamed, IsFullFor, KeepsEntities, entities_with_property, renamed, with_renamed_kind, shown, all_shown, store_of, IsSound}
+use Rattle.wasmi_script_lib.specs.Store.{Entity, Store, texts_with, with_new, with_entity, with_property, with_renamed, IsFullFor, KeepsEntities, entities_with_property, is_other_kind, renamed, with_renamed_kind, shown, all_shown, store_of, IsSound}
 use Rattle.wasmi_script_lib.specs.declared.store.Named.{Named}
 
 -- ---- texts
@@ -103,6 +104,19 @@ no_place_found None is = refl
 -- the name of a kind that is given again
 pub renamed-again : (kinds : List (List ℕ)) (number : ℕ) (text : List ℕ) → slice_get kinds number ≡ Some text → kinds ≡ map (renamed (slice_index_or kinds number []) text) kinds
 renamed-again kinds number text reads = rw (get_or_from_slice_get kinds number text [] reads) (sym (same_renamed text text kinds))
+
+-- what it is for a kind to be another one
+pub tells_other : (store : Store) (entity : Entity) (kind : List ℕ) → (is_other_kind store entity kind ≡ true) ↔ ((entity.kind ≢ kind) × IsSome (symbol_of store.kinds kind))
+tells_other store entity kind = next (bytes_eq entity.kind kind) refl
+  where
+    there : Bool
+    there = is_some (symbol_of store.kinds kind)
+    next : (b : Bool) → bytes_eq entity.kind kind ≡ b → (is_other_kind store entity kind ≡ true) ↔ ((entity.kind ≢ kind) × IsSome (symbol_of store.kinds kind))
+    next true is = (λ other. absurd (true≢false (sym other ∙ ap (λ b. not b && there) is)), λ parts. absurd (parts.0 ((bytes_eq-Decides entity.kind kind).0 is)))
+    next false is = (
+      λ other. (λ same. true≢false (sym ((bytes_eq-Decides entity.kind kind).1 same) ∙ is), sym (ap (λ b. not b && there) is) ∙ other),
+      λ parts. ap (λ b. not b && there) is ∙ parts.1,
+    )
 
 -- ---- what is shown
 

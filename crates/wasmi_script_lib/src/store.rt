@@ -1,5 +1,5 @@
 //! A store of entities, on top of the containers.
-ghost use Rattle.std.specs.Prelude.{◌≡◌, ◌≢◌, ◌<◌, ◌≤◌, ◌↔◌, ◌⊎◌, ◌^◌, [], length, map, IfOk, IfErr, OnOk, OnErr, IsErrOf, IsOkUnless, IsSome, None, Some, option_map, slice_get, slice_index_or, string_bytes};
+ghost use Rattle.std.specs.Prelude.{◌≡◌, ◌≢◌, ◌<◌, ◌≤◌, ◌↔◌, ◌⊎◌, ◌^◌, [], length, map, IfOk, IfErr, IfNone, IfSome, OnOk, OnErr, IsErrOf, IsOkUnless, IsSome, None, Some, option_map, slice_get, slice_index_or, string_bytes};
 ghost use Rattle.std.proofs.Common.{lit≤};
 ghost use Rattle.wasmi_arena.specs.Geometry.{max_len};
 ghost use Rattle.wasmi_arena.specs.Keys.{own_keys};
@@ -7,7 +7,7 @@ ghost use Rattle.wasmi_arena.specs.KeyLaws.{own_keys_law};
 ghost use Rattle.wasmi_collections.specs.Interner.{symbol_of, AreDistinctTexts};
 ghost use Rattle.wasmi_script_lib.specs.Store.{IsFullFor, IsOtherKind, KeepsEntities, RenamesKind, renamed, with_entity, with_new, with_property};
 
-use std::alloc::Global;
+use std::alloc::{Allocator, Global};
 use std::marker::Model;
 use wasmi_arena::{ArenaError, ArenaKey, StableArena};
 use wasmi_collections::arena::DedupArena;
@@ -63,15 +63,15 @@ struct Named {
 ///
 /// Each name and each kind is kept once. A kind that is renamed is renamed for each entity that has it.
 #[derive(Drop)]
-pub struct EntityStore {
-    names: StringInterner,
-    kinds: DedupArena<usize, String>,
-    entities: StableArena<EntityKey, Named>,
-    properties: ComponentVec<EntityKey, u64>,
-    alloc: Global,
+pub struct EntityStore<A: Allocator = Global> {
+    names: StringInterner<A>,
+    kinds: DedupArena<usize, String<A>, A>,
+    entities: StableArena<EntityKey, Named, A>,
+    properties: ComponentVec<EntityKey, u64, A>,
+    alloc: A,
 }
 
-impl Model for EntityStore {
+impl<A: Allocator> Model for EntityStore<A> {
     ghost use Rattle.std.specs.Prelude.{◌≡◌, map, string_bytes};
     ghost use Rattle.wasmi_script_lib.specs.Store.{Store, store_of, IsSound};
 
@@ -86,9 +86,9 @@ impl Model for EntityStore {
         × (map string_bytes store.kinds.items ≡ map string_bytes store.kinds.handed) };
 }
 
-impl EntityStore {
+impl<A: Allocator + Copy> EntityStore<A> {
     /// A store without entities, which asks `alloc` for memory when one comes. Constant time, no allocation.
-    pub fn new(alloc: Global) -> Self
+    pub fn new(alloc: A) -> Self
         ensures { result ≡ record { names = []; kinds = []; entities = [] } }
     {
         EntityStore {
@@ -109,6 +109,19 @@ impl EntityStore {
         self.entities.len()
     }
 
+    /// The key of this number, if an entity has it. Constant time.
+    #[tactic(auto, using(crate::proofs::StoreLemmas::all_shown_length))]
+    pub(crate) fn key(&self, number: usize) -> Option<EntityKey>
+        ensures there { IfSome result (λ key. (key ≡ number) × (number < length self.now.entities)) }
+        ensures absent { IfNone result (length self.now.entities ≤ number) }
+    {
+        if number < self.entities.len() {
+            EntityKey::from_usize(number)
+        } else {
+            None
+        }
+    }
+
     /// The number of names. Constant time.
     pub fn names(&self) -> usize
         ensures value { result ≡ length self.now.names }
@@ -123,7 +136,7 @@ impl EntityStore {
         ensures value { result ≡ length self.now.kinds }
         ensures distinct { AreDistinctTexts self.now.kinds }
     {
-        texts_handed_in::<usize, Global>();
+        texts_handed_in::<usize, A>();
         self.kinds.len()
     }
 
@@ -229,7 +242,7 @@ impl EntityStore {
 }
 
 // The symbol of a name, which goes to the end of the names if it is new.
-fn intern(names: &mut StringInterner, name: &str) -> Result<Sym, ArenaError>
+fn intern<A: Allocator + Clone>(names: &mut StringInterner<A>, name: &str) -> Result<Sym, ArenaError>
     ensures ok { OnOk result (names.new ≡ with_new names.old name.now) }
     ensures reads { IfOk result (λ symbol. slice_get names.new symbol ≡ Some name.now) }
     ensures no_symbol { IsErrOf result ArenaError.NotEnoughKeys
@@ -242,9 +255,9 @@ fn intern(names: &mut StringInterner, name: &str) -> Result<Sym, ArenaError>
 }
 
 // The key of a kind, which goes to the end of the kinds if it is new.
-fn hand_in(
-    kinds: &mut DedupArena<usize, String>,
-    alloc: Global,
+fn hand_in<A: Allocator + Copy>(
+    kinds: &mut DedupArena<usize, String<A>, A>,
+    alloc: A,
     kind: &str,
 ) -> Result<usize, ArenaError>
     requires { map string_bytes kinds.old.items ≡ map string_bytes kinds.old.handed }
@@ -256,16 +269,16 @@ fn hand_in(
     ensures errors { IsOkUnless result ArenaError.OutOfSystemMemory }
     ensures err { OnErr result (kinds.new ≡ kinds.old) }
 {
-    texts_handed_in::<usize, Global>();
+    texts_handed_in::<usize, A>();
     symbols_of_distinct_texts();
     kinds.len();
     kinds.alloc_str(alloc, kind)
 }
 
 // Gives a kind another name, unless another kind has it.
-fn rename(
-    kinds: &mut DedupArena<usize, String>,
-    alloc: Global,
+fn rename<A: Allocator + Copy>(
+    kinds: &mut DedupArena<usize, String<A>, A>,
+    alloc: A,
     number: usize,
     kind: &str,
 ) -> Result<(), ArenaError>
@@ -282,9 +295,9 @@ fn rename(
         ⊎ (error ≡ ArenaError.OutOfSystemMemory)) }
     ensures err { OnErr result (kinds.new ≡ kinds.old) }
 {
-    texts_handed_in::<usize, Global>();
+    texts_handed_in::<usize, A>();
     symbols_of_distinct_texts();
-    strings_by_bytes::<Global>();
+    strings_by_bytes::<A>();
     kinds.len();
     match kinds.key_of_str(kind) {
         Some(there) if there == number => Ok(()),

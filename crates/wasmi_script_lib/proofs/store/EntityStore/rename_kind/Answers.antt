@@ -1,13 +1,13 @@
-use Rattle.std.proofs.Common.{ℕ, List, [], map, string_bytes, Global, Err, slice_index_or, ap, sym, ◌∙◌}
+use Rattle.std.proofs.Common.{◌≡◌, ℕ, true, subst, List, [], map, string_bytes, Err, slice_index_or, ap, sym, ◌∙◌}
 use Rattle.std.specs.declared.string.String.{String}
 use Rattle.std.proofs.lemmas.Option.{none-some, same_Some}
 use Rattle.std.proofs.lemmas.Result.{on_ok_weaker}
 use Rattle.wasmi_collections.specs.Dedup.{DedupState}
-use Rattle.wasmi_script_lib.specs.Store.{Entity, shown, store_of}
-use Rattle.wasmi_script_lib.proofs.StoreLemmas.{all_shown_at, all_shown_past, shown_renamed}
+use Rattle.wasmi_script_lib.specs.Store.{Entity, is_other_kind, shown, store_of}
+use Rattle.wasmi_script_lib.proofs.StoreLemmas.{all_shown_at, all_shown_past, shown_renamed, tells_other}
 use Rattle.wasmi_script_lib.proofs.store.EntityStore.rename_kind.Goals as goal
 
-abbrev texts_of : DedupState (String Global) → List (List ℕ)
+abbrev texts_of : {A : Type 0} → DedupState (String A) → List (List ℕ)
 texts_of kinds = map string_bytes kinds.handed
 
 pub returns-in-Ok-clause-ok : goal.returns-in-Ok-clause-ok
@@ -24,9 +24,11 @@ returns-in-Ok-clause-duplicate c =
     let entity = shown inside.names (texts_of inside.kinds) inside.properties c.args.key named in
     let at = all_shown_at inside.names (texts_of inside.kinds) inside.properties c.args.key inside.entities named c.in-Ok.ensures.item in
     let duplicate = c.rename.ensures.duplicate in
+    let store = store_of inside.names (texts_of inside.kinds) inside.properties inside.entities in
+    let other_kind = tells_other store entity c.args.kind.now in
     rw (← c.self.view_is) (
-      λ is. (entity, at, (duplicate.0 is).0, (duplicate.0 is).1),
-      λ other. duplicate.1 (λ same. other.2 (ap (λ (e : Entity). e.kind) (same_Some other.0 entity (sym other.1 ∙ at)) ∙ same), other.3),
+      λ is. (entity, at, other_kind.1 (duplicate.0 is)),
+      λ other. duplicate.1 (other_kind.0 (subst (λ (e : Entity). is_other_kind store e c.args.kind.now ≡ true) (same_Some other.0 entity (sym other.1 ∙ at)) other.2)),
     )
 
 pub returns-in-Err-clause-duplicate : goal.returns-in-Err-clause-duplicate
