@@ -25,7 +25,7 @@ mod program;
 mod session;
 mod store;
 
-pub use error::ScriptError;
+pub use error::{ScriptError, exit_status};
 pub use program::run;
 pub use session::answer;
 pub use store::{EntityKey, EntityStore};
