@@ -1,5 +1,5 @@
 -- A store of entities, each of which has a name, a kind and perhaps a property.
-use Rattle.std.specs.Prelude.{◌≡◌, ℕ, zero, suc, ◌+◌, ◌<◌, ◌≤◌, ◌^◌, ◌⊎◌, List, [], ◌∷◌, ◌++◌, length, map, if◌then◌else◌, Bool, true, not, ◌&&◌, is_some, Option, None, Some, slice_get, slice_index_or}
+use Rattle.std.specs.Prelude.{◌≡◌, ℕ, zero, suc, ◌+◌, ◌<◌, ◌≤◌, ◌^◌, ◌⊎◌, List, [], ◌∷◌, ◌++◌, length, map, if◌then◌else◌, Bool, true, not, ◌&&◌, is_some, Option, None, Some, IsSome, slice_get, slice_index_or}
 use Rattle.std.specs.List.{AllByRecursion}
 use Rattle.std.specs.Str.{bytes_eq}
 use Rattle.wasmi_arena.specs.Geometry.{max_len}
@@ -21,6 +21,11 @@ pub record Store : Type 0 where
 
 abbrev pub no_entities : Store
 no_entities = record { names = []; kinds = []; entities = [] }
+
+-- an entity's name is among the names, and its kind among the kinds
+abbrev pub IsListed : Store → Entity → Type 0
+IsListed store entity =
+    IsSome (symbol_of store.names entity.name) × IsSome (symbol_of store.kinds entity.kind)
 
 -- the texts, with this one at the end if it has no place among them
 abbrev pub texts_with : List (List ℕ) → List ℕ → Option ℕ → List (List ℕ)
