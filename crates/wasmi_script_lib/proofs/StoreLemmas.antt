@@ -69,7 +69,7 @@ first_before p d i [] low at = absurd (omega (arith, low))
 first_before p d zero (x ∷ xs) low at = rw at (omega arith)
 first_before p d (suc i) (x ∷ xs) low at = next (p x) (first_before p d i xs (omega (arith, low)) at)
   where
-    next : (b : Bool) → position_or_len p xs < length xs → cond (not b) (suc (position_or_len p xs)) 0 < suc (length xs)
+    next : (b : Bool) → position_or_len p xs < length xs → cond (not b) (1 + position_or_len p xs) 0 < suc (length xs)
     next true less = omega arith
     next false less = omega (arith, less)
 
@@ -168,6 +168,11 @@ module _ (names kinds : List (List ℕ)) (properties : List (Option ℕ)) where
       next : (o : Option Named) → slice_get entities key ≡ o → option_map (λ (entity : Entity). entity.property) (slice_get (all_shown names kinds properties 0 entities) key) ≡ Some (component_at properties key)
       next (Some named) is = ap (option_map (λ (entity : Entity). entity.property)) (all_shown_at key entities named is)
       next None is = absurd (none-at entities key low is)
+        where
+          none-at : (xs : List Named) (k : ℕ) → k < length xs → slice_get xs k ≡ None → ⊥
+          none-at [] k low is = omega (arith, low)
+          none-at (x ∷ xs) zero low is = none-some x (sym is)
+          none-at (x ∷ xs) (suc k) low is = none-at xs k (omega (arith, low)) is
 
   -- one with a property has a number below the extent
   pub below_extent : (key : ℕ) (entity : Entity) (entities : List Named) → slice_get (all_shown names kinds properties 0 entities) key ≡ Some entity → IsSome entity.property → key < extent properties
@@ -179,11 +184,6 @@ module _ (names kinds : List (List ℕ)) (properties : List (Option ℕ)) where
       next : (b : Bool) → ltb key (extent properties) ≡ b → entity.property ≡ component_at properties key → key < extent properties
       next true low property = ltb-true _ _ low
       next false high property = absurd (true≢false (sym has ∙ ap is_some (property ∙ get_or_past properties key None (grind (arith, nat_tests)))))
-        where
-          none-at : (xs : List Named) (k : ℕ) → k < length xs → slice_get xs k ≡ None → ⊥
-          none-at [] k low is = omega (arith, low)
-          none-at (x ∷ xs) zero low is = none-some x (sym is)
-          none-at (x ∷ xs) (suc k) low is = none-at xs k (omega (arith, low)) is
 
   pub all_shown_append : (number : ℕ) (entities : List Named) (last : Named) → all_shown names kinds properties number (entities ++ last ∷ []) ≡ all_shown names kinds properties number entities ++ shown names kinds properties (number + length entities) last ∷ []
   all_shown_append number [] last = ap (λ n. shown names kinds properties n last ∷ []) (omega arith)

@@ -4,7 +4,7 @@ use Rattle.wasmi_script_lib.specs.declared.session.Session.{Session}
 use Rattle.wasmi_script_lib.specs.States.{State}
 
 -- what a session keeps
-abbrev pub state_of : {A : Type 0} → Session A → State
+abbrev pub state_of : Session → State
 state_of session = record {
   kept = map string_bytes session.arena;
   deduped = map string_bytes session.dedup.handed;
@@ -13,5 +13,5 @@ state_of session = record {
 }
 
 -- this reply and a line feed were added
-abbrev pub AddsReply : {A : Type 0} → Session A → Session A → List ℕ → Type 0
+abbrev pub AddsReply : Session → Session → List ℕ → Type 0
 AddsReply old new reply = string_bytes new.replies ≡ string_bytes old.replies ++ (reply ++ 10 ∷ [])

@@ -7,7 +7,7 @@ ghost use Rattle.wasmi_script_lib.specs.Requests as request;
 
 use crate::line::Line;
 use crate::store::{EntityKey, EntityStore};
-use std::alloc::{AllocError, Allocator};
+use std::alloc::{AllocError, Global};
 use wasmi_arena::{ArenaError, ArenaKey, MAX_LEN, StableArena, StableVec};
 use wasmi_collections::arena::DedupArena;
 use wasmi_collections::string_interner::{StringInterner, Sym};
@@ -18,7 +18,7 @@ use wasmi_collections::string_interner::{StringInterner, Sym};
 /// `i` once. Expected time is linear in the text and the replies, but for `i`: a binary search finds a
 /// text of it, and a new one takes a step more for each 1,024 texts interned before. The only error is running
 /// out of memory.
-pub fn answer<A: Allocator + Copy>(alloc: A, text: &str) -> Result<String<A>, ArenaError>
+pub fn answer(alloc: Global, text: &str) -> Result<String, ArenaError>
     ensures output { IfOk result (λ output. string_bytes output ≡ output_of text.now) }
     ensures errors { IsOkUnless result ArenaError.OutOfSystemMemory }
 {
@@ -31,19 +31,19 @@ pub fn answer<A: Allocator + Copy>(alloc: A, text: &str) -> Result<String<A>, Ar
 
 /// A script at work: the texts and the entities that it keeps, its replies so far, and how many lines it had.
 #[derive(Drop)]
-struct Session<A: Allocator> {
-    arena: StableArena<usize, String<A>, A>,
-    dedup: DedupArena<usize, String<A>, A>,
-    interner: StringInterner<A>,
-    store: EntityStore<A>,
-    replies: String<A>,
+struct Session {
+    arena: StableArena<usize, String>,
+    dedup: DedupArena<usize, String>,
+    interner: StringInterner,
+    store: EntityStore,
+    replies: String,
     lines: usize,
 }
 
-impl<A: Allocator + Copy> Session<A> {
+impl Session {
     ghost use Rattle.wasmi_script_lib.specs.Sessions.{state_of, AddsReply};
 
-    fn new(alloc: A) -> Self
+    fn new(alloc: Global) -> Self
         ensures state { state_of result ≡ empty }
         ensures replies { string_bytes result.replies ≡ [] }
         ensures lines { result.lines ≡ 0 }
@@ -59,7 +59,7 @@ impl<A: Allocator + Copy> Session<A> {
     }
 
     /// Does what the next line asks for, and adds the reply.
-    fn serve(&mut self, alloc: A, line: &str) -> Result<(), ArenaError>
+    fn serve(&mut self, alloc: Global, line: &str) -> Result<(), ArenaError>
         requires { self.old.lines + 1 < 2 ^ 64 }
         ensures state { OnOk result (state_of self.new
             ≡ state_after_line (state_of self.old) (request.request_of line.now)) }
@@ -87,7 +87,7 @@ impl<A: Allocator + Copy> Session<A> {
     }
 
     /// `a TEXT`: keeps a text, and replies its key. Without a key the text isn't kept.
-    fn alloc(&mut self, alloc: A, text: &str) -> Result<(), ArenaError>
+    fn alloc(&mut self, alloc: Global, text: &str) -> Result<(), ArenaError>
         ensures state { OnOk result (state_of self.new
             ≡ state_after (state_of self.old) (request.Alloc text.now)) }
         ensures reply { OnOk result (AddsReply self.old self.new
@@ -175,7 +175,7 @@ impl<A: Allocator + Copy> Session<A> {
     }
 
     /// `d TEXT`: keeps a text unless an equal one is kept, and replies the key of the one that is.
-    fn dedup(&mut self, alloc: A, text: &str) -> Result<(), ArenaError>
+    fn dedup(&mut self, alloc: Global, text: &str) -> Result<(), ArenaError>
         ensures state { OnOk result (state_of self.new
             ≡ state_after (state_of self.old) (request.Dedup text.now)) }
         ensures reply { OnOk result (AddsReply self.old self.new

@@ -8,7 +8,7 @@ ghost use Rattle.wasmi_arena.specs.KeyLaws.{own_keys_law};
 ghost use Rattle.wasmi_collections.specs.Interner.{symbol_of, AreDistinctTexts};
 ghost use Rattle.wasmi_script_lib.specs.Store.{Entity, IsFullFor, IsListed, IsOtherKind, KeepsEntities, RenamesKind, renamed, with_entity, with_new, with_property};
 
-use std::alloc::{Allocator, Global};
+use std::alloc::Global;
 use std::marker::Model;
 use wasmi_arena::{ArenaError, ArenaKey, StableArena};
 use wasmi_collections::arena::DedupArena;
@@ -64,15 +64,15 @@ struct Named {
 ///
 /// Each name and each kind is kept once. A kind that is renamed is renamed for each entity that has it.
 #[derive(Drop)]
-pub struct EntityStore<A: Allocator = Global> {
-    names: StringInterner<A>,
-    kinds: DedupArena<usize, String<A>, A>,
-    entities: StableArena<EntityKey, Named, A>,
-    properties: ComponentVec<EntityKey, u64, A>,
-    alloc: A,
+pub struct EntityStore {
+    names: StringInterner,
+    kinds: DedupArena<usize, String>,
+    entities: StableArena<EntityKey, Named>,
+    properties: ComponentVec<EntityKey, u64>,
+    alloc: Global,
 }
 
-impl<A: Allocator> Model for EntityStore<A> {
+impl Model for EntityStore {
     ghost use Rattle.std.specs.Prelude.{◌≡◌, map, string_bytes};
     ghost use Rattle.wasmi_script_lib.specs.Store.{Store, store_of, IsSound};
 
@@ -87,9 +87,9 @@ impl<A: Allocator> Model for EntityStore<A> {
         × (map string_bytes store.kinds.items ≡ map string_bytes store.kinds.handed) };
 }
 
-impl<A: Allocator + Copy> EntityStore<A> {
+impl EntityStore {
     /// A store without entities, which asks `alloc` for memory when one comes. Constant time, no allocation.
-    pub fn new(alloc: A) -> Self
+    pub fn new(alloc: Global) -> Self
         ensures { result ≡ record { names = []; kinds = []; entities = [] } }
     {
         EntityStore {
@@ -138,7 +138,7 @@ impl<A: Allocator + Copy> EntityStore<A> {
         ensures value { result ≡ length self.now.kinds }
         ensures distinct { AreDistinctTexts self.now.kinds }
     {
-        texts_handed_in::<usize, A>();
+        texts_handed_in::<usize, Global>();
         self.kinds.len()
     }
 
@@ -249,7 +249,7 @@ impl<A: Allocator + Copy> EntityStore<A> {
 }
 
 // The symbol of a name, which goes to the end of the names if it is new.
-fn intern<A: Allocator + Clone>(names: &mut StringInterner<A>, name: &str) -> Result<Sym, ArenaError>
+fn intern(names: &mut StringInterner, name: &str) -> Result<Sym, ArenaError>
     ensures ok { OnOk result (names.new ≡ with_new names.old name.now) }
     ensures reads { IfOk result (λ symbol. slice_get names.new symbol ≡ Some name.now) }
     ensures no_symbol { IsErrOf result ArenaError.NotEnoughKeys
@@ -262,9 +262,9 @@ fn intern<A: Allocator + Clone>(names: &mut StringInterner<A>, name: &str) -> Re
 }
 
 // The key of a kind, which goes to the end of the kinds if it is new.
-fn hand_in<A: Allocator + Copy>(
-    kinds: &mut DedupArena<usize, String<A>, A>,
-    alloc: A,
+fn hand_in(
+    kinds: &mut DedupArena<usize, String>,
+    alloc: Global,
     kind: &str,
 ) -> Result<usize, ArenaError>
     requires { map string_bytes kinds.old.items ≡ map string_bytes kinds.old.handed }
@@ -276,16 +276,16 @@ fn hand_in<A: Allocator + Copy>(
     ensures errors { IsOkUnless result ArenaError.OutOfSystemMemory }
     ensures err { OnErr result (kinds.new ≡ kinds.old) }
 {
-    texts_handed_in::<usize, A>();
+    texts_handed_in::<usize, Global>();
     symbols_of_distinct_texts();
     kinds.len();
     kinds.alloc_str(alloc, kind)
 }
 
 // Gives a kind another name, unless another kind has it.
-fn rename<A: Allocator + Copy>(
-    kinds: &mut DedupArena<usize, String<A>, A>,
-    alloc: A,
+fn rename(
+    kinds: &mut DedupArena<usize, String>,
+    alloc: Global,
     number: usize,
     kind: &str,
 ) -> Result<(), ArenaError>
@@ -303,9 +303,9 @@ fn rename<A: Allocator + Copy>(
     ensures same { slice_index_or (map string_bytes kinds.old.handed) number [] ≡ kind.now → IsOk result }
     ensures err { OnErr result (kinds.new ≡ kinds.old) }
 {
-    texts_handed_in::<usize, A>();
+    texts_handed_in::<usize, Global>();
     symbols_of_distinct_texts();
-    strings_by_bytes::<A>();
+    strings_by_bytes::<Global>();
     kinds.len();
     match kinds.key_of_str(kind) {
         Some(there) if there == number => Ok(()),

@@ -1,7 +1,5 @@
-//! Tests of the entity store, and of scripts where memory is refused.
+//! Tests of the entity store.
 #![tactic(auto)]
 
-#[cfg(test)]
-mod scripts;
 #[cfg(test)]
 mod store;

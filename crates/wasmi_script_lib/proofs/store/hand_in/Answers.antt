@@ -1,4 +1,4 @@
-use Rattle.std.proofs.Common.{ℕ, List, [], ◌∷◌, ◌++◌, map, string_bytes, ap, sym, ◌∙◌}
+use Rattle.std.proofs.Common.{ℕ, List, [], ◌∷◌, ◌++◌, map, string_bytes, Global, ap, sym, ◌∙◌}
 use Rattle.std.specs.declared.string.String.{String}
 use Rattle.std.proofs.lemmas.List.{length-map}
 use Rattle.std.proofs.lemmas.Result.{IfOk-weaker}
@@ -6,7 +6,7 @@ use Rattle.wasmi_collections.specs.Dedup.{DedupState}
 use Rattle.wasmi_script_lib.proofs.StoreLemmas.{with_new-kept, with_new-reads}
 use Rattle.wasmi_script_lib.proofs.store.hand_in.Goals as goal
 
-abbrev texts_of : {A : Type 0} → DedupState (String A) → List (List ℕ)
+abbrev texts_of : DedupState (String Global) → List (List ℕ)
 texts_of kinds = map string_bytes kinds.handed
 
 pub returns-clause-ok : goal.returns-clause-ok

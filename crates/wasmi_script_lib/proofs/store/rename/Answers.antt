@@ -1,4 +1,4 @@
-use Rattle.std.proofs.Common.{◌≡◌, ℕ, List, [], map, string_bytes, Some, None, slice_set, slice_index_or, is_some, ap, sym, refl, ◌∙◌, true≢false}
+use Rattle.std.proofs.Common.{◌≡◌, ℕ, List, [], map, string_bytes, Global, Some, None, slice_set, slice_index_or, is_some, ap, sym, refl, ◌∙◌, true≢false}
 use Rattle.std.specs.declared.string.String.{String}
 use Rattle.std.proofs.lemmas.Option.{get_or_from_slice_get, slice_get-get_or, none-some, same_Some}
 use Rattle.std.proofs.lemmas.Result.{err_from_is_err_and}
@@ -7,7 +7,7 @@ use Rattle.wasmi_collections.specs.Interner.{symbol_of}
 use Rattle.wasmi_script_lib.proofs.StoreLemmas.{no_place_found, place_found, renamed-again, renamed-set}
 use Rattle.wasmi_script_lib.proofs.store.rename.Goals as goal
 
-abbrev texts_of : {A : Type 0} → DedupState (String A) → List (List ℕ)
+abbrev texts_of : DedupState (String Global) → List (List ℕ)
 texts_of kinds = map string_bytes kinds.handed
 
 pub returns-in_err-replace-in-None-clause-duplicate : goal.returns-in_err-replace-in-None-clause-duplicate

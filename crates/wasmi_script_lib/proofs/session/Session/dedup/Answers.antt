@@ -6,7 +6,7 @@ use Rattle.wasmi_script_lib.proofs.ReplyLemmas.{OnOk-both}
 use Rattle.wasmi_script_lib.proofs.session.Session.dedup.Goals as goal
 
 -- what a session keeps, with these texts for those of `d`
-abbrev with_deduped : {A : Type 0} → Session A → List (List ℕ) → State
+abbrev with_deduped : Session → List (List ℕ) → State
 with_deduped session texts = record { kept = map string_bytes session.arena; deduped = texts; interned = session.interner; store = session.store }
 
 pub returns-clause-state : goal.returns-clause-state

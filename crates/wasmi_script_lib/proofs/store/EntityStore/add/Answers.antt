@@ -1,4 +1,4 @@
-use Rattle.std.proofs.Common.{ℕ, List, map, string_bytes, Err, ap, sym, subst, inl, inr, ◌∙◌, arith}
+use Rattle.std.proofs.Common.{ℕ, List, map, string_bytes, Global, Err, ap, sym, subst, inl, inr, ◌∙◌, arith}
 use Rattle.std.specs.declared.string.String.{String}
 use Rattle.std.proofs.lemmas.Result.{on_ok_weaker, on_err_weaker, err_from_is_err_and}
 use Rattle.wasmi_collections.specs.Dedup.{DedupState}
@@ -7,7 +7,7 @@ use Rattle.wasmi_script_lib.specs.declared.store.Named.{Named}
 use Rattle.wasmi_script_lib.proofs.StoreLemmas.{full, keys_left, not_full, OnErr-of, shown_added, shown_kept, sound_kept, sound_pushed}
 use Rattle.wasmi_script_lib.proofs.store.EntityStore.add.Goals as goal
 
-abbrev texts_of : {A : Type 0} → DedupState (String A) → List (List ℕ)
+abbrev texts_of : DedupState (String Global) → List (List ℕ)
 texts_of kinds = map string_bytes kinds.handed
 
 pub returns-in_err-next_key-clause-no_key : goal.returns-in_err-next_key-clause-no_key

@@ -1,4 +1,4 @@
-use Rattle.std.proofs.Common.{◌≡◌, ℕ, true, subst, List, [], map, string_bytes, Err, slice_index_or, ap, sym, ◌∙◌}
+use Rattle.std.proofs.Common.{◌≡◌, ℕ, true, subst, List, [], map, string_bytes, Global, Err, slice_index_or, ap, sym, ◌∙◌}
 use Rattle.std.specs.declared.string.String.{String}
 use Rattle.std.proofs.lemmas.Option.{none-some, same_Some}
 use Rattle.std.proofs.lemmas.Result.{on_ok_weaker}
@@ -7,7 +7,7 @@ use Rattle.wasmi_script_lib.specs.Store.{Entity, is_other_kind, shown, store_of}
 use Rattle.wasmi_script_lib.proofs.StoreLemmas.{all_shown_at, all_shown_past, shown_renamed, tells_other}
 use Rattle.wasmi_script_lib.proofs.store.EntityStore.rename_kind.Goals as goal
 
-abbrev texts_of : {A : Type 0} → DedupState (String A) → List (List ℕ)
+abbrev texts_of : DedupState (String Global) → List (List ℕ)
 texts_of kinds = map string_bytes kinds.handed
 
 pub returns-in-Ok-clause-ok : goal.returns-in-Ok-clause-ok
@@ -37,3 +37,16 @@ returns-in-Err-clause-duplicate c =
     let error = c.in-Err.ensures.errors in
     let none = all_shown_past inside.names (texts_of inside.kinds) inside.properties c.args.key inside.entities (c.in-Err.ensures.out_of_bounds.0 (ap Err error)) in
     rw (← c.self.view_is) (λ is. absurd (cc (is, error)), λ other. absurd (none-some other.0 (sym none ∙ other.1)))
+
+pub returns-in-Ok-clause-same : goal.returns-in-Ok-clause-same
+returns-in-Ok-clause-same c =
+    let inside = c.self.inside in let named = c.in-Ok.named.now in
+    let here = shown inside.names (texts_of inside.kinds) inside.properties c.args.key named in
+    let at = all_shown_at inside.names (texts_of inside.kinds) inside.properties c.args.key inside.entities named c.in-Ok.ensures.item in
+    rw (← c.self.view_is) (λ entity there kind_is. c.rename.ensures.same (ap (λ (e : Entity). e.kind) (same_Some here entity (sym at ∙ there)) ∙ kind_is))
+
+pub returns-in-Err-clause-same : goal.returns-in-Err-clause-same
+returns-in-Err-clause-same c =
+    let inside = c.self.inside in
+    let none = all_shown_past inside.names (texts_of inside.kinds) inside.properties c.args.key inside.entities (c.in-Err.ensures.out_of_bounds.0 (ap Err c.in-Err.ensures.errors)) in
+    rw (← c.self.view_is) (λ entity there kind_is. absurd (none-some entity (sym none ∙ there)))
