@@ -23,30 +23,69 @@ const TEXTS: u64 = 1000;
 /// How often each program is timed. The least time counts.
 const TURNS: usize = 7;
 
-/// The scripts: what their lines do, the line that is made of a number, and the lines before.
-const SCRIPTS: [(&str, fn(u64) -> String, &str); 9] = [
+/// The scripts: what their lines do, the line that is made of a number, and the line before of a number, if there are
+/// lines before.
+type Script = (&'static str, fn(u64) -> String, Option<fn(u64) -> String>);
+
+const SCRIPTS: [Script; 14] = [
     (
         "`a`, a text of its own",
         |i| format!("a local_{}", mixed(i)),
-        "",
+        None,
     ),
-    ("`g`", |i| format!("g {}", mixed(i) % TEXTS), "a"),
-    ("`p`", |i| format!("p {}", mixed(i)), ""),
-    ("`n`", |_| "n".to_owned(), "a"),
-    ("`d`, new texts", |i| format!("d local_{}", mixed(i)), ""),
+    (
+        "`g`",
+        |i| format!("g {}", mixed(i) % TEXTS),
+        Some(|i| format!("a text_{i}")),
+    ),
+    ("`p`", |i| format!("p {}", mixed(i)), None),
+    ("`n`", |_| "n".to_owned(), Some(|i| format!("a text_{i}"))),
+    ("`d`, new texts", |i| format!("d local_{}", mixed(i)), None),
     (
         "`d`, texts that are there",
         |i| format!("d text_{}", mixed(i) % TEXTS),
-        "d",
+        Some(|i| format!("d text_{i}")),
     ),
-    ("`i`, new texts", |i| format!("i local_{}", mixed(i)), ""),
+    ("`i`, new texts", |i| format!("i local_{}", mixed(i)), None),
     (
         "`i`, texts that are there",
         |i| format!("i text_{}", mixed(i) % TEXTS),
-        "i",
+        Some(|i| format!("i text_{i}")),
     ),
-    ("`r`", |i| format!("r {}", mixed(i) % TEXTS), "i"),
+    (
+        "`r`",
+        |i| format!("r {}", mixed(i) % TEXTS),
+        Some(|i| format!("i text_{i}")),
+    ),
+    (
+        "`e`, new names",
+        |i| format!("e local_{} kind {}", mixed(i), i % KINDS),
+        None,
+    ),
+    (
+        "`e`, names that are there",
+        |i| format!("e text_{} kind {}", mixed(i) % TEXTS, i % KINDS),
+        Some(entity),
+    ),
+    (
+        "`v`",
+        |i| format!("v {} {}", mixed(i) % TEXTS, mixed(i)),
+        Some(entity),
+    ),
+    (
+        "`k`, new kinds",
+        |i| format!("k {} other {}", mixed(i) % TEXTS, mixed(i)),
+        Some(entity),
+    ),
+    ("`q`", |i| format!("q {}", mixed(i) % TEXTS), Some(entity)),
 ];
+
+/// How many kinds there are of entities.
+const KINDS: u64 = 16;
+
+fn entity(number: u64) -> String {
+    format!("e text_{number} kind {}", number % KINDS)
+}
 
 fn main() -> Outcome<ExitCode> {
     let words: Vec<PathBuf> = env::args_os().skip(1).map(PathBuf::from).collect();
@@ -94,12 +133,12 @@ fn print_table(folder: &Path, port: &Path) -> Outcome<()> {
     Ok(())
 }
 
-fn script(line: fn(u64) -> String, before: &str) -> String {
+fn script(line: fn(u64) -> String, before: Option<fn(u64) -> String>) -> String {
     let mut script = String::new();
-    if !before.is_empty() {
+    if let Some(before) = before {
         for number in 0..TEXTS {
             // A `String` takes whatever is written.
-            let _ = writeln!(script, "{before} text_{number}");
+            let _ = writeln!(script, "{}", before(number));
         }
     }
     for number in 0..LINES {

@@ -5,11 +5,9 @@
 mod tests;
 
 use std::process::ExitCode;
-use wasmi_script_lib::run;
+use wasmi_script_lib::{exit_status, run};
 
 fn main(rt: HostRuntime) -> ExitCode {
-    match run(rt.alloc(), &mut rt.stdin(), &mut rt.stdout()) {
-        Ok(()) => ExitCode::SUCCESS,
-        Err(error) => ExitCode::from(error.status()),
-    }
+    let outcome = run(rt.alloc(), &mut rt.stdin(), &mut rt.stdout());
+    ExitCode::from(exit_status(outcome))
 }

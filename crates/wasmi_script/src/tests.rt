@@ -1,9 +1,10 @@
-//! Worked replies, texts and statuses, and readers and writers that go byte by byte or fail.
+//! Worked replies, texts and statuses, readers and writers that go byte by byte or fail, and long scripts.
 
+use std::alloc::Global;
 use std::io;
 use std::io::{ErrorKind, Read, Write};
 use std::test::Fail;
-use wasmi_script_lib::{ScriptError, answer, run};
+use wasmi_script_lib::{ScriptError, answer, exit_status, run};
 
 #[test]
 fn replies(rt: HostRuntime) -> Result<(), Fail> {
@@ -33,6 +34,25 @@ fn replies(rt: HostRuntime) -> Result<(), Fail> {
             "bad line 1\nbad line 2\nkey 0\nsym 0\ntext \nkey 0\ntext \nkey 1\n\
                 counts 1 2 1 32\n",
         ),
+        (
+            "e ann user\ne bob user\ne ann group\nv 1 42\nv 1 7\nk 0 admin\nq 1\nq 2\n\
+                k 2 admin\nk 5 admin\nq 5\nq\nn\ne x\nv 0 x\ne ann \n",
+            "entity 0\nentity 1\nentity 2\nwas none\nwas 42\ndone\nis 7 bob admin\n\
+                is none ann group\nerror item is already in the arena\n\
+                error encounteded out of bounds key\nerror encounteded out of bounds key\n\
+                bad line 12\ncounts 0 0 0 0\nbad line 14\nbad line 15\nentity 3\n",
+        ),
+        (
+            "e a b c \nq 0\nk 0 \nq 00\ne  k\ne\ne \nv 0\nv 0 \nv 0 +1\nv 0 1 2\nk 0\nk  x\nk 0  x\n\
+                q 0\nv 4294967296 1\nv 18446744073709551616 1\nv 0 18446744073709551615\n\
+                k 4294967295 x\nk 4294967296 x\nq 4294967296\nq 18446744073709551616\nq 0 \nq 0",
+            "entity 0\nis none a b c \ndone\nis none a \nbad line 5\nbad line 6\nbad line 7\nbad line 8\n\
+                bad line 9\nbad line 10\nbad line 11\nbad line 12\nbad line 13\ndone\n\
+                is none a  x\nerror encounteded out of bounds key\nbad line 17\nwas none\n\
+                error encounteded out of bounds key\nerror encounteded out of bounds key\n\
+                error encounteded out of bounds key\nbad line 22\nbad line 23\n\
+                is 18446744073709551615 a  x\n",
+        ),
     ];
     for (script, wanted) in cases {
         let replies = answer(rt.alloc(), script)?;
@@ -56,30 +76,37 @@ fn errors_have_texts_and_statuses(rt: HostRuntime) -> Result<(), Fail> {
     Ok(())
 }
 
-/// Where a reader or a writer fails.
-#[derive(Clone, Copy, Debug, PartialEq, Eq)]
-enum Fault {
-    None,
-    Read,
-    Write,
-    WriteOfNone,
-    Flush,
-}
-
-/// Gives one byte a read, and at its end nothing or the fault.
+/// Gives one byte a read, and fails at the read of this number, from 1.
 #[derive(Drop)]
 struct Source {
     bytes: &'static [u8],
-    fault: Fault,
+    reads: u64,
+    fails_at: u64,
+    error: ErrorKind,
+    least_room: usize,
+}
+
+impl Source {
+    fn new(bytes: &'static [u8], fails_at: u64) -> Source {
+        Source {
+            bytes,
+            reads: 0,
+            fails_at,
+            error: ErrorKind::Other,
+            least_room: usize::MAX,
+        }
+    }
 }
 
 impl Read for Source {
     fn read(&mut self, buffer: &mut [u8]) -> io::Result<usize> {
+        self.reads = self.reads.wrapping_add(1);
+        self.least_room = self.least_room.min(buffer.len());
+        if self.reads == self.fails_at {
+            return Err(self.error.into());
+        }
         let Some((first, rest)) = self.bytes.split_first() else {
-            return match self.fault {
-                Fault::Read => Err(ErrorKind::Other.into()),
-                _ => Ok(0),
-            };
+            return Ok(0);
         };
         let Some(place) = buffer.first_mut() else {
             return Ok(0);
@@ -90,76 +117,152 @@ impl Read for Source {
     }
 }
 
-/// Takes one byte a write, and after three of them the fault.
+/// How a writer takes no more.
+#[derive(Clone, Copy, Debug, PartialEq, Eq)]
+enum Fault {
+    Fails,
+    TakesNothing,
+}
+
+/// Takes one byte a write, but for the write of this number, from 1.
 #[derive(Drop)]
 struct Sink {
     bytes: Vec<u8>,
+    writes: u64,
+    fails_at: u64,
     fault: Fault,
+    flush_fails: bool,
+}
+
+impl Sink {
+    fn new(alloc: Global, fails_at: u64) -> Sink {
+        Sink {
+            bytes: Vec::new(alloc),
+            writes: 0,
+            fails_at,
+            fault: Fault::Fails,
+            flush_fails: false,
+        }
+    }
 }
 
 impl Write for Sink {
     fn write(&mut self, buffer: &[u8]) -> io::Result<usize> {
-        match (self.fault, self.bytes.len(), buffer.first()) {
-            (Fault::Write, 3, _) => Err(ErrorKind::Other.into()),
-            (Fault::WriteOfNone, 3, _) | (_, _, None) => Ok(0),
-            (_, _, Some(byte)) => {
+        self.writes = self.writes.wrapping_add(1);
+        if self.writes == self.fails_at {
+            return match self.fault {
+                Fault::Fails => Err(ErrorKind::Other.into()),
+                Fault::TakesNothing => Ok(0),
+            };
+        }
+        match buffer.first() {
+            Some(byte) => {
                 self.bytes.push(*byte)?;
                 Ok(1)
             }
+            None => Ok(0),
         }
     }
 
     fn flush(&mut self) -> io::Result<()> {
-        match self.fault {
-            Fault::Flush => Err(ErrorKind::Other.into()),
-            _ => Ok(()),
+        if self.flush_fails {
+            Err(ErrorKind::Other.into())
+        } else {
+            Ok(())
         }
     }
 }
 
+// The reader gives one byte a read. It fails at no read, the first, the second, or that of the end.
 #[test]
-fn runs_byte_by_byte(rt: HostRuntime) -> Result<(), Fail> {
-    let cases: [(&'static [u8], Fault, Result<(), ScriptError>, &'static [u8]); 7] = [
-        (
-            b"a x\ng 0\nlast",
-            Fault::None,
-            Ok(()),
-            b"key 0\ntext x\nbad line 3\n",
-        ),
-        (b"", Fault::None, Ok(()), b""),
-        (b"\xff\n", Fault::None, Err(ScriptError::NotUtf8), b""),
-        (b"a x\n", Fault::Read, Err(ScriptError::ReadFailed), b""),
-        (
-            b"a x\n",
-            Fault::Write,
-            Err(ScriptError::WriteFailed),
-            b"key",
-        ),
-        (
-            b"a x\n",
-            Fault::WriteOfNone,
-            Err(ScriptError::WriteFailed),
-            b"key",
-        ),
-        (
-            b"a x\n",
-            Fault::Flush,
-            Err(ScriptError::WriteFailed),
-            b"key 0\n",
-        ),
+fn a_read_fails(rt: HostRuntime) -> Result<(), Fail> {
+    let cases: [(&'static [u8], u64, Result<(), ScriptError>, &'static [u8], u8); 7] = [
+        (b"a x\ng 0\nlast", 0, Ok(()), b"key 0\ntext x\nbad line 3\n", 0),
+        (b"", 0, Ok(()), b"", 0),
+        (b"\xff\n", 0, Err(ScriptError::NotUtf8), b"", 2),
+        (b"a x\n", 1, Err(ScriptError::ReadFailed), b"", 1),
+        (b"a x\n", 2, Err(ScriptError::ReadFailed), b"", 1),
+        (b"a x\n", 5, Err(ScriptError::ReadFailed), b"", 1),
+        (b"a x\n", 6, Ok(()), b"key 0\n", 0),
     ];
-    for (bytes, fault, wanted, written) in cases {
-        let mut source = Source { bytes, fault };
-        let mut sink = Sink {
-            bytes: Vec::new(rt.alloc()),
-            fault,
-        };
-        assert_eq!(rt;
-            run(rt.alloc(), &mut source, &mut sink),
-            wanted,
-            "with {fault:?}"
-        );
-        assert_eq!(rt; sink.bytes.as_slice(), written, "with {fault:?}");
+    for (bytes, fails_at, wanted, written, status) in cases {
+        let mut source = Source::new(bytes, fails_at);
+        let mut sink = Sink::new(rt.alloc(), 0);
+        let outcome = run(rt.alloc(), &mut source, &mut sink);
+        assert_eq!(rt; outcome, wanted, "at {fails_at}");
+        assert_eq!(rt; exit_status(outcome), status, "at {fails_at}");
+        assert_eq!(rt; sink.bytes.as_slice(), written, "at {fails_at}");
     }
+    Ok(())
+}
+
+// The writer takes one byte a write. It fails at the first, the second, the fourth, or when it is flushed.
+#[test]
+fn a_write_fails(rt: HostRuntime) -> Result<(), Fail> {
+    let cases: [(&'static [u8], u64, Fault, bool, &'static [u8]); 6] = [
+        (b"a x\n", 1, Fault::Fails, false, b""),
+        (b"a x\n", 2, Fault::Fails, false, b"k"),
+        (b"a x\n", 4, Fault::Fails, false, b"key"),
+        (b"a x\n", 4, Fault::TakesNothing, false, b"key"),
+        (b"a x\n", 0, Fault::Fails, true, b"key 0\n"),
+        (b"", 0, Fault::Fails, true, b""),
+    ];
+    for (bytes, fails_at, fault, flush_fails, written) in cases {
+        let mut source = Source::new(bytes, 0);
+        let mut sink = Sink::new(rt.alloc(), fails_at);
+        sink.fault = fault;
+        sink.flush_fails = flush_fails;
+        let outcome = run(rt.alloc(), &mut source, &mut sink);
+        assert_eq!(rt; outcome, Err(ScriptError::WriteFailed), "at {fails_at}");
+        assert_eq!(rt; exit_status(outcome), 1, "at {fails_at}");
+        assert_eq!(rt; sink.bytes.as_slice(), written, "at {fails_at}");
+    }
+    Ok(())
+}
+
+// An interrupted read ends the program. A read has room for a page at least.
+#[test]
+fn reads_are_large_and_not_tried_again(rt: HostRuntime) -> Result<(), Fail> {
+    let mut source = Source::new(b"a x\n", 2);
+    source.error = ErrorKind::Interrupted;
+    let mut sink = Sink::new(rt.alloc(), 0);
+    let outcome = run(rt.alloc(), &mut source, &mut sink);
+    assert_eq!(rt; outcome, Err(ScriptError::ReadFailed));
+    assert_eq!(rt; source.reads, 2);
+    assert!(rt; source.least_room >= 4096);
+    Ok(())
+}
+
+// 5,000 reads, of a byte each.
+#[test]
+fn many_reads(rt: HostRuntime) -> Result<(), Fail> {
+    let mut source = Source::new(&[b'\n'; 5_000], 0);
+    let mut sink = Sink::new(rt.alloc(), 0);
+    assert_eq!(rt; run(rt.alloc(), &mut source, &mut sink), Ok(()));
+    assert_eq!(rt; source.reads, 5_001);
+    assert!(rt; sink.bytes.ends_with(b"bad line 4999\nbad line 5000\n"));
+    Ok(())
+}
+
+// 200,000 lines, and 17 MiB of replies.
+#[test]
+fn long_scripts(rt: HostRuntime) -> Result<(), Fail> {
+    let mut script = String::new(rt.alloc());
+    for _ in 0..200_000u32 {
+        script.push_str("n\n")?;
+    }
+    let replies = answer(rt.alloc(), &script)?;
+    assert_eq!(rt; replies.lines().count(), 200_000);
+    assert!(rt; replies.lines().all(|line| line == "counts 0 0 0 0"));
+    let mut script = String::new(rt.alloc());
+    script.push_str("a ")?;
+    for _ in 0..65_536u32 {
+        script.push_str("0123456789abcdef")?;
+    }
+    for _ in 0..17u32 {
+        script.push_str("\ng 0")?;
+    }
+    let replies = answer(rt.alloc(), &script)?;
+    assert_eq!(rt; replies.len(), 6 + 17 * (6 + (1 << 20)));
     Ok(())
 }

@@ -1,4 +1,5 @@
 pub mod DistinctLemmas
+pub mod EntityLemmas
 pub mod LineLemmas
 pub mod NumberLemmas
 pub mod OutputLemmas

@@ -1,7 +1,10 @@
 -- What a store shows, after each call.
-use Rattle.std.proofs.Common.{◌≡◌, ◌⊎◌, ℕ, zero, suc, ◌+◌, ◌<◌, ◌≤◌, ◌^◌, Bool, true, false, cond, List, [], ◌∷◌, ◌++◌, length, map, slice_get, slice_set, slice_index_or, Option, Some, None, option_map, Result, Ok, Err, IfOk, OnOk, OnErr, IsErrOf, refl, ap, ◌∙◌, subst, sym, inl, inr, arith, length-append, true≢false}
-use Rattle.std.specs.List.{AllByRecursion, IsDistinct}
+use Rattle.std.proofs.Common.{◌≡◌, ◌⊎◌, ℕ, zero, suc, ◌+◌, ◌<◌, ◌≤◌, ◌^◌, Bool, true, false, cond, List, [], ◌∷◌, ◌++◌, length, map, slice_get, slice_set, slice_index_or, Option, Some, None, option_map, Result, Ok, Err, IfOk, OnOk, OnErr, IsErrOf, refl, ap, ◌∙◌, subst, sym, inl, inr, arith, length-append, ltb, true≢false}
+use Rattle.std.specs.Prelude.{◌≢◌, ◌↔◌, IsSome, is_some, not, ◌&&◌}
+use Rattle.std.specs.List.{AllByRecursion, IsDistinct, position_or_len}
 use Rattle.std.specs.Str.{bytes_eq}
+use Rattle.std.proofs.lemmas.Bool.{lt-ltb, ltb-true}
+use Rattle.std.proofs.lemmas.Bool.Decides.{nat_tests}
 use Rattle.std.proofs.lemmas.List.{get_or_append_left, get_or_past, get_or-map}
 use Rattle.std.proofs.lemmas.Option.{get_or_from_slice_get, none-some, same_Some, slice_get_past, slice_get_within}
 use Rattle.std.proofs.lemmas.Slice.Eq.{bytes_eq-Decides}
@@ -11,8 +14,8 @@ use Rattle.wasmi_arena.specs.Keys.{own_keys}
 use Rattle.wasmi_arena.specs.declared.error.ArenaError.{ArenaError}
 use Rattle.wasmi_arena.specs.declared.error.ArenaError.TheVariants.{NotEnoughKeys}
 use Rattle.wasmi_collections.specs.Interner.{symbol_of, AreDistinctTexts}
-use Rattle.wasmi_dense.specs.Components.{component_at, ChangesAt}
-use Rattle.wasmi_script_lib.specs.Store.{Entity, texts_with, with_new, with_entity, with_property, with_renamed, IsFullFor, KeepsEntities, entities_with_property, renamed, with_renamed_kind, shown, all_shown, store_of, IsSound}
+use Rattle.wasmi_dense.specs.Components.{component_at, extent, ChangesAt}
+use Rattle.wasmi_script_lib.specs.Store.{Entity, Store, texts_with, with_new, with_entity, with_property, with_renamed, IsFullFor, KeepsEntities, entities_with_property, is_other_kind, renamed, with_renamed_kind, shown, all_shown, store_of, IsSound}
 use Rattle.wasmi_script_lib.specs.declared.store.Named.{Named}
 
 -- ---- texts
@@ -60,6 +63,21 @@ at_place P i x [] all at = absurd (none-some x at)
 at_place P zero x (y ∷ ys) all at = subst P (same_Some y x at) all.0
 at_place P (suc i) x (y ∷ ys) all at = at_place P i x ys all.1 at
 
+-- a text that stands among others has a place there
+first_before : {X : Type 0} (p : X → Bool) (d : X) (i : ℕ) (xs : List X) → i < length xs → p (slice_index_or xs i d) ≡ true → position_or_len p xs < length xs
+first_before p d i [] low at = absurd (omega (arith, low))
+first_before p d zero (x ∷ xs) low at = rw at (omega arith)
+first_before p d (suc i) (x ∷ xs) low at = next (p x) (first_before p d i xs (omega (arith, low)) at)
+  where
+    next : (b : Bool) → position_or_len p xs < length xs → cond (not b) (1 + position_or_len p xs) 0 < suc (length xs)
+    next true less = omega arith
+    next false less = omega (arith, less)
+
+is_text : (texts : List (List ℕ)) (i : ℕ) → i < length texts → IsSome (symbol_of texts (slice_index_or texts i []))
+is_text texts i low =
+    let text = slice_index_or texts i [] in
+    rw (lt-ltb _ _ (first_before (bytes_eq text) [] i texts low ((bytes_eq-Decides text text).1 refl))) refl
+
 -- ---- a kind that is renamed
 
 module _ (old new : List ℕ) where
@@ -104,6 +122,19 @@ no_place_found None is = refl
 pub renamed-again : (kinds : List (List ℕ)) (number : ℕ) (text : List ℕ) → slice_get kinds number ≡ Some text → kinds ≡ map (renamed (slice_index_or kinds number []) text) kinds
 renamed-again kinds number text reads = rw (get_or_from_slice_get kinds number text [] reads) (sym (same_renamed text text kinds))
 
+-- what it is for a kind to be another one
+pub tells_other : (store : Store) (entity : Entity) (kind : List ℕ) → (is_other_kind store entity kind ≡ true) ↔ ((entity.kind ≢ kind) × IsSome (symbol_of store.kinds kind))
+tells_other store entity kind = next (bytes_eq entity.kind kind) refl
+  where
+    there : Bool
+    there = is_some (symbol_of store.kinds kind)
+    next : (b : Bool) → bytes_eq entity.kind kind ≡ b → (is_other_kind store entity kind ≡ true) ↔ ((entity.kind ≢ kind) × IsSome (symbol_of store.kinds kind))
+    next true is = (λ other. absurd (true≢false (sym other ∙ ap (λ b. not b && there) is)), λ parts. absurd (parts.0 ((bytes_eq-Decides entity.kind kind).0 is)))
+    next false is = (
+      λ other. (λ same. true≢false (sym ((bytes_eq-Decides entity.kind kind).1 same) ∙ is), sym (ap (λ b. not b && there) is) ∙ other),
+      λ parts. ap (λ b. not b && there) is ∙ parts.1,
+    )
+
 -- ---- what is shown
 
 module _ (names kinds : List (List ℕ)) (properties : List (Option ℕ)) where
@@ -143,6 +174,17 @@ module _ (names kinds : List (List ℕ)) (properties : List (Option ℕ)) where
           none-at (x ∷ xs) zero low is = none-some x (sym is)
           none-at (x ∷ xs) (suc k) low is = none-at xs k (omega (arith, low)) is
 
+  -- one with a property has a number below the extent
+  pub below_extent : (key : ℕ) (entity : Entity) (entities : List Named) → slice_get (all_shown names kinds properties 0 entities) key ≡ Some entity → IsSome entity.property → key < extent properties
+  below_extent key entity entities at has =
+      let low : key < length entities = omega (arith, slice_get_within (all_shown names kinds properties 0 entities) key entity at, all_shown_length 0 entities) in
+      let property : entity.property ≡ component_at properties key = same_Some entity.property (component_at properties key) (sym (ap (option_map (λ (e : Entity). e.property)) at) ∙ all_shown_slot key entities low) in
+      next (ltb key (extent properties)) refl property
+    where
+      next : (b : Bool) → ltb key (extent properties) ≡ b → entity.property ≡ component_at properties key → key < extent properties
+      next true low property = ltb-true _ _ low
+      next false high property = absurd (true≢false (sym has ∙ ap is_some (property ∙ get_or_past properties key None (grind (arith, nat_tests)))))
+
   pub all_shown_append : (number : ℕ) (entities : List Named) (last : Named) → all_shown names kinds properties number (entities ++ last ∷ []) ≡ all_shown names kinds properties number entities ++ shown names kinds properties (number + length entities) last ∷ []
   all_shown_append number [] last = ap (λ n. shown names kinds properties n last ∷ []) (omega arith)
   all_shown_append number (e ∷ es) last =
@@ -150,6 +192,11 @@ module _ (names kinds : List (List ℕ)) (properties : List (Option ℕ)) where
 
   abbrev IsNamed : Named → Type 0
   IsNamed named = (named.name < length names) × (named.kind < length kinds)
+
+  -- each entity's name and kind are among the names and the kinds
+  pub listed : (number : ℕ) (entities : List Named) → AllByRecursion IsNamed entities → AllByRecursion (λ (entity : Entity). IsSome (symbol_of names entity.name) × IsSome (symbol_of kinds entity.kind)) (all_shown names kinds properties number entities)
+  listed number [] named = tt
+  listed number (e ∷ es) named = ((is_text names e.name named.0.0, is_text kinds e.kind named.0.1), listed (number + 1) es named.1)
 
   -- more names and kinds change no entity
   module _ (more_names more_kinds : List (List ℕ)) (grows : Grows names more_names) (kinds_grow : Grows kinds more_kinds) where

@@ -2,8 +2,9 @@ pub mod Lines
 pub mod Requests
 pub mod Meanings
 pub mod Distinct
+pub mod Store
 pub mod Replies
+pub mod States
 pub mod Outputs
 pub mod Sessions
 pub mod Statuses
-pub mod Store

@@ -1,7 +1,7 @@
 -- What a parsed line asks for.
 use Rattle.wasmi_script_lib.specs.Requests as request
 use Rattle.wasmi_script_lib.specs.declared.line.Line.{Line}
-use Rattle.wasmi_script_lib.specs.declared.line.Line.TheVariants.{Alloc, Get, Place, Count, Dedup, Intern, Resolve}
+use Rattle.wasmi_script_lib.specs.declared.line.Line.TheVariants.{Alloc, Get, Place, Count, Dedup, Intern, Resolve, AddEntity, SetProperty, RenameKind, GetEntity}
 
 abbrev pub meaning_of : Line → request.Request
 meaning_of (Alloc text) = request.Alloc text.now
@@ -11,3 +11,7 @@ meaning_of Count = request.Count
 meaning_of (Dedup text) = request.Dedup text.now
 meaning_of (Intern text) = request.Intern text.now
 meaning_of (Resolve symbol) = request.Resolve symbol
+meaning_of (AddEntity name kind) = request.AddEntity name.now kind.now
+meaning_of (SetProperty key property) = request.SetProperty key property
+meaning_of (RenameKind key kind) = request.RenameKind key kind.now
+meaning_of (GetEntity key) = request.GetEntity key

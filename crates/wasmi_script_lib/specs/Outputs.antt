@@ -2,26 +2,26 @@
 use Rattle.std.specs.Prelude.{ℕ, ◌+◌, List, [], ◌∷◌, ◌++◌, Option, Some, None, codes, decimal}
 use Rattle.wasmi_script_lib.specs.Lines.{lines_of}
 use Rattle.wasmi_script_lib.specs.Requests.{Request, request_of}
-use Rattle.wasmi_script_lib.specs.Replies.{Texts, no_texts, reply_to, texts_after}
+use Rattle.wasmi_script_lib.specs.States.{State, empty, reply_to, state_after}
 
 -- the reply to the line of this number: where it asks for nothing, that it is bad
-abbrev pub line_reply : Texts → ℕ → Option Request → List ℕ
-line_reply texts number (Some request) = reply_to texts request
-line_reply texts number None = codes "bad line " ++ decimal number
+abbrev pub line_reply : State → ℕ → Option Request → List ℕ
+line_reply state number (Some request) = reply_to state request
+line_reply state number None = codes "bad line " ++ decimal number
 
--- the texts after a line: one that asks for nothing changes nothing
-abbrev pub texts_after_line : Texts → Option Request → Texts
-texts_after_line texts (Some request) = texts_after texts request
-texts_after_line texts None = texts
+-- the state after a line: one that asks for nothing changes nothing
+abbrev pub state_after_line : State → Option Request → State
+state_after_line state (Some request) = state_after state request
+state_after_line state None = state
 
 -- the replies to these lines, each ended by a line feed, where so many lines came before and left
--- these texts
-abbrev pub output_from : Texts → ℕ → List (List ℕ) → List ℕ
-output_from texts before [] = []
-output_from texts before (line ∷ lines) =
-    line_reply texts (before + 1) (request_of line)
-    ++ 10 ∷ output_from (texts_after_line texts (request_of line)) (before + 1) lines
+-- this state
+abbrev pub output_from : State → ℕ → List (List ℕ) → List ℕ
+output_from state before [] = []
+output_from state before (line ∷ lines) =
+    line_reply state (before + 1) (request_of line)
+    ++ 10 ∷ output_from (state_after_line state (request_of line)) (before + 1) lines
 
--- the replies to all lines of an input, from no text and line 1 on
+-- the replies to all lines of an input, from nothing and line 1 on
 abbrev pub output_of : List ℕ → List ℕ
-output_of input = output_from no_texts 0 (lines_of input)
+output_of input = output_from empty 0 (lines_of input)

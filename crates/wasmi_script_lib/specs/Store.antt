@@ -1,5 +1,5 @@
 -- A store of entities, each of which has a name, a kind and perhaps a property.
-use Rattle.std.specs.Prelude.{◌≡◌, ◌≢◌, ℕ, zero, suc, ◌+◌, ◌<◌, ◌≤◌, ◌^◌, ◌⊎◌, List, [], ◌∷◌, ◌++◌, length, map, if◌then◌else◌, Option, None, Some, IsSome, slice_get, slice_index_or}
+use Rattle.std.specs.Prelude.{◌≡◌, ℕ, zero, suc, ◌+◌, ◌<◌, ◌≤◌, ◌^◌, ◌⊎◌, List, [], ◌∷◌, ◌++◌, length, map, if◌then◌else◌, Bool, true, not, ◌&&◌, is_some, Option, None, Some, IsSome, slice_get, slice_index_or}
 use Rattle.std.specs.List.{AllByRecursion}
 use Rattle.std.specs.Str.{bytes_eq}
 use Rattle.wasmi_arena.specs.Geometry.{max_len}
@@ -18,6 +18,14 @@ pub record Store : Type 0 where
   pub names : List (List ℕ)
   pub kinds : List (List ℕ)
   pub entities : List Entity
+
+abbrev pub no_entities : Store
+no_entities = record { names = []; kinds = []; entities = [] }
+
+-- an entity's name is among the names, and its kind among the kinds
+abbrev pub IsListed : Store → Entity → Type 0
+IsListed store entity =
+    IsSome (symbol_of store.names entity.name) × IsSome (symbol_of store.kinds entity.kind)
 
 -- the texts, with this one at the end if it has no place among them
 abbrev pub texts_with : List (List ℕ) → List ℕ → Option ℕ → List (List ℕ)
@@ -78,11 +86,16 @@ abbrev pub RenamesKind : Store → ℕ → List ℕ → Store → Type 0
 RenamesKind old key kind new =
     (entity : Entity) × (slice_get old.entities key ≡ Some entity) × (new ≡ with_renamed old entity.kind kind)
 
--- the entity under this key is of another kind, and this is a kind
+-- whether an entity is of another kind, and this is a kind
+abbrev pub is_other_kind : Store → Entity → List ℕ → Bool
+is_other_kind store entity kind =
+    not (bytes_eq entity.kind kind) && is_some (symbol_of store.kinds kind)
+
+-- there is an entity under this key, for which this is another kind
 abbrev pub IsOtherKind : Store → ℕ → List ℕ → Type 0
 IsOtherKind store key kind =
-    (entity : Entity) × (slice_get store.entities key ≡ Some entity) × (entity.kind ≢ kind)
-    × IsSome (symbol_of store.kinds kind)
+    (entity : Entity) × (slice_get store.entities key ≡ Some entity)
+    × (is_other_kind store entity kind ≡ true)
 
 -- How a store is kept: its names and kinds, the properties of numbers, and for each entity the numbers of
 -- its name and its kind

@@ -1,5 +1,6 @@
 //! How a script's program fails.
 ghost use Rattle.std.specs.Prelude.{◌≡◌};
+ghost use Rattle.wasmi_script_lib.specs.Statuses.{exit_status_of, status_of};
 
 use thiserror::Error;
 
@@ -21,8 +22,6 @@ pub enum ScriptError {
 }
 
 impl ScriptError {
-    ghost use Rattle.wasmi_script_lib.specs.Statuses.{status_of};
-
     /// The exit status of a program that ends with this error. Constant time.
     pub fn status(&self) -> u8
         ensures { result ≡ status_of self.now }
@@ -31,5 +30,16 @@ impl ScriptError {
             ScriptError::NoMemory | ScriptError::ReadFailed | ScriptError::WriteFailed => 1,
             ScriptError::NotUtf8 => 2,
         }
+    }
+}
+
+/// The exit status of a program that ends so: 0 for `Ok`, else [that of the error](ScriptError::status).
+/// Constant time.
+pub fn exit_status(outcome: Result<(), ScriptError>) -> u8
+    ensures { result ≡ exit_status_of outcome }
+{
+    match outcome {
+        Ok(()) => 0,
+        Err(error) => error.status(),
     }
 }

@@ -1,5 +1,5 @@
-//! A script of commands to an arena of texts, a deduplicating arena and an interner: each line of the
-//! input is a command, and gets one line of reply.
+//! A script of commands to an arena of texts, a deduplicating arena, an interner and a store of entities:
+//! each line of the input is a command, and gets one line of reply.
 //!
 //! | Line | Reply |
 //! |---|---|
@@ -10,9 +10,13 @@
 //! | `d TEXT` | `key N`, the key of the text in the deduplicating arena; or an error |
 //! | `i TEXT` | `sym N`, the symbol of the text; or an error |
 //! | `r N` | `text T`, the text of that symbol, or `none` |
+//! | `e NAME KIND` | `entity N`, the key of a new entity; or an error |
+//! | `v N M` | `was V`, the property that the entity had before, or `was none`; or an error |
+//! | `k N KIND` | `done`: its kind has this name now; or an error |
+//! | `q N` | `is V NAME KIND`, all of the entity; or an error |
 //! | anything else | `bad line N`, the number of the line, from 1 |
 //!
-//! An error is `error` and the container's own text. Each of the three has keys of its own.
+//! An error is `error` and the container's own text. Each of the four has keys of its own.
 #![tactic(auto)]
 
 mod error;
@@ -21,7 +25,7 @@ mod program;
 mod session;
 mod store;
 
-pub use error::ScriptError;
+pub use error::{ScriptError, exit_status};
 pub use program::run;
 pub use session::answer;
 pub use store::{EntityKey, EntityStore};

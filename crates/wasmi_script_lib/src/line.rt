@@ -1,7 +1,8 @@
 //! One line of a script.
 ghost use Rattle.std.specs.Prelude.{◌≡◌};
 ghost use Rattle.std.specs.Option.{option_map};
-ghost use Rattle.wasmi_script_lib.specs.Requests.{number_of, request_of};
+ghost use Rattle.wasmi_script_lib.specs.Meanings.{meaning_of};
+ghost use Rattle.wasmi_script_lib.specs.Requests.{add_of, number_of, parts_of, rename_of, request_of, set_of};
 
 /// What a line of a script asks for.
 #[derive(Clone, Copy, Debug, PartialEq, Eq)]
@@ -20,13 +21,19 @@ pub enum Line<'a> {
     Intern(&'a str),
     /// Find the text of a symbol.
     Resolve(usize),
+    /// Add an entity of this name and this kind.
+    AddEntity(&'a str, &'a str),
+    /// Give the entity of a key a property.
+    SetProperty(usize, usize),
+    /// Rename the kind of the entity of a key.
+    RenameKind(usize, &'a str),
+    /// Find the entity of a key.
+    GetEntity(usize),
 }
 
 impl<'a> Line<'a> {
-    ghost use Rattle.wasmi_script_lib.specs.Meanings.{meaning_of};
-
     /// Reads a line, given without its line feed. `None` if it asks for nothing. Constant time, but for
-    /// the digits of a number.
+    /// the digits of a number, and for the part before a space.
     pub fn parse(line: &'a str) -> Option<Line<'a>>
         ensures { option_map meaning_of result ≡ request_of line.now }
     {
@@ -41,9 +48,47 @@ impl<'a> Line<'a> {
             "d " => Some(Line::Dedup(argument)),
             "i " => Some(Line::Intern(argument)),
             "r " => Some(Line::Resolve(number(argument)?)),
+            "e " => add(argument),
+            "v " => set(argument),
+            "k " => rename(argument),
+            "q " => Some(Line::GetEntity(number(argument)?)),
             _ => None,
         }
     }
+}
+
+/// `NAME KIND`, where the name isn't empty.
+fn add(argument: &str) -> Option<Line<'_>>
+    ensures { option_map meaning_of result ≡ add_of (parts_of argument.now) }
+{
+    let (name, kind) = parts(argument)?;
+    if name.is_empty() {
+        return None;
+    }
+    Some(Line::AddEntity(name, kind))
+}
+
+/// `N M`.
+fn set(argument: &str) -> Option<Line<'_>>
+    ensures { option_map meaning_of result ≡ set_of (parts_of argument.now) }
+{
+    let (key, property) = parts(argument)?;
+    Some(Line::SetProperty(number(key)?, number(property)?))
+}
+
+/// `N KIND`.
+fn rename(argument: &str) -> Option<Line<'_>>
+    ensures { option_map meaning_of result ≡ rename_of (parts_of argument.now) }
+{
+    let (key, kind) = parts(argument)?;
+    Some(Line::RenameKind(number(key)?, kind))
+}
+
+/// What stands before the first space, and what after it.
+fn parts(argument: &str) -> Option<(&str, &str)>
+    ensures { option_map (λ parts. (parts.0.now, parts.1.now)) result ≡ parts_of argument.now }
+{
+    argument.split_once(' ')
 }
 
 /// The number that one or more ASCII digits name. `None` for any other text, so for one with a sign,

@@ -1,11 +1,12 @@
 //! A store of entities, on top of the containers.
-ghost use Rattle.std.specs.Prelude.{◌≡◌, ◌≢◌, ◌<◌, ◌≤◌, ◌↔◌, ◌⊎◌, ◌^◌, [], length, map, IfOk, IfErr, OnOk, OnErr, IsErrOf, IsOkUnless, IsSome, None, Some, option_map, slice_get, slice_index_or, string_bytes};
+ghost use Rattle.std.specs.Prelude.{◌≡◌, ◌≢◌, ◌<◌, ◌≤◌, ◌↔◌, ◌⊎◌, ◌^◌, [], length, map, IfOk, IfErr, IfNone, IfSome, OnOk, OnErr, IsErrOf, IsOk, IsOkUnless, IsSome, None, Some, option_map, slice_get, slice_index_or, string_bytes};
 ghost use Rattle.std.proofs.Common.{lit≤};
+ghost use Rattle.std.specs.List.{AllByRecursion};
 ghost use Rattle.wasmi_arena.specs.Geometry.{max_len};
 ghost use Rattle.wasmi_arena.specs.Keys.{own_keys};
 ghost use Rattle.wasmi_arena.specs.KeyLaws.{own_keys_law};
 ghost use Rattle.wasmi_collections.specs.Interner.{symbol_of, AreDistinctTexts};
-ghost use Rattle.wasmi_script_lib.specs.Store.{IsFullFor, IsOtherKind, KeepsEntities, RenamesKind, renamed, with_entity, with_new, with_property};
+ghost use Rattle.wasmi_script_lib.specs.Store.{Entity, IsFullFor, IsListed, IsOtherKind, KeepsEntities, RenamesKind, renamed, with_entity, with_new, with_property};
 
 use std::alloc::Global;
 use std::marker::Model;
@@ -105,8 +106,22 @@ impl EntityStore {
     pub fn len(&self) -> usize
         ensures value { result ≡ length self.now.entities }
         ensures most { length self.now.entities ≤ max_len }
+        ensures listed { AllByRecursion (IsListed self.now) self.now.entities }
     {
         self.entities.len()
+    }
+
+    /// The key of this number, if an entity has it. Constant time.
+    #[tactic(auto, using(crate::proofs::StoreLemmas::all_shown_length))]
+    pub(crate) fn key(&self, number: usize) -> Option<EntityKey>
+        ensures there { IfSome result (λ key. (key ≡ number) × (number < length self.now.entities)) }
+        ensures absent { IfNone result (length self.now.entities ≤ number) }
+    {
+        if number < self.entities.len() {
+            EntityKey::from_usize(number)
+        } else {
+            None
+        }
     }
 
     /// The number of names. Constant time.
@@ -172,7 +187,8 @@ impl EntityStore {
     /// Gives an entity a property, and returns the one that it had.
     ///
     /// Fails with `KeyOutOfBounds` if there is no entity under the key, and then with `OutOfSystemMemory` if
-    /// there is no memory. After an error nothing has changed. Constant time, but for growths.
+    /// there is no memory, but not for an entity that has a property. After an error nothing has changed.
+    /// Constant time, but for growths.
     #[tactic(auto, using(crate::proofs::StoreLemmas::all_shown_length))]
     pub fn set(&mut self, key: EntityKey, property: u64) -> Result<Option<u64>, ArenaError>
         ensures old { IfOk result (λ old.
@@ -181,6 +197,8 @@ impl EntityStore {
         ensures out_of_bounds { IsErrOf result ArenaError.KeyOutOfBounds ↔ (length self.old.entities ≤ key) }
         ensures errors { IfErr result (λ error. (error ≡ ArenaError.KeyOutOfBounds)
             ⊎ (error ≡ ArenaError.OutOfSystemMemory)) }
+        ensures there { (entity : Entity) → slice_get self.old.entities key ≡ Some entity
+            → IsSome entity.property → IsOk result }
         ensures err { OnErr result (self.new ≡ self.old) }
     {
         if !self.entities.has(key) {
@@ -219,6 +237,8 @@ impl EntityStore {
         ensures duplicate { IsErrOf result ArenaError.DuplicateItem ↔ IsOtherKind self.old key kind.now }
         ensures errors { IfErr result (λ error. (error ≡ ArenaError.KeyOutOfBounds)
             ⊎ ((error ≡ ArenaError.DuplicateItem) ⊎ (error ≡ ArenaError.OutOfSystemMemory))) }
+        ensures same { (entity : Entity) → slice_get self.old.entities key ≡ Some entity
+            → entity.kind ≡ kind.now → IsOk result }
         ensures err { OnErr result (self.new ≡ self.old) }
     {
         match self.entities.get(key) {
@@ -280,6 +300,7 @@ fn rename(
         × IsSome (symbol_of (map string_bytes kinds.old.handed) kind.now)) }
     ensures errors { IfErr result (λ error. (error ≡ ArenaError.DuplicateItem)
         ⊎ (error ≡ ArenaError.OutOfSystemMemory)) }
+    ensures same { slice_index_or (map string_bytes kinds.old.handed) number [] ≡ kind.now → IsOk result }
     ensures err { OnErr result (kinds.new ≡ kinds.old) }
 {
     texts_handed_in::<usize, Global>();

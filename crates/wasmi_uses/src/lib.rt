@@ -13,6 +13,7 @@ pub mod lookup;
 pub mod properties;
 pub mod reserve;
 pub mod search;
+pub mod spawn;
 pub mod store;
 pub mod symbols;
 pub mod tables;

@@ -12,6 +12,7 @@ use crate::lookup::{any_differs, first_above, read};
 use crate::properties::set_once;
 use crate::reserve::put_both;
 use crate::search::{position_of, push_and_find};
+use crate::spawn::spawn;
 use crate::store::FuncStore;
 use crate::symbols::{Symbols, intern_both};
 use crate::tables::{add_once, add_once_hashed, reset};
@@ -23,6 +24,7 @@ use wasmi_collections::string_interner::Sym;
 use wasmi_collections::{DedupArena, HeadVec, StringInterner, hashed, ordered};
 use wasmi_dense::{Arena, ComponentVec};
 use wasmi_ordered::Map;
+use wasmi_script_lib::EntityStore;
 use wasmi_vectors::assert_equal;
 
 #[test]
@@ -301,6 +303,14 @@ fn entities_with_properties(rt: HostRuntime) -> Result<(), Fail> {
     assert_equal!(rt; entities.get(2), Some(("ann", None)));
     assert_equal!(rt; entities.get(3), None);
     assert!(rt; entities.set(3, 1).is_err());
+    Ok(())
+}
+
+#[test]
+fn an_entity_has_a_property_at_once(rt: HostRuntime) -> Result<(), Fail> {
+    let mut store = EntityStore::new(rt.alloc());
+    let key = spawn(&mut store, "ann", "cat", 7)?;
+    assert_equal!(rt; store.get(key), Ok(("ann", "cat", Some(7))));
     Ok(())
 }
 

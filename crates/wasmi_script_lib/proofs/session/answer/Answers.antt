@@ -10,7 +10,7 @@ pub loop-line-init : goal.loop-line-init
 loop-line-init c =
     let split = c.split_terminator-line-items.ensures in
     let few = length-lines_of-le c.args.text.now in
-    rw (c.into_iter-line-iterator.ensures.into_iter_gives, split.has_more, split.text, c.new-session.ensures.lines, c.new-session.ensures.texts, c.new-session.ensures.replies)
+    rw (c.into_iter-line-iterator.ensures.into_iter_gives, split.has_more, split.text, c.new-session.ensures.lines, c.new-session.ensures.state, c.new-session.ensures.replies)
     (tt, tt, split.pattern, refl, omega (arith, few))
 
 pub loop-line-preserved : goal.loop-line-preserved
@@ -29,7 +29,7 @@ loop-line-preserved c =
     let served = c.in_ok-serve.ensures in
     let whole = rw first at inv.3 in
     let count = rw first at inv.4 in
-    (tt, tt, step.1 ∙ inv.2, output-served _ _ _ line lines _ _ _ _ whole served.reply served.texts served.lines, omega (arith, count, served.lines))
+    (tt, tt, step.1 ∙ inv.2, output-served _ _ _ line lines _ _ _ _ whole served.reply served.state served.lines, omega (arith, count, served.lines))
 
 pub returns-clause-output : goal.returns-clause-output
 returns-clause-output c =

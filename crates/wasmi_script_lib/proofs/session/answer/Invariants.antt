@@ -2,7 +2,7 @@ use Rattle.std.proofs.Common.{◌≡◌, ◌+◌, ◌≤◌, cond, [], ◌++◌,
 use Rattle.std.specs.Str.Iter.{split_text, split_has_more, split_terminator_parts, split_terminator_pattern}
 use Rattle.wasmi_script_lib.specs.Lines.{lines_of}
 use Rattle.wasmi_script_lib.specs.Outputs.{output_from, output_of}
-use Rattle.wasmi_script_lib.specs.Sessions.{texts_of}
+use Rattle.wasmi_script_lib.specs.Sessions.{state_of}
 use Rattle.wasmi_script_lib.proofs.session.answer.Given as goal
 
 abbrev pub invariant-loop-line : goal.invariant-loop-line
@@ -12,5 +12,5 @@ invariant-loop-line l =
     (goal.iterator-loop-line).can_next l.line-iterator
     × (goal.iterator-loop-line).is_finite l.line-iterator
     × (split_terminator_pattern l.line-iterator ≡ 10)
-    × (string_bytes l.session.replies ++ output_from (texts_of l.session) l.session.lines left ≡ output_of l.text)
+    × (string_bytes l.session.replies ++ output_from (state_of l.session) l.session.lines left ≡ output_of l.text)
     × (l.session.lines + length left ≤ length l.text)

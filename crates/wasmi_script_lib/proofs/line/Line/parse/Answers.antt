@@ -10,4 +10,4 @@ returns-in_err-head c =
     let line = c.args.line.now in
     let no_head = λ (letter : _). bytes_eq-no_cut line letter c.utf8.line (λ cuts. false≢true (c.in_err-head.ensures.variant.1 cuts)) in
     let not_n : bytes_eq line (110 ∷ []) ≡ false = sym c.eq.ensures ∙ c.if-eq.false in
-    rw (c.from_residual.ensures, not_n, no_head 97, no_head 103, no_head 112, no_head 100, no_head 105, no_head 114) refl
+    rw (c.from_residual.ensures, not_n, no_head 97, no_head 103, no_head 112, no_head 100, no_head 105, no_head 114, no_head 101, no_head 118, no_head 107, no_head 113) refl

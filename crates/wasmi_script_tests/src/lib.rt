@@ -1,0 +1,5 @@
+//! Tests of the entity store.
+#![tactic(auto)]
+
+#[cfg(test)]
+mod store;

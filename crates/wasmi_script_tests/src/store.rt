@@ -1,0 +1,64 @@
+//! The entity store: worked examples.
+use std::test::Fail;
+use wasmi_arena::{ArenaError, ArenaKey};
+use wasmi_script_lib::{EntityKey, EntityStore};
+use wasmi_vectors::assert_equal;
+
+fn key(number: usize) -> Result<EntityKey, ArenaError> {
+    EntityKey::from_usize(number).ok_or(ArenaError::KeyOutOfBounds)
+}
+
+#[test]
+fn entities_are_added(rt: HostRuntime) -> Result<(), Fail> {
+    let mut store = EntityStore::new(rt.alloc());
+    for (name, kind, number, counts) in [
+        ("ann", "user", 0usize, (1, 1, 1)),
+        ("bob", "user", 1, (2, 2, 1)),
+        ("ann", "group", 2, (3, 2, 2)),
+        ("", "", 3, (4, 3, 3)),
+    ] {
+        assert_equal!(rt; store.add(name, kind)?.into_usize(), number);
+        assert_equal!(rt; (store.len(), store.names(), store.kinds()), counts);
+    }
+    Ok(())
+}
+
+#[test]
+fn properties_are_set_and_taken_out(rt: HostRuntime) -> Result<(), Fail> {
+    let mut store = EntityStore::new(rt.alloc());
+    let ann = store.add("ann", "user")?;
+    let bob = store.add("bob", "user")?;
+    assert_equal!(rt; store.set(bob, 42), Ok(None));
+    assert_equal!(rt; store.set(bob, 7), Ok(Some(42)));
+    assert_equal!(rt; store.get(ann), Ok(("ann", "user", None)));
+    assert_equal!(rt; store.get(bob), Ok(("bob", "user", Some(7))));
+    assert_equal!(rt; store.unset(bob), Ok(Some(7)));
+    assert_equal!(rt; store.unset(bob), Ok(None));
+    let nobody = key(2)?;
+    assert_equal!(rt; store.get(nobody), Err(ArenaError::KeyOutOfBounds));
+    assert_equal!(rt; store.set(nobody, 1), Err(ArenaError::KeyOutOfBounds));
+    assert_equal!(rt; store.unset(nobody), Err(ArenaError::KeyOutOfBounds));
+    Ok(())
+}
+
+#[test]
+fn kinds_are_renamed(rt: HostRuntime) -> Result<(), Fail> {
+    let mut store = EntityStore::new(rt.alloc());
+    for (name, kind) in [("ann", "user"), ("bob", "user"), ("ann", "group")] {
+        let _key = store.add(name, kind)?;
+    }
+    for (number, kind, done) in [
+        (0, "admin", Ok(())),
+        (0, "admin", Ok(())),
+        (2, "admin", Err(ArenaError::DuplicateItem)),
+        (5, "admin", Err(ArenaError::KeyOutOfBounds)),
+        (2, "user", Ok(())),
+    ] {
+        assert_equal!(rt; store.rename_kind(key(number)?, kind), done);
+    }
+    for (number, name, kind) in [(0, "ann", "admin"), (1, "bob", "admin"), (2, "ann", "user")] {
+        assert_equal!(rt; store.get(key(number)?), Ok((name, kind, None)));
+    }
+    assert_equal!(rt; store.kinds(), 2);
+    Ok(())
+}
