@@ -30,8 +30,9 @@ fn properties_are_set_and_taken_out(rt: HostRuntime) -> Result<(), Fail> {
     let bob = store.add("bob", "user")?;
     assert_equal!(rt; store.set(bob, 42), Ok(None));
     assert_equal!(rt; store.set(bob, 7), Ok(Some(42)));
-    assert_equal!(rt; store.get(ann), Ok(("ann", "user", None)));
-    assert_equal!(rt; store.get(bob), Ok(("bob", "user", Some(7))));
+    for (key, name, property) in [(ann, "ann", None), (bob, "bob", Some(7))] {
+        assert_equal!(rt; store.get(key), Ok((name, "user", property)));
+    }
     assert_equal!(rt; store.unset(bob), Ok(Some(7)));
     assert_equal!(rt; store.unset(bob), Ok(None));
     let nobody = key(2)?;
