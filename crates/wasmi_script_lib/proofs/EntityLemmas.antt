@@ -1,17 +1,15 @@
 -- What a script replies to the requests of its entities, from what its store says.
-use Rattle.std.proofs.Common.{◌≡◌, ◌⊎◌, ◌↔◌, ℕ, zero, suc, ◌+◌, ◌<◌, ◌≤◌, ◌^◌, Bool, true, false, cond, List, [], ◌∷◌, ◌++◌, length, slice_get, Option, Some, None, option_map, position, Result, Ok, Err, IfOk, IfErr, OnOk, IsErrOf, refl, ap, ◌∙◌, sym, subst, inl, inr, arith, ltb, codes}
+use Rattle.std.proofs.Common.{◌≡◌, ◌⊎◌, ◌↔◌, ℕ, zero, suc, ◌<◌, ◌≤◌, Bool, true, false, cond, List, [], ◌∷◌, ◌++◌, length, slice_get, Option, Some, None, option_map, position, Result, Ok, Err, IfOk, IfErr, OnOk, IsErrOf, refl, ap, ◌∙◌, sym, inl, inr, arith, ltb, codes}
 use Rattle.std.specs.Prelude.{◌≢◌}
 use Rattle.std.specs.Str.{bytes_eq}
 use Rattle.std.proofs.lemmas.Bool.{lt-ltb}
 use Rattle.std.proofs.lemmas.Bool.Decides.{nat_tests}
 use Rattle.std.proofs.lemmas.Option.{none-some, same_Some}
-use Rattle.std.proofs.lemmas.Slice.Eq.{bytes_eq-Decides}
 use Rattle.wasmi_arena.specs.Geometry.{max_len}
 use Rattle.wasmi_arena.specs.declared.error.ArenaError.{ArenaError}
 use Rattle.wasmi_arena.specs.declared.error.ArenaError.TheVariants.{OutOfSystemMemory, NotEnoughKeys, DuplicateItem}
-use Rattle.wasmi_collections.specs.Interner.{symbol_of}
 use Rattle.wasmi_script_lib.specs.Distinct.{number_at, number_given}
-use Rattle.wasmi_script_lib.specs.Replies.{error_reply, given_reply, number_reply, property_text, was_reply, is_reply, rename_reply}
+use Rattle.wasmi_script_lib.specs.Replies.{error_reply, given_reply, number_reply, property_text, was_reply, rename_reply}
 use Rattle.wasmi_script_lib.specs.States.{entity_key, store_added, store_renamed, symbols}
 use Rattle.wasmi_script_lib.specs.Store.{Entity, Store, IsFullFor, IsOtherKind, RenamesKind, entities_with_property, is_other_kind, with_entity, with_property, with_renamed}
 
@@ -45,6 +43,7 @@ module _ (store : Store) (name : List ℕ) where
       few : (b : Bool) → ltb (length store.entities) max_len ≡ b → length store.entities < max_len
       few true is = grind (arith, nat_tests)
       few false is = absurd (free (inl (grind (arith, nat_tests))))
+
       number : (o : Option ℕ) → position (bytes_eq name) store.names ≡ o → option_map (λ (symbol : ℕ). length store.entities) (number_given symbols store.names name) ≡ Some (length store.entities)
       number (Some place) is = ap (λ o. option_map (λ (symbol : ℕ). length store.entities) (number_at symbols (length store.names) o)) is
       number None is = ap (λ o. option_map (λ (symbol : ℕ). length store.entities) (number_at symbols (length store.names) o)) is ∙ below (ltb (length store.names) symbols) refl is

@@ -128,6 +128,7 @@ tells_other store entity kind = next (bytes_eq entity.kind kind) refl
   where
     there : Bool
     there = is_some (symbol_of store.kinds kind)
+
     next : (b : Bool) → bytes_eq entity.kind kind ≡ b → (is_other_kind store entity kind ≡ true) ↔ ((entity.kind ≢ kind) × IsSome (symbol_of store.kinds kind))
     next true is = (λ other. absurd (true≢false (sym other ∙ ap (λ b. not b && there) is)), λ parts. absurd (parts.0 ((bytes_eq-Decides entity.kind kind).0 is)))
     next false is = (
