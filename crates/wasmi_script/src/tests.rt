@@ -176,8 +176,20 @@ impl Write for Sink {
 // The reader gives one byte a read. It fails at no read, the first, the second, or that of the end.
 #[test]
 fn a_read_fails(rt: HostRuntime) -> Result<(), Fail> {
-    let cases: [(&'static [u8], u64, Result<(), ScriptError>, &'static [u8], u8); 7] = [
-        (b"a x\ng 0\nlast", 0, Ok(()), b"key 0\ntext x\nbad line 3\n", 0),
+    let cases: [(
+        &'static [u8],
+        u64,
+        Result<(), ScriptError>,
+        &'static [u8],
+        u8,
+    ); 7] = [
+        (
+            b"a x\ng 0\nlast",
+            0,
+            Ok(()),
+            b"key 0\ntext x\nbad line 3\n",
+            0,
+        ),
         (b"", 0, Ok(()), b"", 0),
         (b"\xff\n", 0, Err(ScriptError::NotUtf8), b"", 2),
         (b"a x\n", 1, Err(ScriptError::ReadFailed), b"", 1),
