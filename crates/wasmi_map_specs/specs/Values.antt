@@ -3,13 +3,13 @@ use Rattle.std.specs.Prelude.{◌≡◌, List, [], ◌∷◌, length}
 use Rattle.std.specs.Map.{keys_of}
 
 module _ {K V : Type 0} where
-  -- the entries, each with the value at its place in a list, as far as that goes
+  -- each entry with the value that a list has at its place, or with its own past the end of the list
   abbrev pub with_values : List (K × V) → List V → List (K × V)
   with_values [] values = []
   with_values (entry ∷ entries) [] = entry ∷ entries
   with_values (entry ∷ entries) (value ∷ values) = (entry.0, value) ∷ with_values entries values
 
-  -- whatever values are written, the keys and their number stay
+  -- other values change no key, and add or take away no entry
   abbrev pub KeepsKeys : List (K × V) → Type 0
   KeepsKeys entries = ((values : List V) → keys_of (with_values entries values) ≡ keys_of entries)
       × ((values : List V) → length (with_values entries values) ≡ length entries)
