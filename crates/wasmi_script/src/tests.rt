@@ -278,3 +278,37 @@ fn long_scripts(rt: HostRuntime) -> Result<(), Fail> {
     assert_eq!(rt; replies.len(), 6 + 17 * (6 + (1 << 20)));
     Ok(())
 }
+
+// 5,000 entities of as many names and kinds. The property of the last comes first.
+#[test]
+fn many_entities(rt: HostRuntime) -> Result<(), Fail> {
+    let mut script = String::new(rt.alloc());
+    for number in 0..5_000u32 {
+        writeln!(script, "e name_{number} kind_{number}")?;
+    }
+    writeln!(script, "v 4999 1")?;
+    for number in 0..5_000u32 {
+        writeln!(script, "v {number} {number}\nq {number}")?;
+    }
+    let replies = answer(rt.alloc(), &script)?;
+    assert_eq!(rt; replies.lines().count(), 15_001);
+    assert!(rt; replies.lines().all(|line| !line.starts_with("error")));
+    assert!(rt; replies.ends_with("\nwas 1\nis 4999 name_4999 kind_4999\n"));
+    Ok(())
+}
+
+// A name and a kind of 5,000 characters.
+#[test]
+fn long_names_and_kinds(rt: HostRuntime) -> Result<(), Fail> {
+    let mut long = String::new(rt.alloc());
+    for _ in 0..500u32 {
+        long.push_str("0123456789")?;
+    }
+    let script = format!(in rt.alloc(); "e {long} {long}\nq 0\nv 0 7\nk 0 x{long}\nq 0")?;
+    let wanted = format!(in rt.alloc();
+        "entity 0\nis none {long} {long}\nwas none\ndone\nis 7 {long} x{long}\n"
+    )?;
+    let replies = answer(rt.alloc(), &script)?;
+    assert_eq!(rt; replies.as_str(), wanted.as_str());
+    Ok(())
+}

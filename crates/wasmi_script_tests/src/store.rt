@@ -35,6 +35,8 @@ fn properties_are_set_and_taken_out(rt: HostRuntime) -> Result<(), Fail> {
     }
     assert_equal!(rt; store.unset(bob), Ok(Some(7)));
     assert_equal!(rt; store.unset(bob), Ok(None));
+    assert_equal!(rt; store.set(bob, 8), Ok(None));
+    assert_equal!(rt; store.unset(bob), Ok(Some(8)));
     let nobody = key(2)?;
     assert_equal!(rt; store.get(nobody), Err(ArenaError::KeyOutOfBounds));
     assert_equal!(rt; store.set(nobody, 1), Err(ArenaError::KeyOutOfBounds));
