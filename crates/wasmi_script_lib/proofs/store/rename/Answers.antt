@@ -13,7 +13,7 @@ texts_of kinds = map string_bytes kinds.handed
 pub returns-in_err-replace-in-None-clause-duplicate : goal.returns-in_err-replace-in-None-clause-duplicate
 returns-in_err-replace-in-None-clause-duplicate c =
     let old = c.args.kinds.now in
-    let absent : symbol_of (texts_of old) c.args.kind.now ≡ None = no_place_found _ c.in-None.ensures in
+    let absent : symbol_of (texts_of old) c.args.kind.now ≡ None = no_place_found _ c.in-None.ensures.value in
     let error = err_from_is_err_and c.from_residual-in_err-replace-in-None.result c.from_residual-in_err-replace-in-None.ensures.1 in
     let value = c.in_ok-from_str-in-None.field-0 in
     let nowhere = c.strings_by_bytes.ensures old.handed value ∙ (ap (symbol_of (texts_of old)) c.in_ok-from_str-in-None.ensures.ok ∙ absent) in (
@@ -24,21 +24,21 @@ returns-in_err-replace-in-None-clause-duplicate c =
 pub returns-in-Some-clause-ok : goal.returns-in-Some-clause-ok
 returns-in-Some-clause-ok c =
     let old = c.args.kinds.now in
-    let found = place_found c.in-Some.there _ c.in-Some.ensures in
+    let found = place_found c.in-Some.there _ c.in-Some.ensures.value in
     let reads = c.symbols_of_distinct_texts.ensures.reads (texts_of old) c.args.kind.now c.in-Some.there found in
     renamed-again (texts_of old) c.args.number c.args.kind.now (rw (← c.if-there-number.true) reads)
 
 pub returns-in-Some-clause-duplicate : goal.returns-in-Some-clause-duplicate
 returns-in-Some-clause-duplicate c =
     let old = c.args.kinds.now in
-    let found = place_found c.in-Some.there _ c.in-Some.ensures in
+    let found = place_found c.in-Some.there _ c.in-Some.ensures.value in
     let reads = c.symbols_of_distinct_texts.ensures.reads (texts_of old) c.args.kind.now c.in-Some.there found in
     (λ is. absurd (cc is), λ has. absurd (has.0 (get_or_from_slice_get (texts_of old) c.args.number c.args.kind.now [] (rw (← c.if-there-number.true) reads))))
 
 pub returns-in-Some-2-clause-duplicate : goal.returns-in-Some-2-clause-duplicate
 returns-in-Some-2-clause-duplicate c =
     let old = c.args.kinds.now in
-    let found = place_found c.in-Some.there _ c.in-Some.ensures in
+    let found = place_found c.in-Some.there _ c.in-Some.ensures.value in
     let distinct = c.texts_handed_in.ensures.distinct old.handed c.len.ensures.distinct in (
       λ is. (
         λ same. c.if-there-number.false (same_Some c.in-Some.there c.args.number (sym found ∙ c.symbols_of_distinct_texts.ensures.stands (texts_of old) c.args.kind.now c.args.number distinct (slice_get-get_or (texts_of old) c.args.number [] c.requires.there ∙ ap Some same))),
@@ -50,7 +50,7 @@ returns-in-Some-2-clause-duplicate c =
 pub returns-in_ok-replace-in-None-clause-clones : goal.returns-in_ok-replace-in-None-clause-clones
 returns-in_ok-replace-in-None-clause-clones c =
     let old = c.args.kinds.now in
-    let absent : symbol_of (texts_of old) c.args.kind.now ≡ None = no_place_found _ c.in-None.ensures in
+    let absent : symbol_of (texts_of old) c.args.kind.now ≡ None = no_place_found _ c.in-None.ensures.value in
     let value = c.in_ok-from_str-in-None.field-0 in
     let told = c.texts_handed_in.ensures.replaced old c.replace.new.self c.args.number value c.in_ok-replace-in-None.field-0 (rw c.in_ok-from_str-in-None.ensures.ok absent) c.in_ok-replace-in-None.ensures.ok in
     told.1 ∙ (ap (λ (texts : List (List ℕ)). slice_set texts c.args.number (string_bytes value)) c.requires.clones ∙ sym told.0)
@@ -58,7 +58,7 @@ returns-in_ok-replace-in-None-clause-clones c =
 pub returns-in_ok-replace-in-None-clause-ok : goal.returns-in_ok-replace-in-None-clause-ok
 returns-in_ok-replace-in-None-clause-ok c =
     let old = c.args.kinds.now in
-    let absent : symbol_of (texts_of old) c.args.kind.now ≡ None = no_place_found _ c.in-None.ensures in
+    let absent : symbol_of (texts_of old) c.args.kind.now ≡ None = no_place_found _ c.in-None.ensures.value in
     let value = c.in_ok-from_str-in-None.field-0 in
     let told = c.texts_handed_in.ensures.replaced old c.replace.new.self c.args.number value c.in_ok-replace-in-None.field-0 (rw c.in_ok-from_str-in-None.ensures.ok absent) c.in_ok-replace-in-None.ensures.ok in
     told.0 ∙ (ap (slice_set (texts_of old) c.args.number) c.in_ok-from_str-in-None.ensures.ok ∙ renamed-set (slice_index_or (texts_of old) c.args.number []) c.args.kind.now (texts_of old) c.args.number (c.texts_handed_in.ensures.distinct old.handed c.len.ensures.distinct) (slice_get-get_or (texts_of old) c.args.number [] c.requires.there))
