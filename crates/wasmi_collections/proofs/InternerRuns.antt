@@ -28,6 +28,12 @@ kept_by_interning old text symbol new interns other s is = elim interns [
   | inr added ↦ rw added.3 (symbol_of-push text other old s is)
 ]
 
+-- what a symbol reads, it reads with one more text
+reads_with_more : (texts : List (List ℕ)) (text other : List ℕ) (symbol : ℕ) → slice_get texts symbol ≡ Some other → slice_get (texts ++ text ∷ []) symbol ≡ Some other
+reads_with_more [] text other symbol is = absurd (none-some other is)
+reads_with_more (t ∷ ts) text other zero is = is
+reads_with_more (t ∷ ts) text other (suc symbol) is = reads_with_more ts text other symbol is
+
 ok-err : {X Y : Type 0} {x : X} {y : Y} → Ok x ≡ Err y → ⊥
 ok-err e = true≢false (ap is_ok e)
 
@@ -98,6 +104,13 @@ module _ (old : List (List ℕ)) (text : List ℕ) (new : List (List ℕ)) where
   pub interning-kept : (r : Result ℕ ArenaError) → Interning old text r new → (other : List ℕ) (symbol : ℕ) → symbol_of old other ≡ Some symbol → symbol_of new other ≡ Some symbol
   interning-kept (Ok s) told other symbol is = kept_by_interning old text s new told other symbol is
   interning-kept (Err e) told other symbol is = rw told.1 is
+
+  pub interning-earlier : (r : Result ℕ ArenaError) → Interning old text r new → (other : List ℕ) (symbol : ℕ) → slice_get old symbol ≡ Some other → slice_get new symbol ≡ Some other
+  interning-earlier (Ok s) told other symbol is = elim told [
+    | inl found ↦ rw found.1 is
+    | inr added ↦ rw added.3 (reads_with_more old text other symbol is)
+  ]
+  interning-earlier (Err e) told other symbol is = rw told.1 is
 
 kept_by_step : (old : List (List ℕ)) (command : InternCommand) (reply : InternReply) (new : List (List ℕ)) → InternStep old command reply new → (text : List ℕ) (s : ℕ) → symbol_of old text ≡ Some s → symbol_of new text ≡ Some s
 kept_by_step old (Intern text hint) (Sym symbol) new step other s is = kept_by_interning old _ symbol new step other s is

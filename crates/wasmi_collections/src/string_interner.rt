@@ -240,6 +240,8 @@ impl<A: Allocator> StringInterner<A> {
         ensures reads { IfOk result (λ symbol. slice_get self.new symbol ≡ Some text.now) }
         ensures kept { (other : List ℕ) (symbol : ℕ) → symbol_of self.old other ≡ Some symbol
             → symbol_of self.new other ≡ Some symbol }
+        ensures earlier { (other : List ℕ) (symbol : ℕ) → slice_get self.old symbol ≡ Some other
+            → slice_get self.new symbol ≡ Some other }
     {
         self.get_or_intern_with_hint(text, InternHint::None)
     }

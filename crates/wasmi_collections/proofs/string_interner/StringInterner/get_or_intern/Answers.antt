@@ -1,4 +1,4 @@
-use Rattle.wasmi_collections.proofs.InternerRuns.{interning-there, interning-new, interning-no_symbol, interning-errors, interning-err, interning-known, interning-reads, interning-kept}
+use Rattle.wasmi_collections.proofs.InternerRuns.{interning-there, interning-new, interning-no_symbol, interning-errors, interning-err, interning-known, interning-reads, interning-kept, interning-earlier}
 use Rattle.wasmi_collections.proofs.string_interner.StringInterner.get_or_intern.Goals as goal
 
 pub returns-clause-there : goal.returns-clause-there
@@ -24,3 +24,6 @@ returns-clause-reads g c = interning-reads c.args.self.now c.args.text.now c.get
 
 pub returns-clause-kept : goal.returns-clause-kept
 returns-clause-kept g c = interning-kept c.args.self.now c.args.text.now c.get_or_intern_with_hint.new.self c.get_or_intern_with_hint.result c.get_or_intern_with_hint.ensures
+
+pub returns-clause-earlier : goal.returns-clause-earlier
+returns-clause-earlier g c = interning-earlier c.args.self.now c.args.text.now c.get_or_intern_with_hint.new.self c.get_or_intern_with_hint.result c.get_or_intern_with_hint.ensures
