@@ -1,9 +1,8 @@
 -- What entities show, after each call.
 use Rattle.std.proofs.Common.{◌≡◌, ℕ, zero, suc, ◌+◌, ◌<◌, ◌≤◌, List, [], ◌∷◌, ◌++◌, length, slice_get, slice_index_or, Option, Some, None, option_map, refl, ap, ◌∙◌, subst, sym, arith}
-use Rattle.std.proofs.lemmas.List.{get_or_append_left, get_or_past}
-use Rattle.std.proofs.lemmas.Option.{get_or_from_slice_get, slice_get_past}
+use Rattle.std.proofs.lemmas.List.{get_or_past}
+use Rattle.std.proofs.lemmas.Option.{get_or_from_slice_get, slice_get-get_or, slice_get_past}
 use Rattle.std.specs.List.{AllByRecursion}
-use Rattle.wasmi_collections.specs.Interner.{symbol_of}
 use Rattle.wasmi_dense.specs.Components.{component_at, extent, ChangesAt}
 use Rattle.wasmi_uses.specs.Entities.{Entity, with_property, shown, all_shown, IsSound}
 
@@ -32,11 +31,11 @@ module _ (names : List (List ℕ)) (properties : List (Option ℕ)) where
   all_shown_append number (s ∷ ss) last =
       ap (λ (rest : List Entity). shown names properties number s ∷ rest) (all_shown_append (number + 1) ss last ∙ ap (λ n. all_shown names properties (number + 1) ss ++ shown names properties n last ∷ []) (omega arith))
 
-  -- they show the same where their names do
-  pub all_shown_names : (more : List (List ℕ)) → ((i : ℕ) → i < length names → slice_index_or more i [] ≡ slice_index_or names i []) → (number : ℕ) (symbols : List ℕ)
+  -- they show the same where each symbol that read a name reads it still
+  pub all_shown_names : (more : List (List ℕ)) → ((name : List ℕ) (symbol : ℕ) → slice_get names symbol ≡ Some name → slice_get more symbol ≡ Some name) → (number : ℕ) (symbols : List ℕ)
       → AllByRecursion (λ symbol. symbol < length names) symbols → all_shown more properties number symbols ≡ all_shown names properties number symbols
   all_shown_names more same number [] named = refl
-  all_shown_names more same number (s ∷ ss) named = λ i. record { name = same s named.0 i; property = component_at properties number } ∷ all_shown_names more same (number + 1) ss named.1 i
+  all_shown_names more same number (s ∷ ss) named = λ i. record { name = get_or_from_slice_get more s (slice_index_or names s []) [] (same _ s (slice_get-get_or names s [] named.0)) i; property = component_at properties number } ∷ all_shown_names more same (number + 1) ss named.1 i
 
   -- one entity's property changes
   module _ (after : List (Option ℕ)) (slot : Option ℕ) where
@@ -51,18 +50,9 @@ module _ (names : List (List ℕ)) (properties : List (Option ℕ)) where
     all_shown_property number (suc place) target (s ∷ ss) at changes =
         λ i. record { name = slice_index_or names s []; property = changes.elsewhere number (λ same. omega (arith, same, at)) i } ∷ all_shown_property (number + 1) place target ss (omega (arith, at)) changes i
 
--- a text that is interned leaves each text that was there under its symbol
-pub interned_same : (old new : List (List ℕ)) (text : List ℕ) → ((symbol : ℕ) → symbol_of old text ≡ Some symbol → new ≡ old) → (symbol_of old text ≡ None → new ≡ old ++ text ∷ [])
-    → (i : ℕ) → i < length old → slice_index_or new i [] ≡ slice_index_or old i []
-interned_same old new text there absent i low = next (symbol_of old text) refl
-  where
-    next : (o : Option ℕ) → symbol_of old text ≡ o → slice_index_or new i [] ≡ slice_index_or old i []
-    next (Some symbol) is = ap (λ (texts : List (List ℕ)). slice_index_or texts i []) (there symbol is)
-    next None is = ap (λ (texts : List (List ℕ)). slice_index_or texts i []) (absent is) ∙ get_or_append_left old (text ∷ []) [] i low
-
 -- the entities with one more, whose name has a symbol by now
 pub all_shown_added : (names more : List (List ℕ)) (properties : List (Option ℕ)) (symbols : List ℕ) (text : List ℕ) (symbol : ℕ) → IsSound names properties symbols
-    → ((i : ℕ) → i < length names → slice_index_or more i [] ≡ slice_index_or names i []) → slice_get more symbol ≡ Some text
+    → ((name : List ℕ) (symbol : ℕ) → slice_get names symbol ≡ Some name → slice_get more symbol ≡ Some name) → slice_get more symbol ≡ Some text
     → all_shown more properties 0 (symbols ++ symbol ∷ []) ≡ all_shown names properties 0 symbols ++ record { name = text; property = None } ∷ []
 all_shown_added names more properties symbols text symbol sound same reads =
     all_shown_append more properties 0 symbols symbol
