@@ -7,4 +7,5 @@ pub mod counted;
 pub mod few_keys;
 pub mod noted;
 pub mod observed;
+pub mod one;
 pub mod tiny;

@@ -1,5 +1,5 @@
 //! An allocator for tests, over `Global`. It writes down what its handles were asked for, and refuses
-//! the requests that a test names.
+//! the requests that a test names, or to be cloned.
 //!
 //! A container that grows by the trait's own `grow` asks for a new block and returns the old one.
 ghost use Rattle.std.specs.Prelude.{◌≡◌};
@@ -20,6 +20,7 @@ enum Refusals {
 #[derive(Drop)]
 pub struct Log {
     refusals: Cell<Refusals>,
+    clones_refused: Cell<bool>,
     requests: Cell<u64>,
     bytes: Cell<u64>,
     given: Cell<u64>,
@@ -32,6 +33,7 @@ impl Log {
     pub fn new() -> Log {
         Log {
             refusals: Cell::new(Refusals::None),
+            clones_refused: Cell::new(false),
             requests: Cell::new(0),
             bytes: Cell::new(0),
             given: Cell::new(0),
@@ -50,9 +52,15 @@ impl Log {
         self.refusals.set(Refusals::Once(self.coming(nth)));
     }
 
-    /// Refuses no request from now on.
+    /// Refuses to clone a handle from now on.
+    pub fn refuse_clones(&self) {
+        self.clones_refused.set(true);
+    }
+
+    /// Refuses no request and no clone from now on.
     pub fn refuse_none(&self) {
         self.refusals.set(Refusals::None);
+        self.clones_refused.set(false);
     }
 
     /// The number of requests, refused ones too.
@@ -143,6 +151,9 @@ fn add(count: &Cell<u64>, more: u64) {
 
 impl Clone for Observed<'_> {
     fn clone(&self) -> Result<Self, AllocError> {
+        if self.log.clones_refused.get() {
+            return Err(AllocError);
+        }
         Ok(Observed::new(self.heap, self.log))
     }
 }
