@@ -101,6 +101,13 @@ fn a_walk_goes_from_both_ends(rt: HostRuntime) -> Result<(), Fail> {
     assert_equal!(rt; entries.next(), Some((0, &0)));
     assert_equal!(rt; entries.next_back(), Some((98, &98)));
     assert_equal!(rt; entries.len(), 97);
+    let five: StableArena<u32, u32> = StableArena::from_iter(rt.alloc(), 0..5)?;
+    let mut entries = five.iter();
+    assert_equal!(rt; entries.len(), 5);
+    for key in [4, 3, 2, 1, 0] {
+        assert_equal!(rt; entries.next_back(), Some((key, &key)));
+    }
+    assert_equal!(rt; entries.next_back(), None);
     Ok(())
 }
 

@@ -1,11 +1,13 @@
 //! Calls that add several items, over an allocator that refuses requests.
 use std::alloc::{AllocError, Global};
 use std::cell::Cell;
+use std::ops::Range;
 use std::test::Fail;
 use wasmi_arena::{ArenaError, ArenaKey, StableArena, StableVec};
 use wasmi_vectors::assert_equal;
 use wasmi_vectors::counted::{Counted, counts, counts_are};
 use wasmi_vectors::observed::{Log, Observed};
+use wasmi_vectors::one::One;
 use wasmi_vectors::tiny::Tiny;
 
 // So many items that count their drops in one of the counts.
@@ -95,6 +97,37 @@ fn alloc_many_adds_all_or_none(rt: HostRuntime) -> Result<(), Fail> {
         );
     }
     assert_equal!(rt; (log.given(), log.returned(), log.misplaced()), (4, 4, 0));
+    Ok(())
+}
+
+// The numbers of a range of keys.
+fn numbers<Key: ArenaKey>(
+    keys: Result<Range<Key>, ArenaError>,
+) -> Result<(usize, usize), ArenaError> {
+    keys.map(|keys| (keys.start.into_usize(), keys.end.into_usize()))
+}
+
+#[test]
+fn items_come_while_there_are_keys(rt: HostRuntime) -> Result<(), Fail> {
+    let refused = ArenaError::NotEnoughKeys;
+    let mut four: StableArena<Tiny, i32> = StableArena::new(rt.alloc());
+    assert_equal!(rt; numbers(four.alloc_many(4)), Err(refused));
+    assert_equal!(rt; (four.len(), four.items().open_buckets()), (0, 0));
+    assert_equal!(rt; numbers(four.alloc_many(3)), Ok((0, 3)));
+    assert_equal!(rt; four.alloc(9).map(Tiny::into_usize), Ok(3));
+    assert_equal!(rt; (four.alloc(9).err(), four.len()), (Some(refused), 4));
+    assert_equal!(rt; (numbers(four.alloc_many(5)), four.len()), (Err(refused), 4));
+    let mut one: StableArena<One, i32> = StableArena::new(rt.alloc());
+    assert_equal!(rt; numbers(one.alloc_many(0)), Ok((0, 0)));
+    assert_equal!(rt; (numbers(one.alloc_many(1)), one.len()), (Err(refused), 0));
+    // A number of items that no key ends, of an empty arena and of one that has an item.
+    let mut many: StableArena<usize, i32> = StableArena::new(rt.alloc());
+    assert_equal!(rt; (numbers(many.alloc_many(usize::MAX)), many.len()), (Err(refused), 0));
+    assert_equal!(rt; (numbers(many.alloc_many(10)), many.len()), (Ok((0, 10)), 10));
+    assert!(rt; many.values().all(|item| *item == 0));
+    let mut of_one: StableArena<usize, i32> = StableArena::from_iter(rt.alloc(), [7])?;
+    let none = numbers(of_one.alloc_many(usize::MAX));
+    assert_equal!(rt; (none, of_one.len()), (Err(refused), 1));
     Ok(())
 }
 

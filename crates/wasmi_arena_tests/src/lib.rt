@@ -28,6 +28,8 @@ mod observed;
 #[cfg(test)]
 mod pairs;
 #[cfg(test)]
+mod refused;
+#[cfg(test)]
 mod slices;
 #[cfg(test)]
 mod taken;

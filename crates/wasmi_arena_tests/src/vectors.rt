@@ -109,6 +109,39 @@ fn two_hundred_items_in_three_buckets(rt: HostRuntime) -> Result<(), Fail> {
 }
 
 #[test]
+fn an_empty_vector_has_no_item(rt: HostRuntime) -> Result<(), Fail> {
+    let vec: StableVec<u32> = StableVec::new(rt.alloc());
+    assert_equal!(rt; (vec.len(), vec.iter().len()), (0, 0));
+    assert!(rt; vec.get(0).is_none());
+    assert!(rt; vec.iter().next().is_none());
+    assert!(rt; vec.iter().next_back().is_none());
+    Ok(())
+}
+
+#[test]
+fn a_clone_equals_its_source(rt: HostRuntime) -> Result<(), Fail> {
+    let vec = counted(rt.alloc(), 100)?;
+    let mut copy = vec.clone()?;
+    assert!(rt; copy == vec && vec != counted(rt.alloc(), 99)?);
+    assert_equal!(rt; copy.push(100), Ok(100));
+    assert!(rt; copy != vec);
+    Ok(())
+}
+
+#[test]
+fn alternating_ends_give_each_item_once(rt: HostRuntime) -> Result<(), Fail> {
+    let vec = counted(rt.alloc(), 100)?;
+    let mut items = vec.iter();
+    for front in 0..50u32 {
+        assert_equal!(rt; items.len(), 100 - 2 * front as usize);
+        assert_equal!(rt; items.next(), Some(&front));
+        assert_equal!(rt; items.next_back(), Some(&(99 - front)));
+    }
+    assert_equal!(rt; (items.len(), items.next(), items.next_back()), (0, None, None));
+    Ok(())
+}
+
+#[test]
 fn a_walk_knows_its_length(rt: HostRuntime) -> Result<(), Fail> {
     let vec = counted(rt.alloc(), 200)?;
     let mut items = vec.iter();
@@ -150,6 +183,15 @@ fn walks_from_both_ends(rt: HostRuntime) -> Result<(), Fail> {
         assert_equal!(rt; backward.next(), Some(&(199 - wanted)));
     }
     assert_equal!(rt; backward.next(), None);
+    // The front has left the first bucket when the back comes from the third.
+    let three = counted(rt.alloc(), 97)?;
+    let mut ends = three.iter();
+    for wanted in 0..32u32 {
+        assert_equal!(rt; ends.next(), Some(&wanted));
+    }
+    assert_equal!(rt; ends.next_back(), Some(&96));
+    assert_equal!(rt; (ends.next(), ends.next_back()), (Some(&32), Some(&95)));
+    assert_equal!(rt; ends.len(), 62);
     // One end comes to the last item of the other's bucket.
     let few = counted(rt.alloc(), 3)?;
     let mut ends = few.iter();
