@@ -7,6 +7,7 @@ use wasmi_arena::{
 };
 use wasmi_dense::Arena;
 use wasmi_vectors::assert_equal;
+use wasmi_vectors::one::One;
 use wasmi_vectors::tiny::Tiny;
 
 // An arena of four texts under the keys 0 to 3.
@@ -198,7 +199,11 @@ fn pairs_out_of_bounds_come_before_equal_ones(rt: HostRuntime) -> Result<(), Fai
 
 #[test]
 fn four_keys_are_enough_for_four_items(rt: HostRuntime) -> Result<(), Fail> {
-    let mut arena: Arena<Tiny, i32> = Arena::from_iter(rt.alloc(), 0..3)?;
+    let mut arena: Arena<Tiny, i32> = Arena::new(rt.alloc());
+    assert_equal!(rt; arena.alloc_many(4).err(), Some(ArenaError::NotEnoughKeys));
+    assert_equal!(rt; arena.len(), 0);
+    let three = arena.alloc_many(3)?;
+    assert_equal!(rt; (three.start.into_usize(), three.end.into_usize()), (0, 3));
     assert_equal!(rt; arena.alloc_many(1).err(), Some(ArenaError::NotEnoughKeys));
     assert_equal!(rt; arena.len(), 3);
     let none = arena.alloc_many(0)?;
@@ -214,6 +219,11 @@ fn four_keys_are_enough_for_four_items(rt: HostRuntime) -> Result<(), Fail> {
     }
     let more: Result<Arena<Tiny, i32>, ArenaError> = Arena::from_iter(rt.alloc(), 0..5);
     assert_equal!(rt; more.err(), Some(ArenaError::NotEnoughKeys));
+    let mut one: Arena<One, i32> = Arena::new(rt.alloc());
+    let none = one.alloc_many(0)?;
+    assert_equal!(rt; (none.start.into_usize(), none.end.into_usize()), (0, 0));
+    assert_equal!(rt; one.alloc_many(1).err(), Some(ArenaError::NotEnoughKeys));
+    assert_equal!(rt; one.len(), 0);
     Ok(())
 }
 
@@ -224,8 +234,13 @@ fn many_items_come_at_once(rt: HostRuntime) -> Result<(), Fail> {
         arena.alloc_many(usize::MAX).err(),
         Some(ArenaError::OutOfSystemMemory)
     );
-    let keys = arena.alloc_many(10)?;
-    assert_equal!(rt; (keys.start, keys.end, arena.len()), (0, 10, 10));
+    assert_equal!(rt; (arena.len(), arena.alloc(0)), (0, Ok(0)));
+    assert_equal!(rt;
+        arena.alloc_many(usize::MAX).err(),
+        Some(ArenaError::NotEnoughKeys)
+    );
+    let keys = arena.alloc_many(9)?;
+    assert_equal!(rt; (keys.start, keys.end, arena.len()), (1, 10, 10));
     for (_, item) in &arena {
         assert_equal!(rt; *item, 0);
     }
