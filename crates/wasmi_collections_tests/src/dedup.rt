@@ -9,6 +9,7 @@ use wasmi_collections::arena::{Arena, ArenaError, DedupArena};
 use wasmi_collections::run::{DedupCommand, DedupReply, run_dedup};
 use wasmi_vectors::assert_equal;
 use wasmi_vectors::observed::{Log, Observed};
+use wasmi_vectors::one::One;
 use wasmi_vectors::tiny::Tiny;
 
 // An item whose clone fails where the number is odd.
@@ -28,12 +29,21 @@ impl Clone for Even {
 #[test]
 fn equal_values_have_one_key(rt: HostRuntime) -> Result<(), Fail> {
     let mut arena: DedupArena<usize, &str> = DedupArena::new(rt.alloc());
+    let nothing = Err(ArenaError::KeyOutOfBounds);
+    assert_equal!(rt; (arena.is_empty(), arena.get(0)), (true, nothing));
     for _ in 0..2 {
         for (nth, value) in ["a", "b", "c", "d"].iter().enumerate() {
             assert_equal!(rt; arena.alloc(*value)?, nth);
         }
     }
-    assert_equal!(rt; arena.len(), 4);
+    assert_equal!(rt; (arena.len(), arena.get(4)), (4, nothing));
+    let made = DedupArena::from_iter(rt.alloc(), ["a", "b", "c", "d"])?;
+    assert!(rt; made == arena);
+    for ((key, item), (nth, value)) in arena.iter().zip(["a", "b", "c", "d"].iter().enumerate()) {
+        assert_equal!(rt; (key, *item, arena[key]), (nth, *value, *value));
+    }
+    arena.clear();
+    assert_equal!(rt; (arena.len(), arena.get(0)), (0, nothing));
     Ok(())
 }
 
@@ -93,14 +103,14 @@ fn writes_do_not_reach_the_index(rt: HostRuntime) -> Result<(), Fail> {
 
 #[test]
 fn writes_in_a_loop_change_no_key(rt: HostRuntime) -> Result<(), Fail> {
-    let mut arena = written(rt.alloc())?;
+    let mut arena: DedupArena<usize, &str> = DedupArena::from_iter(rt.alloc(), ["a", "b", "c"])?;
     for (_, item) in &mut arena {
         *item = "z";
     }
-    for (key, value) in ["x", "y", "z"].iter().enumerate() {
+    for (key, value) in ["a", "b", "c", "z"].iter().enumerate() {
         assert_equal!(rt; arena.alloc(*value)?, key);
     }
-    assert_equal!(rt; (arena.get(0), arena.get(1)), (Ok(&"z"), Ok(&"z")));
+    assert_equal!(rt; (arena.get(0), arena.get(2)), (Ok(&"z"), Ok(&"z")));
     Ok(())
 }
 
@@ -126,6 +136,23 @@ fn a_repeat_needs_no_key(rt: HostRuntime) -> Result<(), Fail> {
         [0, 1, 0, 2, 3, 1, 4],
     );
     assert_equal!(rt; full.err(), Some(ArenaError::NotEnoughKeys));
+    Ok(())
+}
+
+#[test]
+fn one_key_is_enough_for_equal_values(rt: HostRuntime) -> Result<(), Fail> {
+    let mut arena: DedupArena<One, &str> = DedupArena::new(rt.alloc());
+    for (value, key) in [
+        ("a", Ok(0)),
+        ("b", Err(ArenaError::NotEnoughKeys)),
+        ("a", Ok(0)),
+    ] {
+        assert_equal!(rt; arena.alloc(value).map(One::into_usize), key, "of {value}");
+    }
+    for (last, wanted) in [("a", Ok(1)), ("b", Err(ArenaError::NotEnoughKeys))] {
+        let made = DedupArena::<One, &str>::from_iter(rt.alloc(), ["a", "a", last]);
+        assert_equal!(rt; made.map(|made| made.len()), wanted, "with {last}");
+    }
     Ok(())
 }
 

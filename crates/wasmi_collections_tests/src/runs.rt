@@ -1,10 +1,14 @@
 //! Lists of commands to maps and sets of both backings.
 use std::alloc::{AllocError, Global};
 use std::test::Fail;
+use wasmi_collections::arena::ArenaError;
 use wasmi_collections::hash::RandomState;
-use wasmi_collections::run::{MapCommand, MapReply, SetCommand, SetReply, run_map, run_set};
+use wasmi_collections::run::{
+    AnyMap, AnySet, MapCommand, MapReply, SetCommand, SetReply, run_map, run_set,
+};
 use wasmi_collections::{hashed, ordered};
 use wasmi_vectors::assert_equal;
+use wasmi_vectors::observed::{Log, Observed};
 
 fn map_commands(alloc: Global) -> Result<Vec<MapCommand<u32, &'static str>>, AllocError> {
     let commands = Vec::from_array(
@@ -98,5 +102,173 @@ fn sets_reply_as_the_table_says(rt: HostRuntime) -> Result<(), Fail> {
     let mut set = hashed::Set::with_hasher(rt.alloc(), state);
     let replies = run_set(rt.alloc(), &mut set, set_commands(rt.alloc())?)?;
     assert_equal!(rt; replies.as_slice(), SET_REPLIES.as_slice());
+    Ok(())
+}
+
+// Inserts the keys 0 to 19 by one run, whose nth request for memory is refused, and then by calls. How many
+// commands were refused, or `None` if the map doesn't have the keys of the others after it, or all at last.
+fn refused_in_map<M: AnyMap<u32, u32>>(
+    heap: &Observed<'_>,
+    log: &Log,
+    map: &mut M,
+    nth: u64,
+) -> Result<Option<usize>, ArenaError> {
+    let commands = (0..20u32)
+        .map(|key| MapCommand::Insert(key, key))
+        .collect(heap)?;
+    log.refuse_once(nth);
+    let replies = run_map(heap, map, commands)?;
+    let mut refused = 0usize;
+    for (key, reply) in (0..20u32).zip(replies.iter()) {
+        let is_in = match reply {
+            MapReply::Old(None) => true,
+            MapReply::Refused(ArenaError::OutOfSystemMemory) => false,
+            _ => return Ok(None),
+        };
+        if map.has(&key) != is_in {
+            return Ok(None);
+        }
+        if !is_in {
+            refused = refused.saturating_add(1);
+            let _none = map.insert(key, key)?;
+        }
+    }
+    // What is there needs no memory.
+    log.refuse_from(1);
+    for key in 0..20u32 {
+        if map.insert(key, key)? != Some(key) || !map.or_insert(key, 0)? {
+            return Ok(None);
+        }
+    }
+    log.refuse_none();
+    Ok((map.len() == 20 && replies.len() == 20).then_some(refused))
+}
+
+// The same of the elements of a set.
+fn refused_in_set<S: AnySet<u32>>(
+    heap: &Observed<'_>,
+    log: &Log,
+    set: &mut S,
+    nth: u64,
+) -> Result<Option<usize>, ArenaError> {
+    let commands = (0..20u32)
+        .map(|element| SetCommand::Insert(element))
+        .collect(heap)?;
+    log.refuse_once(nth);
+    let replies = run_set(heap, set, commands)?;
+    let mut refused = 0usize;
+    for (element, reply) in (0..20u32).zip(replies.iter()) {
+        let is_in = match reply {
+            SetReply::Flag(true) => true,
+            SetReply::Refused(ArenaError::OutOfSystemMemory) => false,
+            _ => return Ok(None),
+        };
+        if set.has(&element) != is_in {
+            return Ok(None);
+        }
+        if !is_in {
+            refused = refused.saturating_add(1);
+            let _new = set.insert(element)?;
+        }
+    }
+    Ok((set.len() == 20 && replies.len() == 20).then_some(refused))
+}
+
+// The first request is that for the replies. A run whose request is refused later goes on.
+#[test]
+fn runs_over_maps_and_sets_go_on_after_a_refusal(rt: HostRuntime) -> Result<(), Fail> {
+    for nth in 1..=4u64 {
+        let log = Log::new();
+        {
+            let heap = Observed::new(rt.alloc(), &log);
+            let mut tree = ordered::Map::new(&heap);
+            let mut table = hashed::Map::new(&heap);
+            let mut elements = ordered::Set::new(&heap);
+            let mut hashes = hashed::Set::new(&heap);
+            let outcomes = [
+                refused_in_map(&heap, &log, &mut tree, nth),
+                refused_in_map(&heap, &log, &mut table, nth),
+                refused_in_set(&heap, &log, &mut elements, nth),
+                refused_in_set(&heap, &log, &mut hashes, nth),
+            ];
+            let outcome = if nth == 1 {
+                Err(ArenaError::OutOfSystemMemory)
+            } else {
+                Ok(Some(1))
+            };
+            assert_equal!(rt; outcomes, [outcome; 4], "at {nth}");
+        }
+        assert_equal!(rt; (log.returned(), log.misplaced()), (log.given(), 0));
+    }
+    Ok(())
+}
+
+// Commands whose keys and values are texts of their own: puts each key twice, and takes half of them out.
+fn text_map_commands<'a, 'l>(
+    heap: &'a Observed<'l>,
+) -> Result<
+    Vec<MapCommand<String<&'a Observed<'l>>, String<&'a Observed<'l>>>, &'a Observed<'l>>,
+    AllocError,
+> {
+    let text = |text: &str| String::from_str(heap, text);
+    let mut commands = Vec::new(heap);
+    for key in ["a", "b", "c", "d", "e", "f", "g", "h"] {
+        commands.push(MapCommand::Insert(text(key)?, text("one")?))?;
+        commands.push(MapCommand::OrInsert(text(key)?, text("two")?))?;
+    }
+    for key in ["a", "b", "c", "d"] {
+        commands.push(MapCommand::Insert(text(key)?, text("three")?))?;
+        commands.push(MapCommand::Remove(text(key)?))?;
+        commands.push(MapCommand::Has(text(key)?))?;
+    }
+    Ok(commands)
+}
+
+// The same of elements.
+fn text_set_commands<'a, 'l>(
+    heap: &'a Observed<'l>,
+) -> Result<Vec<SetCommand<String<&'a Observed<'l>>>, &'a Observed<'l>>, AllocError> {
+    let text = |text: &str| String::from_str(heap, text);
+    let mut commands = Vec::new(heap);
+    for element in ["a", "b", "c", "d", "e", "f", "g", "h"] {
+        commands.push(SetCommand::Insert(text(element)?))?;
+        commands.push(SetCommand::Insert(text(element)?))?;
+    }
+    for element in ["a", "b", "c", "d"] {
+        commands.push(SetCommand::Remove(text(element)?))?;
+        commands.push(SetCommand::Has(text(element)?))?;
+    }
+    Ok(commands)
+}
+
+// What is put in, kept out, taken out and refused, and all commands of a run that has no memory for its
+// replies.
+#[test]
+fn runs_drop_each_text_once(rt: HostRuntime) -> Result<(), Fail> {
+    for nth in 1..=5u64 {
+        let log = Log::new();
+        {
+            let heap = Observed::new(rt.alloc(), &log);
+            let mut tree = ordered::Map::new(&heap);
+            let mut table = hashed::Map::new(&heap);
+            let mut elements = ordered::Set::new(&heap);
+            let mut hashes = hashed::Set::new(&heap);
+            let commands = (text_map_commands(&heap)?, text_map_commands(&heap)?);
+            log.refuse_once(nth);
+            assert_equal!(rt; run_map(&heap, &mut tree, commands.0).is_ok(), nth != 1);
+            log.refuse_once(nth);
+            assert_equal!(rt; run_map(&heap, &mut table, commands.1).is_ok(), nth != 1);
+            let commands = (text_set_commands(&heap)?, text_set_commands(&heap)?);
+            log.refuse_once(nth);
+            assert_equal!(rt; run_set(&heap, &mut elements, commands.0).is_ok(), nth != 1);
+            log.refuse_once(nth);
+            assert_equal!(rt; run_set(&heap, &mut hashes, commands.1).is_ok(), nth != 1);
+        }
+        assert_equal!(rt;
+            (log.returned(), log.misplaced()),
+            (log.given(), 0),
+            "at {nth}"
+        );
+    }
     Ok(())
 }
