@@ -2,4 +2,5 @@ mod Same
 mod Places
 mod Values
 mod Gone
+mod Drains
 mod Ended

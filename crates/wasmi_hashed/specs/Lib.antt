@@ -1,3 +1,4 @@
+pub mod Drained
 pub mod Entries
 pub mod MapEntry
 pub mod MapLend

@@ -1,6 +1,6 @@
 //! A map whose keys are found by their hash.
 ghost use Rattle.std.specs.Prelude.{◌≡◌, ◌==◌, ◌<◌, ◌^◌, ◌+◌, [], ◌∷◌, length, MatchOption, IfNone, IfOk, OnOk, OnErr, IsOk, IsOkUnless, IsSome, Some, None, is_some, option_map, option_copied, if◌then◌else◌};
-ghost use Rattle.std.specs.HashMap.IterMut.{iter_mut_rest, iter_mut_name, values_mut_rest, values_mut_name, IterMutCanStep};
+ghost use Rattle.std.specs.HashMap.IterMut.{iter_mut_rest, iter_mut_name, values_mut_rest, values_mut_name, drain_rest, drain_name, DrainsInOrder, IterMutCanStep};
 ghost use Rattle.std.specs.List.{IsDistinct};
 ghost use Rattle.std.specs.List.Sorted.{IsPermutation};
 ghost use Rattle.std.specs.Map.{keys_of, values_of, lookup_key, remove_entry, set_value};
@@ -22,7 +22,7 @@ pub use entry::{Entry, OccupiedEntry, VacantEntry};
 use std::alloc::{Allocator, Global};
 use std::collections::HashMap;
 pub use std::collections::hash_map::{
-    IntoIter, IntoKeys, IntoValues, Iter, IterMut, Keys, Values, ValuesMut,
+    Drain, IntoIter, IntoKeys, IntoValues, Iter, IterMut, Keys, Values, ValuesMut,
 };
 use std::hash::{BuildHasher, Hash};
 use std::marker::Model;
@@ -65,6 +65,7 @@ impl<K: Eq + Hash, V, A: Allocator> Map<K, V, FixedState, A> {
 
 impl<K: Eq + Hash, V, S: BuildHasher, A: Allocator> Map<K, V, S, A> {
     ghost use Rattle.std.specs.Borrow.{sem};
+    ghost use Rattle.wasmi_hashed.specs.Drained.{empties_map};
     ghost use Rattle.wasmi_hashed.specs.MapEntry.{map_of, lends_inner};
     ghost use Rattle.wasmi_hashed.specs.MapLend.{lends_get, lends_values};
 
@@ -190,6 +191,19 @@ impl<K: Eq + Hash, V, S: BuildHasher, A: Allocator> Map<K, V, S, A> {
         ensures bound { length self.old.entries < 2 ^ 63 }
     {
         self.inner.values_mut()
+    }
+
+    /// The entries, taken out of the map, in unspecified order. Once the iterator has ended the map is
+    /// empty, however far it was walked: what it didn't return is dropped with it. The room goes with the
+    /// entries. Never fails. Linear to the end, no allocation.
+    pub fn drain(&mut self) -> Drain<'_, K, V, A>
+        ensures* empties { sem 𝓛 (empties_map K.row V.row S.row A.row S.Hasher.row K.Hash S.BuildHasher S.Hasher.Hasher A.Allocator self.entry (drain_name result)) }
+        ensures entries { drain_rest result ≡ self.old.entries }
+        ensures distinct { IsDistinct K.eq (keys_of self.old.entries) }
+        ensures bound { length self.old.entries < 2 ^ 63 }
+        ensures runs { DrainsInOrder K V A }
+    {
+        self.inner.drain()
     }
 
     /// Makes room for `additional` more entries. Constant time where there is room, and else linear.

@@ -2,6 +2,7 @@
 ghost use Rattle.std.specs.Prelude.{◌≡◌, ◌==◌, ◌<◌, ◌^◌, ◌+◌, [], ◌∷◌, true, false, not, length, MatchOption, find, IfNone, IfOk, OnOk, OnErr, IsOk, IsOkUnless, IsTrue, is_some, option_copied, if◌then◌else◌};
 ghost use Rattle.std.specs.Bool.{MatchBool, OnFalse};
 ghost use Rattle.std.specs.Fn.{CalledAt};
+ghost use Rattle.std.specs.HashSet.Drain.{drain_rest, drain_name, DrainsInOrder};
 ghost use Rattle.std.specs.List.{IsDistinct};
 ghost use Rattle.std.specs.List.Retain.{IsFiltered};
 ghost use Rattle.std.specs.List.Sorted.{IsPermutation};
@@ -20,7 +21,7 @@ use crate::hash::FixedState;
 pub use algebra::{Difference, Intersection, SymmetricDifference, Union};
 use std::alloc::{Allocator, Global};
 use std::collections::HashSet;
-pub use std::collections::hash_set::{IntoIter, Iter};
+pub use std::collections::hash_set::{Drain, IntoIter, Iter};
 use std::hash::{BuildHasher, Hash};
 use std::marker::Model;
 use wasmi_arena::ArenaError;
@@ -60,6 +61,9 @@ impl<T: Eq + Hash, A: Allocator> Set<T, FixedState, A> {
 }
 
 impl<T: Eq + Hash, S: BuildHasher, A: Allocator> Set<T, S, A> {
+    ghost use Rattle.std.specs.Borrow.{sem};
+    ghost use Rattle.wasmi_hashed.specs.Drained.{empties_set};
+
     /// An empty set whose elements are hashed by `state`, which asks `alloc` for memory when an element
     /// comes. Constant time.
     pub fn with_hasher(alloc: A, state: S) -> Self
@@ -118,6 +122,19 @@ impl<T: Eq + Hash, S: BuildHasher, A: Allocator> Set<T, S, A> {
         ensures runs { ShowsInOrder (deref {X = T}) }
     {
         self.inner.iter()
+    }
+
+    /// The elements, taken out of the set, in unspecified order. Once the iterator has ended the set is
+    /// empty, however far it was walked: what it didn't return is dropped with it. The room goes with the
+    /// elements. Never fails. Linear to the end, no allocation.
+    pub fn drain(&mut self) -> Drain<'_, T, A>
+        ensures* empties { sem 𝓛 (empties_set T.row S.row A.row S.Hasher.row T.Hash S.BuildHasher S.Hasher.Hasher A.Allocator self.entry (drain_name result)) }
+        ensures elements { drain_rest result ≡ self.old.elements }
+        ensures distinct { IsDistinct T.eq self.old.elements }
+        ensures bound { length self.old.elements < 2 ^ 63 }
+        ensures runs { DrainsInOrder T A }
+    {
+        self.inner.drain()
     }
 
     /// Makes room for `additional` more elements. Constant time where there is room, and else linear.
