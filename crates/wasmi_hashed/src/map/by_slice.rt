@@ -1,5 +1,5 @@
 //! Look-ups by a slice, where the keys are vectors: no key has to be made for them.
-ghost use Rattle.std.specs.Prelude.{◌≡◌, ◌+◌, vec_items, length, None, is_some, option_map, option_copied, if◌then◌else◌};
+ghost use Rattle.std.specs.Prelude.{◌≡◌, ◌+◌, vec_items, length, None, IfNone, is_some, option_map, option_copied, if◌then◌else◌};
 ghost use Rattle.std.specs.List.Sorted.{IsPermutation};
 ghost use Rattle.std.specs.Cmp.Lexicographic.{pointwise};
 ghost use Rattle.std.specs.Map.{lookup_key, remove_entry};
@@ -67,6 +67,7 @@ impl<T: Eq + Hash, B: Allocator, V, S: BuildHasher, A: Allocator> Map<Vec<T, B>,
             ≡ value_seen_as (pointwise T.eq) vec_items self.old.entries key.now }
         ensures changes { EntriesChange (pointwise T.eq) vec_items self.old.entries key.now None self.new.entries }
         ensures entries { IsPermutation (remove_entry (is_seen_as (pointwise T.eq) vec_items key.now) self.old.entries) self.new.entries }
+        ensures unchanged { IfNone result (self.new ≡ self.old) }
         ensures len { length self.new.entries + (if is_some result then 1 else 0) ≡ length self.old.entries }
         ensures hasher { self.new.hasher ≡ self.old.hasher }
     {
@@ -83,6 +84,7 @@ impl<T: Eq + Hash, B: Allocator, V, S: BuildHasher, A: Allocator> Map<Vec<T, B>,
             ≡ value_seen_as (pointwise T.eq) vec_items self.old.entries key.now }
         ensures changes { EntriesChange (pointwise T.eq) vec_items self.old.entries key.now None self.new.entries }
         ensures entries { IsPermutation (remove_entry (is_seen_as (pointwise T.eq) vec_items key.now) self.old.entries) self.new.entries }
+        ensures unchanged { IfNone result (self.new ≡ self.old) }
         ensures len { length self.new.entries + (if is_some result then 1 else 0) ≡ length self.old.entries }
         ensures hasher { self.new.hasher ≡ self.old.hasher }
     {

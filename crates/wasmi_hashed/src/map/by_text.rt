@@ -1,5 +1,5 @@
 //! Look-ups by a text, where the keys are `String`s: no key has to be made for them.
-ghost use Rattle.std.specs.Prelude.{◌≡◌, ◌+◌, String, length, None, is_some, option_map, option_copied, if◌then◌else◌};
+ghost use Rattle.std.specs.Prelude.{◌≡◌, ◌+◌, String, length, None, IfNone, is_some, option_map, option_copied, if◌then◌else◌};
 ghost use Rattle.std.specs.List.Sorted.{IsPermutation};
 ghost use Rattle.std.specs.Map.{lookup_key, remove_entry};
 ghost use Rattle.std.specs.Option.{option_copied_mut};
@@ -80,6 +80,7 @@ impl<B: Allocator, V, S: BuildHasher, A: Allocator> Map<String<B>, V, S, A> {
         ensures changes_key { (k : String B) → string_bytes k ≡ key.now
             → ChangesAt string_eq self.old.entries k None self.new.entries }
         ensures entries { IsPermutation (remove_entry (is_seen_as bytes_eq string_bytes key.now) self.old.entries) self.new.entries }
+        ensures unchanged { IfNone result (self.new ≡ self.old) }
         ensures len { length self.new.entries + (if is_some result then 1 else 0) ≡ length self.old.entries }
         ensures hasher { self.new.hasher ≡ self.old.hasher }
     {
@@ -100,6 +101,7 @@ impl<B: Allocator, V, S: BuildHasher, A: Allocator> Map<String<B>, V, S, A> {
         ensures changes_key { (k : String B) → string_bytes k ≡ key.now
             → ChangesAt string_eq self.old.entries k None self.new.entries }
         ensures entries { IsPermutation (remove_entry (is_seen_as bytes_eq string_bytes key.now) self.old.entries) self.new.entries }
+        ensures unchanged { IfNone result (self.new ≡ self.old) }
         ensures len { length self.new.entries + (if is_some result then 1 else 0) ≡ length self.old.entries }
         ensures hasher { self.new.hasher ≡ self.old.hasher }
     {

@@ -1,5 +1,6 @@
 //! Look-ups by a slice, where the elements are vectors: no element has to be made for them.
-ghost use Rattle.std.specs.Prelude.{◌≡◌, ◌+◌, vec_items, false, length, find, is_some, option_copied, if◌then◌else◌};
+ghost use Rattle.std.specs.Prelude.{◌≡◌, ◌+◌, vec_items, false, length, find, IfNone, is_some, option_copied, if◌then◌else◌};
+ghost use Rattle.std.specs.Bool.{OnFalse};
 ghost use Rattle.std.specs.List.Sorted.{IsPermutation};
 ghost use Rattle.std.specs.Cmp.Lexicographic.{pointwise};
 ghost use Rattle.std.specs.Set.{remove_key};
@@ -40,6 +41,7 @@ impl<T: Eq + Hash, B: Allocator, S: BuildHasher, A: Allocator> Set<Vec<T, B>, S,
         ensures items { result ≡ has_seen_as (pointwise T.eq) vec_items self.old.elements value.now }
         ensures changes { ElementsChange (pointwise T.eq) vec_items self.old.elements value.now false self.new.elements }
         ensures elements { IsPermutation (remove_key (is_seen_as (pointwise T.eq) vec_items value.now) self.old.elements) self.new.elements }
+        ensures unchanged { OnFalse result (self.new ≡ self.old) }
         ensures len { length self.new.elements + (if result then 1 else 0) ≡ length self.old.elements }
         ensures hasher { self.new.hasher ≡ self.old.hasher }
     {
@@ -56,6 +58,7 @@ impl<T: Eq + Hash, B: Allocator, S: BuildHasher, A: Allocator> Set<Vec<T, B>, S,
             ≡ has_seen_as (pointwise T.eq) vec_items self.old.elements value.now }
         ensures changes { ElementsChange (pointwise T.eq) vec_items self.old.elements value.now false self.new.elements }
         ensures elements { IsPermutation (remove_key (is_seen_as (pointwise T.eq) vec_items value.now) self.old.elements) self.new.elements }
+        ensures unchanged { IfNone result (self.new ≡ self.old) }
         ensures len { length self.new.elements + (if is_some result then 1 else 0) ≡ length self.old.elements }
         ensures hasher { self.new.hasher ≡ self.old.hasher }
     {

@@ -1,5 +1,6 @@
 //! Look-ups by a text, where the elements are `String`s: no element has to be made for them.
-ghost use Rattle.std.specs.Prelude.{◌≡◌, ◌+◌, String, false, length, find, is_some, option_copied, if◌then◌else◌};
+ghost use Rattle.std.specs.Prelude.{◌≡◌, ◌+◌, String, false, length, find, IfNone, is_some, option_copied, if◌then◌else◌};
+ghost use Rattle.std.specs.Bool.{OnFalse};
 ghost use Rattle.std.specs.List.Sorted.{IsPermutation};
 ghost use Rattle.std.specs.Set.{is_member, remove_key};
 ghost use Rattle.std.specs.Str.{bytes_eq};
@@ -48,6 +49,7 @@ impl<B: Allocator, S: BuildHasher, A: Allocator> Set<String<B>, S, A> {
         ensures changes_key { (k : String B) → string_bytes k ≡ value.now
             → ChangesAt string_eq self.old.elements k false self.new.elements }
         ensures elements { IsPermutation (remove_key (is_seen_as bytes_eq string_bytes value.now) self.old.elements) self.new.elements }
+        ensures unchanged { OnFalse result (self.new ≡ self.old) }
         ensures len { length self.new.elements + (if result then 1 else 0) ≡ length self.old.elements }
         ensures hasher { self.new.hasher ≡ self.old.hasher }
     {
@@ -68,6 +70,7 @@ impl<B: Allocator, S: BuildHasher, A: Allocator> Set<String<B>, S, A> {
         ensures changes_key { (k : String B) → string_bytes k ≡ value.now
             → ChangesAt string_eq self.old.elements k false self.new.elements }
         ensures elements { IsPermutation (remove_key (is_seen_as bytes_eq string_bytes value.now) self.old.elements) self.new.elements }
+        ensures unchanged { IfNone result (self.new ≡ self.old) }
         ensures len { length self.new.elements + (if is_some result then 1 else 0) ≡ length self.old.elements }
         ensures hasher { self.new.hasher ≡ self.old.hasher }
     {

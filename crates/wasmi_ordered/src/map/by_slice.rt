@@ -1,5 +1,5 @@
 //! Look-ups by a slice, where the keys are vectors: no key has to be made for them.
-ghost use Rattle.std.specs.Prelude.{◌≡◌, ◌+◌, vec_items, length, None, is_some, option_map, option_copied, if◌then◌else◌};
+ghost use Rattle.std.specs.Prelude.{◌≡◌, ◌+◌, vec_items, length, None, IfNone, is_some, option_map, option_copied, if◌then◌else◌};
 ghost use Rattle.std.specs.Cmp.Lexicographic.{slice_cmp};
 ghost use Rattle.std.specs.Map.{lookup_key, remove_entry};
 ghost use Rattle.std.specs.Option.{option_copied_mut};
@@ -68,6 +68,7 @@ impl<T: Ord + Hash, B: Allocator, V, A: Allocator> Map<Vec<T, B>, V, A> {
         ensures changes { EntriesChange (eq_by_cmp (slice_cmp T.cmp)) vec_items self.old key.now None self.new }
         ensures entries { self.new
             ≡ remove_entry (is_seen_as (eq_by_cmp (slice_cmp T.cmp)) vec_items key.now) self.old }
+        ensures unchanged { IfNone result (self.new ≡ self.old) }
         ensures len { length self.new + (if is_some result then 1 else 0) ≡ length self.old }
     {
         self.inner.remove(key)
@@ -84,6 +85,7 @@ impl<T: Ord + Hash, B: Allocator, V, A: Allocator> Map<Vec<T, B>, V, A> {
         ensures changes { EntriesChange (eq_by_cmp (slice_cmp T.cmp)) vec_items self.old key.now None self.new }
         ensures entries { self.new
             ≡ remove_entry (is_seen_as (eq_by_cmp (slice_cmp T.cmp)) vec_items key.now) self.old }
+        ensures unchanged { IfNone result (self.new ≡ self.old) }
         ensures len { length self.new + (if is_some result then 1 else 0) ≡ length self.old }
     {
         self.inner.remove_entry(key)

@@ -1,5 +1,5 @@
 //! Look-ups by a text, where the keys are `String`s: no key has to be made for them.
-ghost use Rattle.std.specs.Prelude.{◌≡◌, ◌+◌, String, length, None, is_some, option_map, option_copied, if◌then◌else◌};
+ghost use Rattle.std.specs.Prelude.{◌≡◌, ◌+◌, String, length, None, IfNone, is_some, option_map, option_copied, if◌then◌else◌};
 ghost use Rattle.std.specs.Cmp.Lexicographic.{slice_cmp};
 ghost use Rattle.std.specs.Map.{lookup_key, remove_entry};
 ghost use Rattle.std.specs.Option.{option_copied_mut};
@@ -80,6 +80,7 @@ impl<B: Allocator, V, A: Allocator> Map<String<B>, V, A> {
             → ChangesAt (eq_by_cmp string_cmp) self.old k None self.new }
         ensures entries { self.new
             ≡ remove_entry (is_seen_as (eq_by_cmp (slice_cmp nat_cmp)) string_bytes key.now) self.old }
+        ensures unchanged { IfNone result (self.new ≡ self.old) }
         ensures len { length self.new + (if is_some result then 1 else 0) ≡ length self.old }
     {
         self.inner.remove(key)
@@ -100,6 +101,7 @@ impl<B: Allocator, V, A: Allocator> Map<String<B>, V, A> {
             → ChangesAt (eq_by_cmp string_cmp) self.old k None self.new }
         ensures entries { self.new
             ≡ remove_entry (is_seen_as (eq_by_cmp (slice_cmp nat_cmp)) string_bytes key.now) self.old }
+        ensures unchanged { IfNone result (self.new ≡ self.old) }
         ensures len { length self.new + (if is_some result then 1 else 0) ≡ length self.old }
     {
         self.inner.remove_entry(key)

@@ -1,5 +1,6 @@
 //! Look-ups by a slice, where the elements are vectors: no element has to be made for them.
-ghost use Rattle.std.specs.Prelude.{◌≡◌, ◌+◌, vec_items, false, length, find, is_some, option_copied, if◌then◌else◌};
+ghost use Rattle.std.specs.Prelude.{◌≡◌, ◌+◌, vec_items, false, length, find, IfNone, is_some, option_copied, if◌then◌else◌};
+ghost use Rattle.std.specs.Bool.{OnFalse};
 ghost use Rattle.std.specs.Cmp.Lexicographic.{slice_cmp};
 ghost use Rattle.std.specs.Ordering.{eq_by_cmp};
 ghost use Rattle.std.specs.Set.{remove_key};
@@ -41,6 +42,7 @@ impl<T: Ord + Hash, B: Allocator, A: Allocator> Set<Vec<T, B>, A> {
         ensures changes { ElementsChange (eq_by_cmp (slice_cmp T.cmp)) vec_items self.old value.now false self.new }
         ensures elements { self.new
             ≡ remove_key (is_seen_as (eq_by_cmp (slice_cmp T.cmp)) vec_items value.now) self.old }
+        ensures unchanged { OnFalse result (self.new ≡ self.old) }
         ensures len { length self.new + (if result then 1 else 0) ≡ length self.old }
     {
         self.inner.remove(value)
@@ -57,6 +59,7 @@ impl<T: Ord + Hash, B: Allocator, A: Allocator> Set<Vec<T, B>, A> {
         ensures changes { ElementsChange (eq_by_cmp (slice_cmp T.cmp)) vec_items self.old value.now false self.new }
         ensures elements { self.new
             ≡ remove_key (is_seen_as (eq_by_cmp (slice_cmp T.cmp)) vec_items value.now) self.old }
+        ensures unchanged { IfNone result (self.new ≡ self.old) }
         ensures len { length self.new + (if is_some result then 1 else 0) ≡ length self.old }
     {
         self.inner.take(value)

@@ -1,5 +1,6 @@
 //! Look-ups by a text, where the elements are `String`s: no element has to be made for them.
-ghost use Rattle.std.specs.Prelude.{◌≡◌, ◌+◌, String, false, length, find, is_some, option_copied, if◌then◌else◌};
+ghost use Rattle.std.specs.Prelude.{◌≡◌, ◌+◌, String, false, length, find, IfNone, is_some, option_copied, if◌then◌else◌};
+ghost use Rattle.std.specs.Bool.{OnFalse};
 ghost use Rattle.std.specs.Cmp.Lexicographic.{slice_cmp};
 ghost use Rattle.std.specs.Ordering.{eq_by_cmp, nat_cmp};
 ghost use Rattle.std.specs.Set.{is_member, remove_key};
@@ -48,6 +49,7 @@ impl<B: Allocator, A: Allocator> Set<String<B>, A> {
             → ChangesAt (eq_by_cmp string_cmp) self.old k false self.new }
         ensures elements { self.new
             ≡ remove_key (is_seen_as (eq_by_cmp (slice_cmp nat_cmp)) string_bytes value.now) self.old }
+        ensures unchanged { OnFalse result (self.new ≡ self.old) }
         ensures len { length self.new + (if result then 1 else 0) ≡ length self.old }
     {
         self.inner.remove(value)
@@ -68,6 +70,7 @@ impl<B: Allocator, A: Allocator> Set<String<B>, A> {
             → ChangesAt (eq_by_cmp string_cmp) self.old k false self.new }
         ensures elements { self.new
             ≡ remove_key (is_seen_as (eq_by_cmp (slice_cmp nat_cmp)) string_bytes value.now) self.old }
+        ensures unchanged { IfNone result (self.new ≡ self.old) }
         ensures len { length self.new + (if is_some result then 1 else 0) ≡ length self.old }
     {
         self.inner.take(value)
