@@ -1,6 +1,6 @@
 //! Set theory: tests of two sets, iterators over two, and sets made of two.
-ghost use Rattle.std.specs.Prelude.{◌<◌, ◌^◌, ◌↔◌, length, IfOk, IsOkUnless, IsTrue};
-ghost use Rattle.std.specs.List.{IsDistinct};
+ghost use Rattle.std.specs.Prelude.{◌<◌, ◌^◌, ◌↔◌, ◌++◌, length, IfOk, IsOkUnless, IsTrue};
+ghost use Rattle.std.specs.List.{AllByRecursion, IsAmong, IsDistinct};
 ghost use Rattle.std.specs.Map.Iter.{ShowsInOrder, deref};
 ghost use Rattle.std.specs.Set.{IsUnion, IsIntersection, IsDifference, IsSymmetricDifference};
 ghost use Rattle.wasmi_map_specs.specs.Sets.{IsSubset, IsDisjoint, HoldsClones};
@@ -40,6 +40,7 @@ impl<T: Eq + Hash, S: BuildHasher, A: Allocator> Set<T, S, A> {
     /// The elements of this set that the other lacks, in unspecified order.
     /// Expected linear, no allocation.
     pub fn difference<'a>(&'a self, other: &'a Self) -> Difference<'a, T, S, A>
+        ensures elements { AllByRecursion (IsAmong (self.now.elements ++ other.now.elements)) result }
         ensures members { IsDifference T.eq self.now.elements other.now.elements result }
         ensures distinct { IsDistinct T.eq result }
         ensures bound { length result < 2 ^ 63 }
@@ -51,6 +52,7 @@ impl<T: Eq + Hash, S: BuildHasher, A: Allocator> Set<T, S, A> {
     /// The elements that exactly one of the two sets has, in unspecified order.
     /// Expected linear, no allocation.
     pub fn symmetric_difference<'a>(&'a self, other: &'a Self) -> SymmetricDifference<'a, T, S, A>
+        ensures elements { AllByRecursion (IsAmong (self.now.elements ++ other.now.elements)) result }
         ensures members { IsSymmetricDifference T.eq self.now.elements other.now.elements result }
         ensures distinct { IsDistinct T.eq result }
         ensures bound { length result < 2 ^ 64 }
@@ -59,9 +61,10 @@ impl<T: Eq + Hash, S: BuildHasher, A: Allocator> Set<T, S, A> {
         self.inner.symmetric_difference(&other.inner)
     }
 
-    /// The elements that both sets have, in unspecified order.
+    /// The elements that both sets have, in unspecified order, each as one of the two has it.
     /// Expected linear, no allocation.
     pub fn intersection<'a>(&'a self, other: &'a Self) -> Intersection<'a, T, S, A>
+        ensures elements { AllByRecursion (IsAmong (self.now.elements ++ other.now.elements)) result }
         ensures members { IsIntersection T.eq self.now.elements other.now.elements result }
         ensures distinct { IsDistinct T.eq result }
         ensures bound { length result < 2 ^ 63 }
@@ -70,9 +73,11 @@ impl<T: Eq + Hash, S: BuildHasher, A: Allocator> Set<T, S, A> {
         self.inner.intersection(&other.inner)
     }
 
-    /// The elements that one of the sets has, or both, each once, in unspecified order.
+    /// The elements that one of the sets has, or both, each once, in unspecified order; what both have, as one
+    /// of the two has it.
     /// Expected linear, no allocation.
     pub fn union<'a>(&'a self, other: &'a Self) -> Union<'a, T, S, A>
+        ensures elements { AllByRecursion (IsAmong (self.now.elements ++ other.now.elements)) result }
         ensures members { IsUnion T.eq self.now.elements other.now.elements result }
         ensures distinct { IsDistinct T.eq result }
         ensures bound { length result < 2 ^ 64 }
@@ -83,7 +88,7 @@ impl<T: Eq + Hash, S: BuildHasher, A: Allocator> Set<T, S, A> {
 }
 
 impl<T: Eq + Hash + Clone, A: Allocator + Clone> Set<T, FixedState, A> {
-    /// A set of clones of the elements that both sets have.
+    /// A set of clones of the elements that both sets have, each as one of the two has it.
     /// Expected linear.
     ///
     /// Fails with `OutOfSystemMemory` if there is no memory, or a clone fails.
@@ -96,7 +101,8 @@ impl<T: Eq + Hash + Clone, A: Allocator + Clone> Set<T, FixedState, A> {
         Ok(Set { inner })
     }
 
-    /// A set of clones of the elements that one of the sets has, or both.
+    /// A set of clones of the elements that one of the sets has, or both; what both have, as one of the two
+    /// has it.
     /// Expected linear.
     ///
     /// Fails as [`bitand`](Set::bitand) does.

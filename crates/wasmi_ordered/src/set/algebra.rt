@@ -1,9 +1,9 @@
 //! Set theory: tests of two sets, iterators over two, and sets made of two.
-ghost use Rattle.std.specs.Prelude.{◌<◌, ◌^◌, ◌↔◌, length, IfOk, IsOkUnless, IsTrue};
+ghost use Rattle.std.specs.Prelude.{◌≡◌, ◌<◌, ◌^◌, ◌↔◌, not, true, false, length, filter, IfOk, IsOkUnless, IsTrue};
 ghost use Rattle.std.specs.List.Sorted.{IsStrictlySortedBy};
 ghost use Rattle.std.specs.Map.Iter.{ShowsInOrder, deref};
 ghost use Rattle.std.specs.Ordering.{eq_by_cmp};
-ghost use Rattle.std.specs.Set.{IsUnion, IsIntersection, IsDifference, IsSymmetricDifference};
+ghost use Rattle.std.specs.Set.{is_member, sorted_merge, IsUnion, IsIntersection, IsDifference, IsSymmetricDifference};
 ghost use Rattle.wasmi_map_specs.specs.Sets.{IsSubset, IsDisjoint, HoldsClones};
 
 use super::Set;
@@ -40,6 +40,7 @@ impl<T: Hash + Ord, A: Allocator> Set<T, A> {
     /// The elements of this set that the other lacks, in order.
     /// At most linear in both sizes, no allocation.
     pub fn difference<'a>(&'a self, other: &'a Self) -> Difference<'a, T, A>
+        ensures elements { result ≡ filter (λ element. not (is_member (eq_by_cmp T.cmp) other.now element)) self.now }
         ensures members { IsDifference (eq_by_cmp T.cmp) self.now other.now result }
         ensures ascending { IsStrictlySortedBy T.cmp result }
         ensures bound { length result < 2 ^ 63 }
@@ -51,6 +52,7 @@ impl<T: Hash + Ord, A: Allocator> Set<T, A> {
     /// The elements that exactly one of the two sets has, in order.
     /// At most linear in both sizes, no allocation.
     pub fn symmetric_difference<'a>(&'a self, other: &'a Self) -> SymmetricDifference<'a, T>
+        ensures elements { result ≡ sorted_merge T.cmp false self.now other.now }
         ensures members { IsSymmetricDifference (eq_by_cmp T.cmp) self.now other.now result }
         ensures ascending { IsStrictlySortedBy T.cmp result }
         ensures bound { length result < 2 ^ 64 }
@@ -59,9 +61,10 @@ impl<T: Hash + Ord, A: Allocator> Set<T, A> {
         self.inner.symmetric_difference(&other.inner)
     }
 
-    /// The elements that both sets have, in order.
+    /// The elements that both sets have, in order, each as this one has it.
     /// At most linear in both sizes, no allocation.
     pub fn intersection<'a>(&'a self, other: &'a Self) -> Intersection<'a, T, A>
+        ensures elements { result ≡ filter (is_member (eq_by_cmp T.cmp) other.now) self.now }
         ensures members { IsIntersection (eq_by_cmp T.cmp) self.now other.now result }
         ensures ascending { IsStrictlySortedBy T.cmp result }
         ensures bound { length result < 2 ^ 63 }
@@ -70,9 +73,11 @@ impl<T: Hash + Ord, A: Allocator> Set<T, A> {
         self.inner.intersection(&other.inner)
     }
 
-    /// The elements that one of the sets has, or both, each once, in order.
+    /// The elements that one of the sets has, or both, each once, in order; what both have, as this one
+    /// has it.
     /// At most linear in both sizes, no allocation.
     pub fn union<'a>(&'a self, other: &'a Self) -> Union<'a, T>
+        ensures elements { result ≡ sorted_merge T.cmp true self.now other.now }
         ensures members { IsUnion (eq_by_cmp T.cmp) self.now other.now result }
         ensures ascending { IsStrictlySortedBy T.cmp result }
         ensures bound { length result < 2 ^ 64 }
@@ -83,7 +88,7 @@ impl<T: Hash + Ord, A: Allocator> Set<T, A> {
 }
 
 impl<T: Hash + Ord + Clone, A: Allocator + Clone> Set<T, A> {
-    /// A set of clones of the elements that both sets have.
+    /// A set of clones of the elements that both sets have, each as this one has it.
     /// Linear in both sizes but for a sort of the clones.
     ///
     /// Fails with `OutOfSystemMemory` if there is no memory, or a clone fails.
@@ -96,7 +101,8 @@ impl<T: Hash + Ord + Clone, A: Allocator + Clone> Set<T, A> {
         Ok(Set { inner })
     }
 
-    /// A set of clones of the elements that one of the sets has, or both.
+    /// A set of clones of the elements that one of the sets has, or both; what both have, as this one
+    /// has it.
     /// Linear in both sizes but for a sort of the clones.
     ///
     /// Fails as [`bitand`](Set::bitand) does.
