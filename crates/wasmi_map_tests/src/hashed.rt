@@ -2,5 +2,6 @@
 mod entries;
 mod maps;
 mod memory;
+mod room;
 mod sets;
 mod texts;

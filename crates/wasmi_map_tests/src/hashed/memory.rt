@@ -135,3 +135,27 @@ fn a_refused_extend_keeps_a_front(rt: HostRuntime) -> Result<(), Fail> {
     assert_equal!(rt; (log.returned(), log.misplaced()), (log.given(), 0));
     Ok(())
 }
+
+// Each of these makes what has no element.
+#[test]
+fn what_is_empty_needs_no_memory(rt: HostRuntime) -> Result<(), Fail> {
+    let log = Log::new();
+    let map: Map<u32, u32, FixedState, Observed<'_>> = Map::new(Observed::new(rt.alloc(), &log));
+    let none: Set<u32, FixedState, Observed<'_>> = Set::new(Observed::new(rt.alloc(), &log));
+    let mut some = Set::new(Observed::new(rt.alloc(), &log));
+    some.extend(0..100u32)?;
+    log.refuse_from(1);
+    assert_equal!(rt; map.clone()?.len(), 0);
+    for (call, made) in [
+        ("clone", none.clone()),
+        ("bitand of none", none.bitand(&some)),
+        ("bitand with none", some.bitand(&none)),
+        ("bitor", none.bitor(&none)),
+        ("bitxor", some.bitxor(&some)),
+        ("sub", some.sub(&some)),
+        ("sub of none", none.sub(&some)),
+    ] {
+        assert!(rt; made.is_ok_and(|set| set.is_empty()), "of {call}");
+    }
+    Ok(())
+}

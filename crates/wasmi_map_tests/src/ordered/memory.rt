@@ -280,3 +280,26 @@ fn a_refused_set_gives_all_back(rt: HostRuntime) -> Result<(), Fail> {
     assert_equal!(rt; log.returned(), log.given());
     Ok(())
 }
+
+// Each of these makes what has no element.
+#[test]
+fn what_is_empty_needs_no_memory(rt: HostRuntime) -> Result<(), Fail> {
+    let log = Log::new();
+    let map: Map<u32, u32, Observed<'_>> = Map::new(Observed::new(rt.alloc(), &log));
+    let none: Set<u32, Observed<'_>> = Set::new(Observed::new(rt.alloc(), &log));
+    let some = hundred_elements(rt.alloc(), &log)?;
+    log.refuse_from(1);
+    assert_equal!(rt; map.clone()?.len(), 0);
+    for (call, made) in [
+        ("clone", none.clone()),
+        ("bitand of none", none.bitand(&some)),
+        ("bitand with none", some.bitand(&none)),
+        ("bitor", none.bitor(&none)),
+        ("bitxor", some.bitxor(&some)),
+        ("sub", some.sub(&some)),
+        ("sub of none", none.sub(&some)),
+    ] {
+        assert!(rt; made.is_ok_and(|set| set.is_empty()), "of {call}");
+    }
+    Ok(())
+}
