@@ -1,5 +1,5 @@
-//! Tables by key: two that keep the first value of a key, and one that counts.
-ghost use Rattle.std.specs.Prelude.{◌≡◌, true, false, not, is_some, IfOk, OnErr, IfSome, IfNone, Some};
+//! Tables by key: two that keep the first value of a key, and two that count.
+ghost use Rattle.std.specs.Prelude.{◌≡◌, [], true, false, not, is_some, IfOk, OnErr, IfSome, IfNone, Some};
 ghost use Rattle.std.specs.Map.{set_value};
 ghost use Rattle.std.specs.Ordering.{eq_by_cmp};
 ghost use Rattle.wasmi_map_specs.specs.Maps.{value_at, ChangesAt};
@@ -64,4 +64,18 @@ pub fn reset<K: Hash + Ord, A: Allocator>(counts: &mut Map<K, u64, A>, key: &K) 
         }
         None => None,
     }
+}
+
+/// Takes all counts out of a table, and returns their sum, or `u64::MAX` if that is more. Nothing is left in
+/// the table.
+pub fn settle<K: Eq + Hash + Drop, S: BuildHasher, A: Allocator>(
+    counts: &mut hashed::Map<K, u64, S, A>,
+) -> u64
+    ensures { counts.new ≡ record { entries = []; hasher = counts.old.hasher } }
+{
+    let mut sum: u64 = 0;
+    for (_, count) in counts.drain() {
+        sum = sum.saturating_add(count);
+    }
+    sum
 }

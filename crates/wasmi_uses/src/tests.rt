@@ -15,7 +15,7 @@ use crate::search::{position_of, push_and_find};
 use crate::spawn::spawn;
 use crate::store::FuncStore;
 use crate::symbols::{Symbols, intern_both};
-use crate::tables::{add_once, add_once_hashed, reset};
+use crate::tables::{add_once, add_once_hashed, reset, settle};
 use crate::transfer::transfer;
 use crate::write::put_or_alloc;
 use std::test::Fail;
@@ -161,6 +161,8 @@ fn a_hashed_table_keeps_the_first_value(rt: HostRuntime) -> Result<(), Fail> {
     assert!(rt; add_once_hashed(&mut table, 7, 3)?);
     assert!(rt; !add_once_hashed(&mut table, 7, 9)?);
     assert_equal!(rt; (table.get(&7), table.len()), (Some(&3), 1));
+    assert!(rt; add_once_hashed(&mut table, 8, 4)?);
+    assert_equal!(rt; (settle(&mut table), table.len()), (7, 0));
     Ok(())
 }
 
