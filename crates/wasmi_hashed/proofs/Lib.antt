@@ -4,3 +4,4 @@ mod Values
 mod Gone
 mod Drains
 mod Ended
+mod HeldMemory

@@ -1,2 +1,3 @@
 mod Gone
 mod Ended
+mod HeldMemory

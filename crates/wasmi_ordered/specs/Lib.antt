@@ -1,2 +1,3 @@
+pub mod MapHeld
 pub mod MapLend
 pub mod MapEntry

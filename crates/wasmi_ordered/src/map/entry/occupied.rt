@@ -3,6 +3,7 @@ ghost use Rattle.std.specs.Prelude.{◌≡◌, Some};
 ghost use Rattle.std.specs.BTreeMap.Entry.{entry_follows, entry_key, entry_value, IsWritten};
 ghost use Rattle.std.specs.Borrow.{sem};
 ghost use Rattle.wasmi_ordered.specs.MapEntry.{place, inner_without};
+ghost use Rattle.wasmi_ordered.specs.MapHeld.{lends_held, with_value};
 ghost use Rattle.wasmi_ordered.specs.declared.map.entry.Entry.TheVariants.{Occupied};
 
 use super::OccupiedEntry;
@@ -39,7 +40,9 @@ impl<'a, K: Hash + Ord, V, A: Allocator> OccupiedEntry<'a, K, V, A> {
     /// The value to write to, while the place is kept.
     /// Logarithmic, without comparing keys; no allocation.
     pub fn get_mut(&mut self) -> &mut V
-        ensures { entry_value (place (Occupied self.old)) ≡ Some result.now }
+        ensures* writes_back { sem 𝓛 (lends_held K.row V.row A.row A.Allocator self.entry result) }
+        ensures value { entry_value (place (Occupied self.old)) ≡ Some result.now }
+        ensures written { (last : V) → IsWritten (place (Occupied self.old)) last (place (Occupied (with_value self.old last))) }
     {
         self.entry.get_mut()
     }
