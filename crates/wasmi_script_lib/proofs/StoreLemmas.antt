@@ -1,5 +1,5 @@
 -- What a store shows, after each call.
-use Rattle.std.proofs.Common.{◌≡◌, ◌⊎◌, ℕ, zero, suc, ◌+◌, ◌<◌, ◌≤◌, ◌^◌, Bool, true, false, cond, List, [], ◌∷◌, ◌++◌, length, map, slice_get, slice_set, slice_index_or, Option, Some, None, option_map, Result, Ok, Err, IfOk, OnOk, OnErr, IsErrOf, refl, ap, ◌∙◌, subst, sym, inl, inr, arith, length-append, ltb, true≢false}
+use Rattle.std.proofs.Common.{◌≡◌, ◌⊎◌, ℕ, zero, suc, ◌+◌, ◌<◌, ◌≤◌, ◌^◌, Bool, true, false, cond, List, [], ◌∷◌, ◌++◌, length, map, slice_get, slice_set, slice_index_or, Option, Some, None, option_map, Result, Ok, Err, IfErr, IfOk, OnOk, OnErr, IsErrOf, refl, ap, ◌∙◌, subst, sym, inl, inr, arith, length-append, ltb, true≢false}
 use Rattle.std.specs.Prelude.{◌≢◌, ◌↔◌, IsSome, is_some, not, ◌&&◌}
 use Rattle.std.specs.List.{AllByRecursion, IsDistinct, position_or_len}
 use Rattle.std.specs.Str.{bytes_eq}
@@ -12,7 +12,7 @@ use Rattle.wasmi_arena.specs.Arena.{stable_limit}
 use Rattle.wasmi_arena.specs.Geometry.{max_len}
 use Rattle.wasmi_arena.specs.Keys.{own_keys}
 use Rattle.wasmi_arena.specs.declared.error.ArenaError.{ArenaError}
-use Rattle.wasmi_arena.specs.declared.error.ArenaError.TheVariants.{NotEnoughKeys}
+use Rattle.wasmi_arena.specs.declared.error.ArenaError.TheVariants.{DuplicateItem, KeyOutOfBounds, NotEnoughKeys, OutOfSystemMemory}
 use Rattle.wasmi_collections.specs.Interner.{symbol_of, AreDistinctTexts}
 use Rattle.wasmi_dense.specs.Components.{component_at, extent, ChangesAt}
 use Rattle.wasmi_script_lib.specs.Store.{Entity, Store, texts_with, with_new, with_entity, with_property, with_renamed, IsFullFor, KeepsEntities, entities_with_property, is_other_kind, renamed, with_renamed_kind, shown, all_shown, store_of, IsSound}
@@ -138,6 +138,11 @@ tells_other store entity kind = next (bytes_eq entity.kind kind) refl
 
 -- ---- what is shown
 
+not_bound : {T : Type 0} (result : Result T ArenaError) → IfErr result (λ error. (error ≡ DuplicateItem) ⊎ (error ≡ OutOfSystemMemory)) → IsErrOf result KeyOutOfBounds → ⊥
+not_bound (Ok x) errors is = cc is
+not_bound (Err e) (inl duplicate) is = cc (duplicate, is)
+not_bound (Err e) (inr memory) is = cc (memory, is)
+
 module _ (names kinds : List (List ℕ)) (properties : List (Option ℕ)) where
   pub all_shown_length : (number : ℕ) (entities : List Named) → length (all_shown names kinds properties number entities) ≡ length entities
   all_shown_length number [] = refl
@@ -198,6 +203,34 @@ module _ (names kinds : List (List ℕ)) (properties : List (Option ℕ)) where
   pub listed : (number : ℕ) (entities : List Named) → AllByRecursion IsNamed entities → AllByRecursion (λ (entity : Entity). IsSome (symbol_of names entity.name) × IsSome (symbol_of kinds entity.kind)) (all_shown names kinds properties number entities)
   listed number [] named = tt
   listed number (e ∷ es) named = ((is_text names e.name named.0.0, is_text kinds e.kind named.0.1), listed (number + 1) es named.1)
+
+  -- an entity's name and kind have numbers below theirs
+  pub named_at : (key : ℕ) (named : Named) (entities : List Named) → IsSound names kinds properties entities → slice_get entities key ≡ Some named → IsNamed named
+  named_at key named entities sound at = at_place IsNamed key named entities sound.named at
+
+  -- a key reads an entity where it reads its numbers
+  pub ok_bound : {T U : Type 0} (x : T) (y : U) (key : ℕ) (entities : List Named) → IsErrOf {T = T} {E = ArenaError} (Ok x) KeyOutOfBounds ↔ (length entities ≤ key)
+      → IsErrOf {T = U} {E = ArenaError} (Ok y) KeyOutOfBounds ↔ (length (all_shown names kinds properties 0 entities) ≤ key)
+  ok_bound x y key entities bound = (λ is. absurd (cc is), λ past. absurd (let same = bound.1 (omega (arith, past, all_shown_length 0 entities)) in cc same))
+
+  pub err_bound : {T U : Type 0} (error : ArenaError) (key : ℕ) (entities : List Named) → IsErrOf {T = T} {E = ArenaError} (Err error) KeyOutOfBounds ↔ (length entities ≤ key)
+      → IsErrOf {T = U} {E = ArenaError} (Err error) KeyOutOfBounds ↔ (length (all_shown names kinds properties 0 entities) ≤ key)
+  err_bound error key entities bound = (
+    λ is. let same : error ≡ KeyOutOfBounds = cc is in omega (arith, bound.0 (ap Err same), all_shown_length 0 entities),
+    λ past. let refused = bound.1 (omega (arith, past, all_shown_length 0 entities)) in let same : error ≡ KeyOutOfBounds = cc refused in ap Err same,
+  )
+
+  -- a kind's new name is refused for no key
+  pub rename_bound : {T : Type 0} (result : Result T ArenaError) (key : ℕ) (named : Named) (entities : List Named) → IfErr result (λ error. (error ≡ DuplicateItem) ⊎ (error ≡ OutOfSystemMemory)) → slice_get entities key ≡ Some named
+      → IsErrOf result KeyOutOfBounds ↔ (length (all_shown names kinds properties 0 entities) ≤ key)
+  rename_bound result key named entities errors at = (λ is. absurd (not_bound result errors is), λ past. absurd (omega (arith, past, slice_get_within entities key named at, all_shown_length 0 entities)))
+
+  -- other kinds, as many as before
+  pub IsSound-kinds : (more : List (List ℕ)) (entities : List Named) → length more ≡ length kinds → IsSound names kinds properties entities → IsSound names more properties entities
+  IsSound-kinds more entities same sound = record {
+    named = subst (λ (len : ℕ). AllByRecursion (λ (named : Named). (named.name < length names) × (named.kind < len)) entities) (sym same) sound.named;
+    few = sound.few;
+  }
 
   -- more names and kinds change no entity
   module _ (more_names more_kinds : List (List ℕ)) (grows : Grows names more_names) (kinds_grow : Grows kinds more_kinds) where
@@ -308,3 +341,17 @@ module _ (names kinds : List (List ℕ)) (properties : List (Option ℕ)) (entit
 pub OnErr-of : {T E P : Type 0} (r : Result T E) → P → OnErr r P
 OnErr-of (Ok x) p = tt
 OnErr-of (Err e) p = p
+
+-- what holds after an `Ok` and after an `Err`
+pub either_way : {T E P R : Type 0} {Q : T → Type 0} (r : Result T E) → ((x : T) → Q x → P) → (R → P) → IfOk r Q → OnErr r R → P
+either_way (Ok x) ok err q r = ok x q
+either_way (Err e) ok err q r = err r
+
+pub on_either : {T E P Q R : Type 0} (r : Result T E) → (Q → P) → (R → P) → OnOk r Q → OnErr r R → P
+on_either (Ok x) ok err q r = ok q
+on_either (Err e) ok err q r = err r
+
+-- one error more
+pub one_more : {T E : Type 0} (P Q : E → Type 0) (r : Result T E) → IfErr r Q → IfErr r (λ error. P error ⊎ Q error)
+one_more P Q (Ok x) q = tt
+one_more P Q (Err e) q = inr q

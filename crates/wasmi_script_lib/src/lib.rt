@@ -20,6 +20,7 @@
 #![tactic(auto)]
 
 mod error;
+mod kinds;
 mod line;
 mod program;
 mod session;

@@ -1,18 +1,17 @@
 //! A store of entities, on top of the containers.
-ghost use Rattle.std.specs.Prelude.{◌≡◌, ◌≢◌, ◌<◌, ◌≤◌, ◌↔◌, ◌⊎◌, ◌^◌, [], length, map, IfOk, IfErr, IfNone, IfSome, OnOk, OnErr, IsErrOf, IsOk, IsOkUnless, IsSome, None, Some, option_map, slice_get, slice_index_or, string_bytes};
+ghost use Rattle.std.specs.Prelude.{◌≡◌, ◌≢◌, ◌<◌, ◌≤◌, ◌↔◌, ◌⊎◌, ◌^◌, [], length, IfOk, IfErr, IfNone, IfSome, OnOk, OnErr, IsErrOf, IsOk, IsOkUnless, IsSome, IsTrue, IsFalse, None, Some, option_map, slice_get};
 ghost use Rattle.std.proofs.Common.{lit≤};
 ghost use Rattle.std.specs.List.{AllByRecursion};
 ghost use Rattle.wasmi_arena.specs.Geometry.{max_len};
 ghost use Rattle.wasmi_arena.specs.Keys.{own_keys};
 ghost use Rattle.wasmi_arena.specs.KeyLaws.{own_keys_law};
 ghost use Rattle.wasmi_collections.specs.Interner.{symbol_of, AreDistinctTexts};
-ghost use Rattle.wasmi_script_lib.specs.Store.{Entity, IsFullFor, IsListed, IsOtherKind, KeepsEntities, RenamesKind, renamed, with_entity, with_new, with_property};
+ghost use Rattle.wasmi_script_lib.specs.Store.{Entity, IsFullFor, IsListed, IsOtherKind, KeepsEntities, RenamesKind, with_entity, with_new, with_property};
 
-use std::alloc::Global;
+use crate::kinds::Kinds;
+use std::alloc::{Allocator, Global};
 use std::marker::Model;
 use wasmi_arena::{ArenaError, ArenaKey, StableArena};
-use wasmi_collections::arena::DedupArena;
-use wasmi_collections::laws::{strings_by_bytes, symbols_of_distinct_texts, texts_handed_in};
 use wasmi_collections::string_interner::{StringInterner, Sym};
 use wasmi_dense::ComponentVec;
 
@@ -64,45 +63,39 @@ struct Named {
 ///
 /// Each name and each kind is kept once. A kind that is renamed is renamed for each entity that has it.
 #[derive(Drop)]
-pub struct EntityStore {
-    names: StringInterner,
-    kinds: DedupArena<usize, String>,
-    entities: StableArena<EntityKey, Named>,
-    properties: ComponentVec<EntityKey, u64>,
-    alloc: Global,
+pub struct EntityStore<A: Allocator = Global> {
+    entities: StableArena<EntityKey, Named, A>,
+    properties: ComponentVec<EntityKey, u64, A>,
+    names: StringInterner<A>,
+    kinds: Kinds<A>,
 }
 
-impl Model for EntityStore {
-    ghost use Rattle.std.specs.Prelude.{◌≡◌, map, string_bytes};
+impl<A: Allocator> Model for EntityStore<A> {
     ghost use Rattle.wasmi_script_lib.specs.Store.{Store, store_of, IsSound};
 
     ghost Value = { Store };
 
-    ghost view = { λ store. store_of store.names (map string_bytes store.kinds.handed) store.properties
-        store.entities };
+    ghost view = { λ store. store_of store.names store.kinds store.properties store.entities };
 
-    // No kind is written to but by `DedupArena::replace`, so each item is a clone of the value handed in.
-    ghost invariant = { λ store. IsSound store.names (map string_bytes store.kinds.handed) store.properties
-        store.entities
-        × (map string_bytes store.kinds.items ≡ map string_bytes store.kinds.handed) };
+    ghost invariant = { λ store. IsSound store.names store.kinds store.properties store.entities };
 }
 
-impl EntityStore {
+impl<A: Allocator> EntityStore<A> {
     /// A store without entities, which asks `alloc` for memory when one comes. Constant time, no allocation.
-    pub fn new(alloc: Global) -> Self
+    pub fn new(alloc: A) -> Self
+    where
+        A: Copy,
         ensures { result ≡ record { names = []; kinds = []; entities = [] } }
     {
         EntityStore {
-            names: StringInterner::new(alloc),
-            kinds: DedupArena::new(alloc),
             entities: StableArena::new(alloc),
             properties: ComponentVec::new(alloc),
-            alloc,
+            names: StringInterner::new(alloc),
+            kinds: Kinds::new(alloc),
         }
     }
 
     /// The number of entities. Constant time.
-    #[tactic(auto, using(crate::proofs::StoreLemmas::all_shown_length))]
     pub fn len(&self) -> usize
         ensures value { result ≡ length self.now.entities }
         ensures most { length self.now.entities ≤ max_len }
@@ -112,16 +105,24 @@ impl EntityStore {
     }
 
     /// The key of this number, if an entity has it. Constant time.
-    #[tactic(auto, using(crate::proofs::StoreLemmas::all_shown_length))]
     pub(crate) fn key(&self, number: usize) -> Option<EntityKey>
         ensures there { IfSome result (λ key. (key ≡ number) × (number < length self.now.entities)) }
         ensures absent { IfNone result (length self.now.entities ≤ number) }
     {
-        if number < self.entities.len() {
+        if number < self.len() {
             EntityKey::from_usize(number)
         } else {
             None
         }
+    }
+
+    // Whether a key reads an entity.
+    fn has(&self, key: EntityKey) -> bool
+        ensures there { IsTrue result → key < length self.now.entities }
+        ensures past { IsFalse result → length self.now.entities ≤ key }
+        ensures few { length self.now.entities ≤ max_len }
+    {
+        key.into_usize() < self.len()
     }
 
     /// The number of names. Constant time.
@@ -138,7 +139,6 @@ impl EntityStore {
         ensures value { result ≡ length self.now.kinds }
         ensures distinct { AreDistinctTexts self.now.kinds }
     {
-        texts_handed_in::<usize, Global>();
         self.kinds.len()
     }
 
@@ -149,8 +149,9 @@ impl EntityStore {
     /// names, and then nothing has changed; and with `OutOfSystemMemory` if there is no memory, and then the
     /// entities are as before, but the name and the kind may be there. Expected time as of
     /// [`get_or_intern`](StringInterner::get_or_intern) and [`alloc`](DedupArena::alloc).
-    #[tactic(auto, using(crate::proofs::StoreLemmas::all_shown_length))]
     pub fn add(&mut self, name: &str, kind: &str) -> Result<EntityKey, ArenaError>
+    where
+        A: Copy,
         ensures key { IfOk result (λ key. key ≡ length self.old.entities) }
         ensures ok { OnOk result (self.new ≡ with_entity self.old name.now kind.now) }
         ensures no_key { IsErrOf result ArenaError.NotEnoughKeys ↔ IsFullFor self.old name.now }
@@ -161,13 +162,12 @@ impl EntityStore {
     {
         self.entities.next_key()?;
         let name = intern(&mut self.names, name)?;
-        let kind = hand_in(&mut self.kinds, self.alloc, kind)?;
+        let kind = self.kinds.hand_in(kind)?;
         self.entities.alloc(Named { name, kind })
     }
 
     /// The name, the kind and the property of an entity, or `KeyOutOfBounds` if there is none under the key.
     /// Constant time, no allocation.
-    #[tactic(auto, using(crate::proofs::StoreLemmas::all_shown_length))]
     pub fn get(&self, key: EntityKey) -> Result<(&str, &str, Option<u64>), ArenaError>
         ensures entity { IfOk result (λ entity. slice_get self.now.entities key
             ≡ Some (record { name = entity.0.now; kind = entity.1.now; property = entity.2 })) }
@@ -177,7 +177,7 @@ impl EntityStore {
         match self.entities.get(key) {
             Ok(named) => {
                 let name = self.names.text(named.name);
-                let kind = self.kinds[named.kind].as_str();
+                let kind = self.kinds.text(named.kind);
                 Ok((name, kind, self.properties.get(key).copied()))
             }
             Err(error) => Err(error),
@@ -189,7 +189,6 @@ impl EntityStore {
     /// Fails with `KeyOutOfBounds` if there is no entity under the key, and then with `OutOfSystemMemory` if
     /// there is no memory, but not for an entity that has a property. After an error nothing has changed.
     /// Constant time, but for growths.
-    #[tactic(auto, using(crate::proofs::StoreLemmas::all_shown_length))]
     pub fn set(&mut self, key: EntityKey, property: u64) -> Result<Option<u64>, ArenaError>
         ensures old { IfOk result (λ old.
             option_map (λ entity. entity.property) (slice_get self.old.entities key) ≡ Some old) }
@@ -201,15 +200,15 @@ impl EntityStore {
             → IsSome entity.property → IsOk result }
         ensures err { OnErr result (self.new ≡ self.old) }
     {
-        if !self.entities.has(key) {
-            return Err(ArenaError::KeyOutOfBounds);
+        if self.has(key) {
+            self.properties.set(key, property)
+        } else {
+            Err(ArenaError::KeyOutOfBounds)
         }
-        self.properties.set(key, property)
     }
 
     /// Takes an entity's property out, and returns it. Fails with `KeyOutOfBounds` if there is no entity
     /// under the key, and then nothing has changed. Constant time, no allocation.
-    #[tactic(auto, using(crate::proofs::StoreLemmas::all_shown_length))]
     pub fn unset(&mut self, key: EntityKey) -> Result<Option<u64>, ArenaError>
         ensures old { IfOk result (λ old.
             option_map (λ entity. entity.property) (slice_get self.old.entities key) ≡ Some old) }
@@ -218,10 +217,11 @@ impl EntityStore {
         ensures errors { IsOkUnless result ArenaError.KeyOutOfBounds }
         ensures err { OnErr result (self.new ≡ self.old) }
     {
-        if !self.entities.has(key) {
-            return Err(ArenaError::KeyOutOfBounds);
+        if self.has(key) {
+            Ok(self.properties.unset(key))
+        } else {
+            Err(ArenaError::KeyOutOfBounds)
         }
-        Ok(self.properties.unset(key))
     }
 
     /// Renames the kind of an entity, and so that of each entity of this kind. The name that it has already
@@ -230,8 +230,9 @@ impl EntityStore {
     /// Fails with `KeyOutOfBounds` if there is no entity under the key, then with `DuplicateItem` if another
     /// kind has the name, and then with `OutOfSystemMemory` if there is no memory. After an error nothing has
     /// changed. Expected constant time, but for growths.
-    #[tactic(auto, using(crate::proofs::StoreLemmas::all_shown_length))]
     pub fn rename_kind(&mut self, key: EntityKey, kind: &str) -> Result<(), ArenaError>
+    where
+        A: Copy,
         ensures ok { OnOk result (RenamesKind self.old key kind.now self.new) }
         ensures out_of_bounds { IsErrOf result ArenaError.KeyOutOfBounds ↔ (length self.old.entities ≤ key) }
         ensures duplicate { IsErrOf result ArenaError.DuplicateItem ↔ IsOtherKind self.old key kind.now }
@@ -242,14 +243,17 @@ impl EntityStore {
         ensures err { OnErr result (self.new ≡ self.old) }
     {
         match self.entities.get(key) {
-            Ok(named) => rename(&mut self.kinds, self.alloc, named.kind, kind),
+            Ok(named) => self.kinds.rename(named.kind, kind),
             Err(error) => Err(error),
         }
     }
 }
 
 // The symbol of a name, which goes to the end of the names if it is new.
-fn intern(names: &mut StringInterner, name: &str) -> Result<Sym, ArenaError>
+fn intern<A: Allocator + Clone>(
+    names: &mut StringInterner<A>,
+    name: &str,
+) -> Result<Sym, ArenaError>
     ensures ok { OnOk result (names.new ≡ with_new names.old name.now) }
     ensures reads { IfOk result (λ symbol. slice_get names.new symbol ≡ Some name.now) }
     ensures no_symbol { IsErrOf result ArenaError.NotEnoughKeys
@@ -259,60 +263,4 @@ fn intern(names: &mut StringInterner, name: &str) -> Result<Sym, ArenaError>
     ensures err { OnErr result (names.new ≡ names.old) }
 {
     names.get_or_intern(name)
-}
-
-// The key of a kind, which goes to the end of the kinds if it is new.
-fn hand_in(
-    kinds: &mut DedupArena<usize, String>,
-    alloc: Global,
-    kind: &str,
-) -> Result<usize, ArenaError>
-    requires { map string_bytes kinds.old.items ≡ map string_bytes kinds.old.handed }
-    ensures clones { map string_bytes kinds.new.items ≡ map string_bytes kinds.new.handed }
-    ensures ok { OnOk result (map string_bytes kinds.new.handed
-        ≡ with_new (map string_bytes kinds.old.handed) kind.now) }
-    ensures reads { IfOk result (λ number.
-        slice_get (map string_bytes kinds.new.handed) number ≡ Some kind.now) }
-    ensures errors { IsOkUnless result ArenaError.OutOfSystemMemory }
-    ensures err { OnErr result (kinds.new ≡ kinds.old) }
-{
-    texts_handed_in::<usize, Global>();
-    symbols_of_distinct_texts();
-    kinds.len();
-    kinds.alloc_str(alloc, kind)
-}
-
-// Gives a kind another name, unless another kind has it.
-fn rename(
-    kinds: &mut DedupArena<usize, String>,
-    alloc: Global,
-    number: usize,
-    kind: &str,
-) -> Result<(), ArenaError>
-    requires clones { map string_bytes kinds.old.items ≡ map string_bytes kinds.old.handed }
-    requires there { number < length (map string_bytes kinds.old.handed) }
-    ensures clones { map string_bytes kinds.new.items ≡ map string_bytes kinds.new.handed }
-    ensures ok { OnOk result (map string_bytes kinds.new.handed
-        ≡ map (renamed (slice_index_or (map string_bytes kinds.old.handed) number []) kind.now)
-        (map string_bytes kinds.old.handed)) }
-    ensures duplicate { IsErrOf result ArenaError.DuplicateItem
-        ↔ ((slice_index_or (map string_bytes kinds.old.handed) number [] ≢ kind.now)
-        × IsSome (symbol_of (map string_bytes kinds.old.handed) kind.now)) }
-    ensures errors { IfErr result (λ error. (error ≡ ArenaError.DuplicateItem)
-        ⊎ (error ≡ ArenaError.OutOfSystemMemory)) }
-    ensures same { slice_index_or (map string_bytes kinds.old.handed) number [] ≡ kind.now → IsOk result }
-    ensures err { OnErr result (kinds.new ≡ kinds.old) }
-{
-    texts_handed_in::<usize, Global>();
-    symbols_of_distinct_texts();
-    strings_by_bytes::<Global>();
-    kinds.len();
-    match kinds.key_of_str(kind) {
-        Some(there) if there == number => Ok(()),
-        Some(_) => Err(ArenaError::DuplicateItem),
-        None => {
-            kinds.replace(number, String::from_str(alloc, kind)?)?;
-            Ok(())
-        }
-    }
 }
