@@ -75,11 +75,22 @@ fn three(first: u32, digit: u32) -> [Digit; 3] {
     })
 }
 
+impl Digit {
+    // What it adds to a number.
+    fn worth(&self) -> u32 {
+        self.digit.wrapping_mul(10u32.wrapping_pow(self.place))
+    }
+}
+
 // The number that these digits make.
-fn number<'a, I: Iterator<Item = &'a Digit>>(digits: I) -> u32 {
-    digits.fold(0, |sum, digit| {
-        sum.wrapping_add(digit.digit.wrapping_mul(10u32.wrapping_pow(digit.place)))
-    })
+macro_rules! number {
+    ($digits:expr) => {{
+        let mut sum: u32 = 0;
+        for digit in $digits {
+            sum = sum.wrapping_add(digit.worth());
+        }
+        sum
+    }};
 }
 
 // Places 0 to 2 have a 1 on the one side, and 1 to 3 a 2 on the other.
@@ -113,14 +124,14 @@ fn an_ordered_set_keeps_its_own_element(rt: HostRuntime) -> Result<(), Fail> {
         ("sub", &one.sub(&other)?, 1),
         ("bitxor", &one.bitxor(&other)?, 2001),
     ] {
-        assert_equal!(rt; number(set.iter()), want, "of {call}");
+        assert_equal!(rt; number!(set.iter()), want, "of {call}");
     }
-    assert_equal!(rt; number(one.union(&other)), 2111);
-    assert_equal!(rt; number(other.union(&one)), 2221);
-    assert_equal!(rt; number(one.intersection(&other)), 110);
-    assert_equal!(rt; number(other.intersection(&one)), 220);
-    assert_equal!(rt; number(one.difference(&other)), 1);
-    assert_equal!(rt; number(one.symmetric_difference(&other)), 2001);
+    assert_equal!(rt; number!(one.union(&other)), 2111);
+    assert_equal!(rt; number!(other.union(&one)), 2221);
+    assert_equal!(rt; number!(one.intersection(&other)), 110);
+    assert_equal!(rt; number!(other.intersection(&one)), 220);
+    assert_equal!(rt; number!(one.difference(&other)), 1);
+    assert_equal!(rt; number!(one.symmetric_difference(&other)), 2001);
     assert_equal!(rt; collected.take(&Digit { place: 1, digit: 2 }).map(|element| element.digit), Some(1));
     Ok(())
 }
@@ -154,10 +165,10 @@ fn a_hashed_set_keeps_its_own_element(rt: HostRuntime) -> Result<(), Fail> {
         ("sub", &one.sub(&other)?, 1),
         ("bitxor", &one.bitxor(&other)?, 2001),
     ] {
-        assert_equal!(rt; number(set.iter()), want, "of {call}");
+        assert_equal!(rt; number!(set.iter()), want, "of {call}");
     }
-    assert_equal!(rt; number(one.difference(&other)), 1);
-    assert_equal!(rt; number(one.symmetric_difference(&other)), 2001);
+    assert_equal!(rt; number!(one.difference(&other)), 1);
+    assert_equal!(rt; number!(one.symmetric_difference(&other)), 2001);
     assert_equal!(rt; collected.take(&Digit { place: 1, digit: 2 }).map(|element| element.digit), Some(1));
     Ok(())
 }
@@ -197,7 +208,7 @@ fn a_map_keeps_its_own_key(rt: HostRuntime) -> Result<(), Fail> {
                 }
             }
         }
-        assert_equal!(rt; (number(tree.keys()), number(table.keys())), (2111, 2111), "at {turn}");
+        assert_equal!(rt; (number!(tree.keys()), number!(table.keys())), (2111, 2111), "at {turn}");
         assert_equal!(rt; (tree.len(), tree.get(&more[0].0)), (4, Some(&2)));
         assert_equal!(rt; (table.len(), table.get(&more[0].0)), (4, Some(&2)));
     }
