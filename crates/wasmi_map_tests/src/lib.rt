@@ -6,6 +6,4 @@ mod entries;
 #[cfg(test)]
 mod hashed;
 #[cfg(test)]
-mod kept;
-#[cfg(test)]
 mod ordered;
