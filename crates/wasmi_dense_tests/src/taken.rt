@@ -55,11 +55,18 @@ fn a_refused_clone_or_reserve_changes_nothing(rt: HostRuntime) -> Result<(), Fai
     assert_equal!(rt; components.clone().err(), Some(ArenaError::OutOfSystemMemory));
     log.refuse_none();
     components.reserve(40)?;
+    let (requests, bytes) = (log.requests(), log.bytes());
     let other = components.clone()?;
+    // Three places of 16 bytes.
+    assert_equal!(rt;
+        (log.requests(), log.bytes()),
+        (requests.wrapping_add(1), bytes.wrapping_add(48))
+    );
     log.refuse_from(1);
     for number in 3..43u32 {
         assert_equal!(rt; components.set(number, 8)?, None);
     }
+    assert_equal!(rt; components.reserve(0), Ok(()));
     assert_equal!(rt; other.extent(), 3);
     assert_equal!(rt; (other.get(2), other.get(1)), (Some(&7), None));
     Ok(())
