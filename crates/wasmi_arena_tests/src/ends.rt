@@ -145,3 +145,39 @@ fn a_cleared_arena_begins_anew(rt: HostRuntime) -> Result<(), Fail> {
     assert_equal!(rt; (log.given(), log.returned(), log.misplaced()), (2, 2, 0));
     Ok(())
 }
+
+// An item that counts itself when it is dropped, if all items of lower numbers were.
+struct InTurn<'a> {
+    number: u32,
+    next: &'a Cell<u32>,
+}
+
+impl Drop for InTurn<'_> {
+    fn drop(self) {
+        if self.next.get() == self.number {
+            self.next.set(self.number.wrapping_add(1));
+        }
+        let InTurn { number: _, next: _ } = self;
+    }
+}
+
+#[test]
+fn items_are_dropped_from_the_first_on(rt: HostRuntime) -> Result<(), Fail> {
+    let (of_vec, of_arena) = (Cell::new(0), Cell::new(0));
+    let mut vec = StableVec::new(rt.alloc());
+    let mut arena: StableArena<u32, InTurn<'_>> = StableArena::new(rt.alloc());
+    for number in 0..100 {
+        vec.push(InTurn {
+            number,
+            next: &of_vec,
+        })?;
+        arena.alloc(InTurn {
+            number,
+            next: &of_arena,
+        })?;
+    }
+    vec.clear();
+    arena.clear();
+    assert_equal!(rt; (of_vec.get(), of_arena.get()), (100, 100));
+    Ok(())
+}

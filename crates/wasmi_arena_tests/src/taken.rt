@@ -22,40 +22,56 @@ fn items_are_taken_out_of_a_vector_from_both_ends(rt: HostRuntime) -> Result<(),
     Ok(())
 }
 
-// Buckets of 32, 64 and 128 slots, the last with 4 items. The first goes back once the front is past it.
+// Buckets of 32, 64 and 128 slots, the last with 4 items. Each goes back once an end is past it.
 #[test]
 fn entries_are_taken_out_of_an_arena(rt: HostRuntime) -> Result<(), Fail> {
-    let log = Log::new();
-    let drops = counts(rt.alloc(), 100)?;
-    let mut arena: StableArena<u32, Counted<'_>, Observed<'_>> = StableArena::new(Observed::new(
-        rt.alloc(),
-        &log,
-    ));
-    for count in &drops {
-        arena.alloc(Counted::new(count))?;
-    }
-    log.refuse_from(1);
-    let mut entries = arena.into_iter();
-    for (from_front, times, key, left, returned) in [
-        (true, 32, 31, 68, 0),
-        (true, 1, 32, 67, 1),
-        (false, 4, 96, 63, 1),
-        (false, 1, 95, 62, 1),
+    for (steps, taken) in [
+        (
+            [
+                (true, 32, 31, 68, 0),
+                (true, 1, 32, 67, 1),
+                (false, 4, 96, 63, 1),
+                (false, 1, 95, 62, 1),
+            ],
+            38,
+        ),
+        (
+            [
+                (false, 4, 96, 96, 0),
+                (false, 1, 95, 95, 1),
+                (false, 63, 32, 32, 1),
+                (false, 1, 31, 31, 2),
+            ],
+            69,
+        ),
     ] {
-        let mut last = None;
-        for _ in 0..times {
-            last = if from_front {
-                entries.next()
-            } else {
-                entries.next_back()
-            };
+        let log = Log::new();
+        let drops = counts(rt.alloc(), 100)?;
+        let mut arena: StableArena<u32, Counted<'_>, Observed<'_>> = StableArena::new(Observed::new(
+            rt.alloc(),
+            &log,
+        ));
+        for count in &drops {
+            arena.alloc(Counted::new(count))?;
         }
-        assert_equal!(rt; last.map(|(key, _item)| key), Some(key));
-        assert_equal!(rt; (entries.len(), log.returned()), (left, returned));
+        log.refuse_from(1);
+        let mut entries = arena.into_iter();
+        for (from_front, times, key, left, returned) in steps {
+            let mut last = None;
+            for _ in 0..times {
+                last = if from_front {
+                    entries.next()
+                } else {
+                    entries.next_back()
+                };
+            }
+            assert_equal!(rt; last.map(|(key, _item)| key), Some(key));
+            assert_equal!(rt; (entries.len(), log.returned()), (left, returned));
+        }
+        assert_equal!(rt; drops.iter().filter(|count| count.get() == 1).count(), taken);
+        drop(entries);
+        assert!(rt; each_is(&drops, 1));
+        assert_equal!(rt; (log.given(), log.returned(), log.misplaced()), (3, 3, 0));
     }
-    assert_equal!(rt; drops.iter().filter(|count| count.get() == 1).count(), 38);
-    drop(entries);
-    assert!(rt; each_is(&drops, 1));
-    assert_equal!(rt; (log.given(), log.returned(), log.misplaced()), (3, 3, 0));
     Ok(())
 }
