@@ -174,31 +174,39 @@ fn refused_in_set<S: AnySet<u32>>(
     Ok((set.len() == 20 && replies.len() == 20).then_some(refused))
 }
 
+// The same of each container in turn, of the four in this order.
+fn refused_in(
+    heap: &Observed<'_>,
+    log: &Log,
+    container: u8,
+    nth: u64,
+) -> Result<Option<usize>, ArenaError> {
+    match container {
+        0 => refused_in_map(heap, log, &mut ordered::Map::new(heap), nth),
+        1 => refused_in_map(heap, log, &mut hashed::Map::new(heap), nth),
+        2 => refused_in_set(heap, log, &mut ordered::Set::new(heap), nth),
+        _ => refused_in_set(heap, log, &mut hashed::Set::new(heap), nth),
+    }
+}
+
 // The first request is that for the replies. A run whose request is refused later goes on.
 #[test]
 fn runs_over_maps_and_sets_go_on_after_a_refusal(rt: HostRuntime) -> Result<(), Fail> {
     for nth in 1..=4u64 {
-        let log = Log::new();
-        {
-            let heap = Observed::new(rt.alloc(), &log);
-            let mut tree = ordered::Map::new(&heap);
-            let mut table = hashed::Map::new(&heap);
-            let mut elements = ordered::Set::new(&heap);
-            let mut hashes = hashed::Set::new(&heap);
-            let outcomes = [
-                refused_in_map(&heap, &log, &mut tree, nth),
-                refused_in_map(&heap, &log, &mut table, nth),
-                refused_in_set(&heap, &log, &mut elements, nth),
-                refused_in_set(&heap, &log, &mut hashes, nth),
-            ];
-            let outcome = if nth == 1 {
-                Err(ArenaError::OutOfSystemMemory)
-            } else {
-                Ok(Some(1))
-            };
-            assert_equal!(rt; outcomes, [outcome; 4], "at {nth}");
+        let outcome = if nth == 1 {
+            Err(ArenaError::OutOfSystemMemory)
+        } else {
+            Ok(Some(1))
+        };
+        for container in 0..4u8 {
+            let log = Log::new();
+            {
+                let heap = Observed::new(rt.alloc(), &log);
+                let refused = refused_in(&heap, &log, container, nth);
+                assert_equal!(rt; refused, outcome, "{container} at {nth}");
+            }
+            assert_equal!(rt; (log.returned(), log.misplaced()), (log.given(), 0));
         }
-        assert_equal!(rt; (log.returned(), log.misplaced()), (log.given(), 0));
     }
     Ok(())
 }
@@ -241,34 +249,45 @@ fn text_set_commands<'a, 'l>(
     Ok(commands)
 }
 
+// Whether a run of such commands ends well, of each container in turn, whose nth request is refused.
+fn texts_run_in(
+    heap: &Observed<'_>,
+    log: &Log,
+    container: u8,
+    nth: u64,
+) -> Result<bool, ArenaError> {
+    if container < 2 {
+        let commands = text_map_commands(heap)?;
+        log.refuse_once(nth);
+        let ran = match container {
+            0 => run_map(heap, &mut ordered::Map::new(heap), commands),
+            _ => run_map(heap, &mut hashed::Map::new(heap), commands),
+        };
+        return Ok(ran.is_ok());
+    }
+    let commands = text_set_commands(heap)?;
+    log.refuse_once(nth);
+    let ran = match container {
+        2 => run_set(heap, &mut ordered::Set::new(heap), commands),
+        _ => run_set(heap, &mut hashed::Set::new(heap), commands),
+    };
+    Ok(ran.is_ok())
+}
+
 // What is put in, kept out, taken out and refused, and all commands of a run that has no memory for its
 // replies.
 #[test]
 fn runs_drop_each_text_once(rt: HostRuntime) -> Result<(), Fail> {
     for nth in 1..=5u64 {
-        let log = Log::new();
-        {
-            let heap = Observed::new(rt.alloc(), &log);
-            let mut tree = ordered::Map::new(&heap);
-            let mut table = hashed::Map::new(&heap);
-            let mut elements = ordered::Set::new(&heap);
-            let mut hashes = hashed::Set::new(&heap);
-            let commands = (text_map_commands(&heap)?, text_map_commands(&heap)?);
-            log.refuse_once(nth);
-            assert_equal!(rt; run_map(&heap, &mut tree, commands.0).is_ok(), nth != 1);
-            log.refuse_once(nth);
-            assert_equal!(rt; run_map(&heap, &mut table, commands.1).is_ok(), nth != 1);
-            let commands = (text_set_commands(&heap)?, text_set_commands(&heap)?);
-            log.refuse_once(nth);
-            assert_equal!(rt; run_set(&heap, &mut elements, commands.0).is_ok(), nth != 1);
-            log.refuse_once(nth);
-            assert_equal!(rt; run_set(&heap, &mut hashes, commands.1).is_ok(), nth != 1);
+        for container in 0..4u8 {
+            let log = Log::new();
+            {
+                let heap = Observed::new(rt.alloc(), &log);
+                let ran = texts_run_in(&heap, &log, container, nth)?;
+                assert_equal!(rt; ran, nth != 1, "{container} at {nth}");
+            }
+            assert_equal!(rt; (log.returned(), log.misplaced()), (log.given(), 0));
         }
-        assert_equal!(rt;
-            (log.returned(), log.misplaced()),
-            (log.given(), 0),
-            "at {nth}"
-        );
     }
     Ok(())
 }
