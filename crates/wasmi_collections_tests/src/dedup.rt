@@ -39,13 +39,6 @@ fn equal_values_have_one_key(rt: HostRuntime) -> Result<(), Fail> {
     assert_equal!(rt; (arena.len(), arena.get(4)), (4, nothing));
     let made = DedupArena::from_iter(rt.alloc(), ["a", "b", "c", "d"])?;
     assert!(rt; made == arena);
-    for ((key, item), (nth, value)) in arena.iter().zip(["a", "b", "c", "d"].iter().enumerate()) {
-        assert_equal!(rt; key, nth);
-        assert!(rt; item == value);
-        if key < arena.len() {
-            assert!(rt; arena[key] == *value);
-        }
-    }
     arena.clear();
     assert_equal!(rt; (arena.len(), arena.get(0)), (0, nothing));
     Ok(())

@@ -8,8 +8,6 @@ mod head_vec;
 #[cfg(test)]
 mod interner;
 #[cfg(test)]
-mod printed;
-#[cfg(test)]
 mod replace;
 #[cfg(test)]
 mod runs;
