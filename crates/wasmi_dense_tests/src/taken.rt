@@ -81,14 +81,16 @@ fn an_arena_with_capacity_asks_once(rt: HostRuntime) -> Result<(), Fail> {
         9,
     );
     assert_equal!(rt; refused.err(), Some(ArenaError::OutOfSystemMemory));
-    let mut arena: Arena<u32, u64, Observed<'_>> = Arena::with_capacity(
-        Observed::new(rt.alloc(), &log),
-        9,
-    )?;
-    for number in 0..9u32 {
-        assert_equal!(rt; arena.alloc(7)?, number);
+    for (capacity, requests) in [(0u32, 1), (9, 2), (5_000, 3)] {
+        let mut arena: Arena<u32, u64, Observed<'_>> = Arena::with_capacity(
+            Observed::new(rt.alloc(), &log),
+            capacity as usize,
+        )?;
+        for number in 0..capacity {
+            assert_equal!(rt; arena.alloc(7)?, number);
+        }
+        assert_equal!(rt; log.requests(), requests, "for {capacity}");
     }
-    assert_equal!(rt; log.requests(), 2);
     Ok(())
 }
 
