@@ -122,15 +122,25 @@ fn one_item_needs_no_memory(rt: HostRuntime) -> Result<(), Fail> {
     Ok(())
 }
 
+// The items before the last lie in blocks of 4, 8, 16 and so on places.
 #[test]
 fn a_pop_gives_no_memory_back(rt: HostRuntime) -> Result<(), Fail> {
     let log = Log::new();
     let mut items = HeadVec::new(Observed::new(rt.alloc(), &log));
-    for item in 0..40u32 {
-        items.push(item)?;
+    for (len, requests, bytes) in [
+        (1, 0, 0),
+        (2, 1, 16),
+        (5, 1, 16),
+        (6, 2, 48),
+        (5_000, 12, 65_520),
+    ] {
+        for _ in items.len()..len {
+            items.push(7u32)?;
+        }
+        assert_equal!(rt; (log.requests(), log.bytes()), (requests, bytes), "at {len}");
     }
     let returned = log.returned();
-    for _ in 0..40 {
+    for _ in 0..5_000 {
         assert!(rt; items.pop().is_some());
     }
     assert_equal!(rt; log.returned(), returned);

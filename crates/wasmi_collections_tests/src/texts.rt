@@ -13,18 +13,23 @@ fn texts_are_visited_from_both_ends(rt: HostRuntime) -> Result<(), Fail> {
     let mut interner = StringInterner::new(rt.alloc());
     interner.extend(NAMES)?;
     let mut left = interner.iter();
-    for (number, text) in [(4, "é"), (3, "global"), (2, "")] {
-        match left.next_back() {
-            Some((symbol, last)) => assert_equal!(rt; (symbol.into_u32(), last), (number, text)),
+    for (from_back, number, text, len) in [
+        (true, 4, "é", 4),
+        (false, 0, "memory", 3),
+        (true, 3, "global", 2),
+        (false, 1, "table", 1),
+        (true, 2, "", 0),
+    ] {
+        let visited = if from_back {
+            left.next_back()
+        } else {
+            left.next()
+        };
+        match visited {
+            Some((symbol, there)) => assert_equal!(rt; (symbol.into_u32(), there), (number, text)),
             None => return Err("a text is left".into()),
         }
-    }
-    assert_equal!(rt; left.len(), 2);
-    for (number, text) in [(0, "memory"), (1, "table")] {
-        match left.next() {
-            Some((symbol, first)) => assert_equal!(rt; (symbol.into_u32(), first), (number, text)),
-            None => return Err("a text is left".into()),
-        }
+        assert_equal!(rt; left.len(), len);
     }
     match (left.next_back(), left.next()) {
         (None, None) => assert_equal!(rt; left.len(), 0),
