@@ -8,3 +8,4 @@ pub mod States
 pub mod Outputs
 pub mod Sessions
 pub mod Statuses
+pub mod TextStates

@@ -23,8 +23,10 @@ mod error;
 mod kinds;
 mod line;
 mod program;
+mod reply;
 mod session;
 mod store;
+mod texts;
 
 pub use error::{ScriptError, exit_status};
 pub use program::run;

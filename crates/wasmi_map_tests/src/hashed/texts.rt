@@ -29,17 +29,12 @@ fn found<A: Allocator + Clone>(
 fn a_text_finds_its_key_without_memory(rt: HostRuntime) -> Result<(), Fail> {
     let log = Log::new();
     {
-        let mut map: Map<String, u32, FixedState, Observed<'_>> = Map::new(Observed::new(
-            rt.alloc(),
-            &log,
-        ));
-        let mut set: Set<String, FixedState, Observed<'_>> = Set::new(Observed::new(
-            rt.alloc(),
-            &log,
-        ));
+        let heap = Observed::new(rt.alloc(), &log);
+        let mut map: Map<String<&Observed<'_>>, u32, FixedState, &Observed<'_>> = Map::new(&heap);
+        let mut set: Set<String<&Observed<'_>>, FixedState, &Observed<'_>> = Set::new(&heap);
         for (text, value) in [("b", 2), ("", 0), ("a", 1), ("ab", 3)] {
-            map.insert(String::from_str(rt.alloc(), text)?, value)?;
-            set.insert(String::from_str(rt.alloc(), text)?)?;
+            map.insert(String::from_str(&heap, text)?, value)?;
+            set.insert(String::from_str(&heap, text)?)?;
         }
         log.refuse_from(1);
         for (text, value) in [
@@ -118,6 +113,16 @@ fn room_is_given_back(rt: HostRuntime) -> Result<(), Fail> {
         map.shrink_to_fit();
         set.shrink_to_fit();
         assert!(rt; map.capacity() < 1020 && set.capacity() < 1020);
+        // As many go in without memory as there is room for.
+        log.refuse_from(1);
+        let rooms = (map.capacity(), set.capacity());
+        for number in 20..100u32 {
+            assert_equal!(rt;
+                (map.insert(number, 0).is_ok(), set.insert(number).is_ok()),
+                ((number as usize) < rooms.0, (number as usize) < rooms.1)
+            );
+        }
+        log.refuse_none();
     }
     assert_equal!(rt; (log.returned(), log.misplaced()), (log.given(), 0));
     Ok(())
@@ -127,14 +132,12 @@ fn room_is_given_back(rt: HostRuntime) -> Result<(), Fail> {
 #[test]
 fn a_slice_finds_its_key_without_memory(rt: HostRuntime) -> Result<(), Fail> {
     let log = Log::new();
-    let mut map: Map<Vec<u8>, u32, FixedState, Observed<'_>> = Map::new(Observed::new(
-        rt.alloc(),
-        &log,
-    ));
-    let mut set: Set<Vec<u8>, FixedState, Observed<'_>> = Set::new(Observed::new(rt.alloc(), &log));
+    let heap = Observed::new(rt.alloc(), &log);
+    let mut map: Map<Vec<u8, &Observed<'_>>, u32, FixedState, &Observed<'_>> = Map::new(&heap);
+    let mut set: Set<Vec<u8, &Observed<'_>>, FixedState, &Observed<'_>> = Set::new(&heap);
     for (text, value) in [("b", 2), ("", 0), ("a", 1), ("ab", 3)] {
-        map.insert(String::from_str(rt.alloc(), text)?.into_bytes(), value)?;
-        set.insert(String::from_str(rt.alloc(), text)?.into_bytes())?;
+        map.insert(String::from_str(&heap, text)?.into_bytes(), value)?;
+        set.insert(String::from_str(&heap, text)?.into_bytes())?;
     }
     log.refuse_from(1);
     for (text, value) in [
@@ -164,5 +167,7 @@ fn a_slice_finds_its_key_without_memory(rt: HostRuntime) -> Result<(), Fail> {
         assert_equal!(rt; (taken, was_in), (value.map(|value| value.wrapping_add(10)), is_there), "{text}");
     }
     assert_equal!(rt; (map.len(), set.len()), (0, 0));
+    drop((map, set));
+    assert_equal!(rt; (log.returned(), log.misplaced()), (log.given(), 0));
     Ok(())
 }

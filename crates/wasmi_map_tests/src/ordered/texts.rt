@@ -28,11 +28,12 @@ fn found<A: Allocator + Clone>(
 fn a_text_finds_its_key_without_memory(rt: HostRuntime) -> Result<(), Fail> {
     let log = Log::new();
     {
-        let mut map: Map<String, u32, Observed<'_>> = Map::new(Observed::new(rt.alloc(), &log));
-        let mut set: Set<String, Observed<'_>> = Set::new(Observed::new(rt.alloc(), &log));
+        let heap = Observed::new(rt.alloc(), &log);
+        let mut map: Map<String<&Observed<'_>>, u32, &Observed<'_>> = Map::new(&heap);
+        let mut set: Set<String<&Observed<'_>>, &Observed<'_>> = Set::new(&heap);
         for (text, value) in [("b", 2), ("", 0), ("a", 1), ("ab", 3)] {
-            map.insert(String::from_str(rt.alloc(), text)?, value)?;
-            set.insert(String::from_str(rt.alloc(), text)?)?;
+            map.insert(String::from_str(&heap, text)?, value)?;
+            set.insert(String::from_str(&heap, text)?)?;
         }
         log.refuse_from(1);
         for (text, value) in [
@@ -91,11 +92,12 @@ fn a_text_is_an_index(rt: HostRuntime) -> Result<(), Fail> {
 #[test]
 fn a_slice_finds_its_key_without_memory(rt: HostRuntime) -> Result<(), Fail> {
     let log = Log::new();
-    let mut map: Map<Vec<u8>, u32, Observed<'_>> = Map::new(Observed::new(rt.alloc(), &log));
-    let mut set: Set<Vec<u8>, Observed<'_>> = Set::new(Observed::new(rt.alloc(), &log));
+    let heap = Observed::new(rt.alloc(), &log);
+    let mut map: Map<Vec<u8, &Observed<'_>>, u32, &Observed<'_>> = Map::new(&heap);
+    let mut set: Set<Vec<u8, &Observed<'_>>, &Observed<'_>> = Set::new(&heap);
     for (text, value) in [("b", 2), ("", 0), ("a", 1), ("ab", 3)] {
-        map.insert(String::from_str(rt.alloc(), text)?.into_bytes(), value)?;
-        set.insert(String::from_str(rt.alloc(), text)?.into_bytes())?;
+        map.insert(String::from_str(&heap, text)?.into_bytes(), value)?;
+        set.insert(String::from_str(&heap, text)?.into_bytes())?;
     }
     log.refuse_from(1);
     for (text, value) in [
@@ -125,5 +127,7 @@ fn a_slice_finds_its_key_without_memory(rt: HostRuntime) -> Result<(), Fail> {
         assert_equal!(rt; (taken, was_in), (value.map(|value| value.wrapping_add(10)), is_there), "{text}");
     }
     assert_equal!(rt; (map.len(), set.len()), (0, 0));
+    drop((map, set));
+    assert_equal!(rt; (log.returned(), log.misplaced()), (log.given(), 0));
     Ok(())
 }

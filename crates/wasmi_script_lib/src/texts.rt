@@ -1,0 +1,136 @@
+//! The texts that a script keeps, and their commands.
+ghost use Rattle.std.specs.Prelude.{◌≡◌, OnOk, IsOkUnless};
+ghost use Rattle.wasmi_script_lib.specs.TextStates.{AddsReplyTo};
+ghost use Rattle.wasmi_script_lib.specs.States.{empty, reply_to, state_after};
+ghost use Rattle.wasmi_script_lib.specs.Requests as request;
+
+use crate::reply::reply_number;
+use std::alloc::{AllocError, Allocator};
+use wasmi_arena::{ArenaError, MAX_LEN, StableArena, StableVec};
+use wasmi_collections::arena::DedupArena;
+use wasmi_collections::string_interner::{StringInterner, Sym};
+
+/// The texts that a script keeps.
+///
+/// Each command adds its reply to `replies`, and ends the script if there is no memory.
+#[derive(Drop)]
+pub(crate) struct Texts<A: Allocator> {
+    arena: StableArena<usize, String<A>, A>,
+    interner: StringInterner<A>,
+    dedup: DedupArena<usize, String<A>, A>,
+}
+
+impl<A: Allocator> Texts<A> {
+    ghost use Rattle.wasmi_script_lib.specs.TextStates.{texts_state};
+
+    pub(crate) fn new(alloc: A) -> Self
+    where
+        A: Copy,
+        ensures { texts_state result ≡ empty }
+    {
+        Texts {
+            arena: StableArena::new(alloc),
+            interner: StringInterner::new(alloc),
+            dedup: DedupArena::new(alloc),
+        }
+    }
+
+    /// `a TEXT`: keeps a text, and replies its key. Without a key the text isn't kept.
+    pub(crate) fn alloc(
+        &mut self,
+        alloc: A,
+        text: &str,
+        replies: &mut String<A>,
+    ) -> Result<(), ArenaError>
+    where
+        A: Clone,
+        ensures state { OnOk result (texts_state self.new ≡ state_after (texts_state self.old) (request.Alloc text.now)) }
+        ensures reply { OnOk result (AddsReplyTo replies.old replies.new
+            (reply_to (texts_state self.old) (request.Alloc text.now))) }
+        ensures errors { IsOkUnless result ArenaError.OutOfSystemMemory }
+    {
+        let given = self.arena.alloc(String::from_str(alloc, text)?);
+        reply_number(replies, "key ", given)
+    }
+
+    /// `g N`: replies the text of a key.
+    pub(crate) fn get(&self, key: usize, replies: &mut String<A>) -> Result<(), AllocError>
+        ensures { OnOk result (AddsReplyTo replies.old replies.new
+            (reply_to (texts_state self.now) (request.Get key))) }
+    {
+        match self.arena.get(key) {
+            Ok(text) => writeln!(replies, "text {text}"),
+            Err(error) => writeln!(replies, "error {}", error.text()),
+        }
+    }
+
+    /// `p N`: replies the bucket and the slot of an index.
+    pub(crate) fn place(&self, index: usize, replies: &mut String<A>) -> Result<(), AllocError>
+        ensures { OnOk result (AddsReplyTo replies.old replies.new
+            (reply_to (texts_state self.now) (request.Place index))) }
+    {
+        if index < MAX_LEN {
+            let (bucket, slot) = StableVec::<String>::place(index);
+            writeln!(replies, "place {bucket} {slot}")
+        } else {
+            writeln!(replies, "none")
+        }
+    }
+
+    /// `n`: replies how much is kept.
+    pub(crate) fn count(&self, replies: &mut String<A>) -> Result<(), AllocError>
+        ensures { OnOk result (AddsReplyTo replies.old replies.new
+            (reply_to (texts_state self.now) request.Count)) }
+    {
+        let kept = self.arena.len();
+        let deduped = self.dedup.len();
+        let interned = self.interner.len();
+        let slots = self.arena.items().slots();
+        writeln!(replies, "counts {kept} {deduped} {interned} {slots}")
+    }
+
+    /// `d TEXT`: keeps a text unless an equal one is kept, and replies the key of the one that is.
+    pub(crate) fn dedup(
+        &mut self,
+        alloc: A,
+        text: &str,
+        replies: &mut String<A>,
+    ) -> Result<(), ArenaError>
+    where
+        A: Clone,
+        ensures state { OnOk result (texts_state self.new ≡ state_after (texts_state self.old) (request.Dedup text.now)) }
+        ensures reply { OnOk result (AddsReplyTo replies.old replies.new
+            (reply_to (texts_state self.old) (request.Dedup text.now))) }
+        ensures errors { IsOkUnless result ArenaError.OutOfSystemMemory }
+    {
+        let given = self.dedup.alloc(String::from_str(alloc, text)?);
+        reply_number(replies, "key ", given)
+    }
+
+    /// `i TEXT`: interns a text, and replies its symbol.
+    pub(crate) fn intern(&mut self, text: &str, replies: &mut String<A>) -> Result<(), ArenaError>
+    where
+        A: Clone,
+        ensures state { OnOk result (texts_state self.new ≡ state_after (texts_state self.old) (request.Intern text.now)) }
+        ensures reply { OnOk result (AddsReplyTo replies.old replies.new
+            (reply_to (texts_state self.old) (request.Intern text.now))) }
+        ensures errors { IsOkUnless result ArenaError.OutOfSystemMemory }
+    {
+        let given = self.interner.get_or_intern(text).map(Sym::into_usize);
+        reply_number(replies, "sym ", given)
+    }
+
+    /// `r N`: replies the text of a symbol.
+    pub(crate) fn resolve(&self, symbol: usize, replies: &mut String<A>) -> Result<(), AllocError>
+        ensures { OnOk result (AddsReplyTo replies.old replies.new
+            (reply_to (texts_state self.now) (request.Resolve symbol))) }
+    {
+        let Ok(number) = u32::try_from(symbol) else {
+            return writeln!(replies, "none");
+        };
+        match self.interner.resolve(Sym::from_u32(number)) {
+            Some(text) => writeln!(replies, "text {text}"),
+            None => writeln!(replies, "none"),
+        }
+    }
+}
