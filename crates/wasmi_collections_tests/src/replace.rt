@@ -126,7 +126,7 @@ fn costs(alloc: Global, len: u32, key: usize, number: u32) -> Result<(u64, u64, 
 // item was written, it is cloned to be looked up. What isn't returned is dropped.
 #[test]
 fn a_call_costs_the_same_in_any_arena(rt: HostRuntime) -> Result<(), Fail> {
-    for len in [100, 1_000, 5_000] {
+    for len in [100, 4_096, 5_000] {
         for (key, number, want) in [
             (5, 9_999, (2, 1, 1)),
             (7, 9_999, (2, 2, 2)),
