@@ -4,9 +4,13 @@
 #[cfg(test)]
 mod dedup;
 #[cfg(test)]
+mod dropped;
+#[cfg(test)]
 mod head_vec;
 #[cfg(test)]
 mod interner;
+#[cfg(test)]
+mod printed;
 #[cfg(test)]
 mod replace;
 #[cfg(test)]

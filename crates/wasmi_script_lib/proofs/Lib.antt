@@ -1,7 +1,9 @@
 pub mod DistinctLemmas
 pub mod EntityLemmas
+pub mod KeptLemmas
 pub mod LineLemmas
 pub mod NumberLemmas
 pub mod OutputLemmas
+pub mod ReadLemmas
 pub mod ReplyLemmas
 pub mod StoreLemmas

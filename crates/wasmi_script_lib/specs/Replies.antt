@@ -1,5 +1,5 @@
 -- The texts of the replies, without the line feed.
-use Rattle.std.specs.Prelude.{ℕ, List, ◌++◌, if◌then◌else◌, Option, Some, None, Result, Ok, Err, codes, decimal}
+use Rattle.std.specs.Prelude.{ℕ, List, ◌++◌, if◌then◌else◌, Option, Some, None, codes, decimal}
 use Rattle.wasmi_arena.specs.Errors.{text_of}
 use Rattle.wasmi_arena.specs.declared.error.ArenaError.{ArenaError}
 use Rattle.wasmi_arena.specs.declared.error.ArenaError.TheVariants.{DuplicateItem, KeyOutOfBounds, NotEnoughKeys}
@@ -18,11 +18,6 @@ text_reply otherwise None = otherwise
 abbrev pub number_reply : List ℕ → Option ℕ → List ℕ
 number_reply word (Some number) = word ++ decimal number
 number_reply word None = error_reply NotEnoughKeys
-
--- what a call replies that gives a number, after a word, or an error
-abbrev pub given_reply : List ℕ → Result ℕ ArenaError → List ℕ
-given_reply word (Ok number) = word ++ decimal number
-given_reply word (Err error) = error_reply error
 
 -- a property, or `none`
 abbrev pub property_text : Option ℕ → List ℕ

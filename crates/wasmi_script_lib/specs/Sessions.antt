@@ -1,17 +1,27 @@
--- A script at work, and what one line does to it.
-use Rattle.std.specs.Prelude.{◌≡◌, ℕ, List, [], ◌∷◌, ◌++◌, map, string_bytes}
-use Rattle.wasmi_script_lib.specs.declared.session.Session.{Session}
-use Rattle.wasmi_script_lib.specs.States.{State}
+-- A script at work, and what one line adds to its replies.
+use Rattle.std.specs.Prelude.{◌≡◌, ℕ, List, [], ◌∷◌, ◌++◌, String, map, string_bytes}
+use Rattle.wasmi_script_lib.specs.declared.texts.Texts.{Texts}
+use Rattle.wasmi_script_lib.specs.States.{State, empty}
+use Rattle.wasmi_script_lib.specs.Store.{Store, no_entities}
 
--- what a session keeps
-abbrev pub state_of : Session → State
-state_of session = record {
-  kept = map string_bytes session.arena;
-  deduped = map string_bytes session.dedup.handed;
-  interned = session.interner;
-  store = session.store;
-}
+module _ {A : Type 0} where
+  -- what is kept by a script that has these texts and these entities
+  abbrev pub state_of : Texts A → Store → State
+  state_of texts store = record {
+    kept = map string_bytes texts.arena;
+    deduped = map string_bytes texts.dedup.handed;
+    interned = texts.interner;
+    store = store;
+  }
+
+  -- by one that has texts alone
+  abbrev pub with_texts : Texts A → State
+  with_texts texts = state_of texts no_entities
+
+-- what is kept by a script that has entities alone
+abbrev pub with_store : Store → State
+with_store store = record empty { store = store }
 
 -- this reply and a line feed were added
-abbrev pub AddsReply : Session → Session → List ℕ → Type 0
-AddsReply old new reply = string_bytes new.replies ≡ string_bytes old.replies ++ (reply ++ 10 ∷ [])
+abbrev pub AddsReply : {A : Type 0} → String A → String A → List ℕ → Type 0
+AddsReply old new reply = string_bytes new ≡ string_bytes old ++ (reply ++ 10 ∷ [])

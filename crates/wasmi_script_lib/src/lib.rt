@@ -19,12 +19,15 @@
 //! An error is `error` and the container's own text. Each of the four has keys of its own.
 #![tactic(auto)]
 
+mod entities;
 mod error;
 mod kinds;
 mod line;
 mod program;
+mod reply;
 mod session;
 mod store;
+mod texts;
 
 pub use error::{ScriptError, exit_status};
 pub use program::run;

@@ -6,7 +6,7 @@ ghost use Rattle.wasmi_script_lib.specs.Outputs.{output_of};
 
 use crate::error::ScriptError;
 use crate::session::answer;
-use std::alloc::Global;
+use std::alloc::Allocator;
 use std::io::{Read, Write};
 
 /// The most reads that an input may take.
@@ -20,8 +20,8 @@ const READ_LEN: usize = 8192;
 /// Time and memory are linear in the input. Nothing is written before the whole script is answered;
 /// after `WriteFailed` any part of the replies may be. A read that fails isn't tried again, and an
 /// input that hasn't ended after 2^40 reads is `ReadFailed`.
-pub fn run<R: Read, W: Write>(
-    alloc: Global,
+pub fn run<A: Allocator + Copy, R: Read, W: Write>(
+    alloc: A,
     reader: &mut R,
     writer: &mut W,
 ) -> Result<(), ScriptError>
@@ -47,7 +47,7 @@ pub fn run<R: Read, W: Write>(
 }
 
 /// All bytes up to the reader's end.
-fn read_all<R: Read>(alloc: Global, reader: &mut R) -> Result<Vec<u8>, ScriptError>
+fn read_all<A: Allocator, R: Read>(alloc: A, reader: &mut R) -> Result<Vec<u8, A>, ScriptError>
     ensures bytes { IfOk result (λ input.
         IfSome (R.remaining reader.old) (λ all. input.items ≡ all)) }
     ensures end { OnOk result (IsAtEnd (R.remaining reader.new)) }
@@ -56,9 +56,9 @@ fn read_all<R: Read>(alloc: Global, reader: &mut R) -> Result<Vec<u8>, ScriptErr
     let mut input = Vec::new(alloc);
     let mut buffer = [0u8; READ_LEN];
     for _ in 0..MOST_READS {
-        let count = reader
-            .read(&mut buffer)
-            .map_err(|_| ScriptError::ReadFailed)?;
+        let Ok(count) = reader.read(&mut buffer) else {
+            return Err(ScriptError::ReadFailed);
+        };
         if count == 0 {
             return Ok(input);
         }

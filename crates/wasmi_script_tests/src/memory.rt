@@ -1,13 +1,24 @@
-//! Memory: each request of the store refused in turn, and what asks for none.
+//! Memory: each request refused in turn, of the store and of a script, and what asks for none.
 use std::test::Fail;
 use wasmi_arena::{ArenaError, ArenaKey};
-use wasmi_script_lib::{EntityKey, EntityStore};
+use wasmi_script_lib::{EntityKey, EntityStore, ScriptError, answer, run};
 use wasmi_vectors::assert_equal;
 use wasmi_vectors::observed::{Log, Observed};
 
 type Store<'a, 'l> = EntityStore<&'a Observed<'l>>;
 
 const ENTITIES: [(&str, &str); 2] = [("ann", "user"), ("bob", "group")];
+
+const SCRIPT: &str =
+    "a xyz\ng 0\np 33\nd xyz\ni xyz\nr 0\ne ann user\nv 0 7\nk 0 admin\nq 0\nn\nz\n";
+
+const REPLIES: &str =
+    "key 0\ntext xyz\nplace 1 1\nkey 0\nsym 0\ntext xyz\nentity 0\nwas none\ndone\n\
+    is 7 ann admin\ncounts 1 1 1 32\nbad line 12\n";
+
+fn key(number: usize) -> Result<EntityKey, ArenaError> {
+    EntityKey::from_usize(number).ok_or(ArenaError::KeyOutOfBounds)
+}
 
 // A store of these two.
 fn two_entities<'a, 'l>(heap: &'a Observed<'l>) -> Result<Store<'a, 'l>, ArenaError> {
@@ -16,10 +27,6 @@ fn two_entities<'a, 'l>(heap: &'a Observed<'l>) -> Result<Store<'a, 'l>, ArenaEr
         let _key = store.add(name, kind)?;
     }
     Ok(store)
-}
-
-fn key(number: usize) -> Result<EntityKey, ArenaError> {
-    EntityKey::from_usize(number).ok_or(ArenaError::KeyOutOfBounds)
 }
 
 // Whether a store has the first so many of these entities, and no other.
@@ -33,6 +40,21 @@ fn has_first(store: &Store<'_, '_>, len: usize) -> Result<bool, ArenaError> {
     Ok(store.len() == len)
 }
 
+// Adds these entities, each once more where it was refused and the store is as before; how many were.
+fn refused_entities(store: &mut Store<'_, '_>) -> Result<u64, ArenaError> {
+    let mut refused = 0u64;
+    for (number, (name, kind)) in ENTITIES.iter().enumerate() {
+        if let Err(error) = store.add(*name, *kind) {
+            if error != ArenaError::OutOfSystemMemory || !has_first(store, number)? {
+                return Err(ArenaError::DuplicateItem);
+            }
+            refused = refused.wrapping_add(1);
+            let _key = store.add(*name, *kind)?;
+        }
+    }
+    Ok(refused)
+}
+
 // The name and the kind may be there after an error, and are no hindrance to the next call.
 #[test]
 fn an_entity_that_was_refused_is_added_again(rt: HostRuntime) -> Result<(), Fail> {
@@ -44,16 +66,8 @@ fn an_entity_that_was_refused_is_added_again(rt: HostRuntime) -> Result<(), Fail
             let heap = Observed::new(rt.alloc(), &log);
             let mut store = EntityStore::new(&heap);
             log.refuse_once(nth);
-            for (number, (name, kind)) in ENTITIES.iter().enumerate() {
-                if let Err(error) = store.add(*name, *kind) {
-                    refused = refused.wrapping_add(1);
-                    assert_equal!(rt; error, ArenaError::OutOfSystemMemory);
-                    assert!(rt; has_first(&store, number)?, "at {nth}");
-                    assert_equal!(rt; store.add(*name, *kind)?.into_usize(), number);
-                }
-            }
-            assert!(rt; has_first(&store, 2)?, "at {nth}");
-            assert_equal!(rt; (store.names(), store.kinds()), (2, 2));
+            refused = refused.wrapping_add(refused_entities(&mut store)?);
+            assert_equal!(rt; (has_first(&store, 2), store.names(), store.kinds()), (Ok(true), 2, 2), "{nth}");
             requests = log.requests();
         }
         assert_equal!(rt; (log.returned(), log.misplaced()), (log.given(), 0));
@@ -62,37 +76,57 @@ fn an_entity_that_was_refused_is_added_again(rt: HostRuntime) -> Result<(), Fail
     Ok(())
 }
 
+// Renames a kind, and once more where it was refused and the store is as before; whether it was.
+fn was_refused_a_name(store: &mut Store<'_, '_>) -> Result<bool, ArenaError> {
+    let bob = key(1)?;
+    let Err(error) = store.rename_kind(bob, "admin") else {
+        return Ok(false);
+    };
+    if error != ArenaError::OutOfSystemMemory || !has_first(store, 2)? {
+        return Err(ArenaError::DuplicateItem);
+    }
+    store.rename_kind(bob, "admin")?;
+    Ok(true)
+}
+
 // After an error nothing has changed.
 #[test]
 fn a_kind_that_was_refused_a_name_is_renamed_again(rt: HostRuntime) -> Result<(), Fail> {
     let mut refused = 0u64;
-    let mut requests = 0;
     for nth in 1..8 {
         let log = Log::new();
         {
             let heap = Observed::new(rt.alloc(), &log);
             let mut store = two_entities(&heap)?;
-            let bob = key(1)?;
-            let asked = log.requests();
             log.refuse_once(nth);
-            let renamed = store.rename_kind(bob, "admin");
-            requests = log.requests().wrapping_sub(asked);
-            if let Err(error) = renamed {
+            if was_refused_a_name(&mut store)? {
                 refused = refused.wrapping_add(1);
-                assert_equal!(rt; error, ArenaError::OutOfSystemMemory);
-                assert!(rt; has_first(&store, 2)?, "at {nth}");
-                assert_equal!(rt; store.rename_kind(bob, "admin"), Ok(()));
             }
-            assert_equal!(rt; store.get(bob)?.1, "admin");
-            assert_equal!(rt; (store.names(), store.kinds()), (2, 2));
+            let bob = key(1)?;
+            assert_equal!(rt; (store.get(bob)?.1, store.names(), store.kinds()), ("admin", 2, 2));
         }
         assert_equal!(rt; (log.returned(), log.misplaced()), (log.given(), 0));
     }
-    assert_equal!(rt; refused, requests);
+    // The two copies of the name, and no other.
+    assert_equal!(rt; refused, 2);
     Ok(())
 }
 
 // A name or a kind that is there isn't copied, and a property that is there gives its place to the next.
+fn goes_on_without_memory(store: &mut Store<'_, '_>) -> Result<(), ArenaError> {
+    let (ann, third) = (key(0)?, store.add("ann", "group")?);
+    let replaced = store.set(ann, 2)?;
+    let renamed = store.rename_kind(ann, "user");
+    let refused = store.rename_kind(ann, "group");
+    let taken = store.unset(ann)?;
+    if (third.into_usize(), replaced, taken) == (2, Some(1), Some(2))
+        && (renamed, refused) == (Ok(()), Err(ArenaError::DuplicateItem))
+    {
+        return Ok(());
+    }
+    Err(ArenaError::KeyOutOfBounds)
+}
+
 #[test]
 fn what_is_there_needs_no_memory(rt: HostRuntime) -> Result<(), Fail> {
     let log = Log::new();
@@ -100,18 +134,69 @@ fn what_is_there_needs_no_memory(rt: HostRuntime) -> Result<(), Fail> {
         let heap = Observed::new(rt.alloc(), &log);
         let store: Store<'_, '_> = EntityStore::new(&heap);
         assert_equal!(rt; (store.len(), log.requests()), (0, 0));
+    }
+    {
+        let heap = Observed::new(rt.alloc(), &log);
         let mut store = two_entities(&heap)?;
         let ann = key(0)?;
         assert_equal!(rt; store.set(ann, 1), Ok(None));
         let asked = log.requests();
         log.refuse_from(1);
-        assert_equal!(rt; store.add("ann", "group")?.into_usize(), 2);
-        assert_equal!(rt; store.set(ann, 2), Ok(Some(1)));
-        assert_equal!(rt; store.rename_kind(ann, "user"), Ok(()));
-        assert_equal!(rt; store.rename_kind(ann, "group"), Err(ArenaError::DuplicateItem));
-        assert_equal!(rt; store.unset(ann), Ok(Some(2)));
+        assert_equal!(rt; goes_on_without_memory(&mut store), Ok(()));
         assert_equal!(rt; log.requests(), asked);
     }
     assert_equal!(rt; (log.returned(), log.misplaced()), (log.given(), 0));
+    Ok(())
+}
+
+#[test]
+fn a_script_that_is_refused_memory_fails(rt: HostRuntime) -> Result<(), Fail> {
+    let mut refused = 0u64;
+    let mut requests = 0;
+    for nth in 1..60 {
+        let log = Log::new();
+        {
+            let heap = Observed::new(rt.alloc(), &log);
+            log.refuse_once(nth);
+            match answer(&heap, SCRIPT) {
+                Ok(replies) => assert_equal!(rt; replies.as_str(), REPLIES),
+                Err(error) => {
+                    refused = refused.wrapping_add(1);
+                    assert_equal!(rt; error, ArenaError::OutOfSystemMemory);
+                }
+            }
+            requests = log.requests();
+        }
+        assert_equal!(rt; (log.returned(), log.misplaced()), (log.given(), 0));
+    }
+    assert_equal!(rt; refused, requests);
+    Ok(())
+}
+
+#[test]
+fn a_program_that_is_refused_memory_writes_nothing(rt: HostRuntime) -> Result<(), Fail> {
+    let mut refused = 0u64;
+    let mut requests = 0;
+    for nth in 1..60 {
+        let log = Log::new();
+        {
+            let heap = Observed::new(rt.alloc(), &log);
+            let mut input = SCRIPT.as_bytes();
+            let mut output = Vec::new(rt.alloc());
+            log.refuse_once(nth);
+            let wanted = match run(&heap, &mut input, &mut output) {
+                Ok(()) => REPLIES,
+                Err(error) => {
+                    refused = refused.wrapping_add(1);
+                    assert_equal!(rt; error, ScriptError::NoMemory);
+                    ""
+                }
+            };
+            assert_equal!(rt; output.as_slice(), wanted.as_bytes());
+            requests = log.requests();
+        }
+        assert_equal!(rt; (log.returned(), log.misplaced()), (log.given(), 0));
+    }
+    assert_equal!(rt; refused, requests);
     Ok(())
 }

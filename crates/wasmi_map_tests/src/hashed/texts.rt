@@ -29,17 +29,12 @@ fn found<A: Allocator + Clone>(
 fn a_text_finds_its_key_without_memory(rt: HostRuntime) -> Result<(), Fail> {
     let log = Log::new();
     {
-        let mut map: Map<String, u32, FixedState, Observed<'_>> = Map::new(Observed::new(
-            rt.alloc(),
-            &log,
-        ));
-        let mut set: Set<String, FixedState, Observed<'_>> = Set::new(Observed::new(
-            rt.alloc(),
-            &log,
-        ));
+        let heap = Observed::new(rt.alloc(), &log);
+        let mut map: Map<String<&Observed<'_>>, u32, FixedState, &Observed<'_>> = Map::new(&heap);
+        let mut set: Set<String<&Observed<'_>>, FixedState, &Observed<'_>> = Set::new(&heap);
         for (text, value) in [("b", 2), ("", 0), ("a", 1), ("ab", 3)] {
-            map.insert(String::from_str(rt.alloc(), text)?, value)?;
-            set.insert(String::from_str(rt.alloc(), text)?)?;
+            map.insert(String::from_str(&heap, text)?, value)?;
+            set.insert(String::from_str(&heap, text)?)?;
         }
         log.refuse_from(1);
         for (text, value) in [
@@ -118,6 +113,16 @@ fn room_is_given_back(rt: HostRuntime) -> Result<(), Fail> {
         map.shrink_to_fit();
         set.shrink_to_fit();
         assert!(rt; map.capacity() < 1020 && set.capacity() < 1020);
+        // As many go in without memory as there is room for.
+        log.refuse_from(1);
+        let rooms = (map.capacity(), set.capacity());
+        for number in 20..100u32 {
+            assert_equal!(rt;
+                (map.insert(number, 0).is_ok(), set.insert(number).is_ok()),
+                ((number as usize) < rooms.0, (number as usize) < rooms.1)
+            );
+        }
+        log.refuse_none();
     }
     assert_equal!(rt; (log.returned(), log.misplaced()), (log.given(), 0));
     Ok(())
@@ -127,42 +132,43 @@ fn room_is_given_back(rt: HostRuntime) -> Result<(), Fail> {
 #[test]
 fn a_slice_finds_its_key_without_memory(rt: HostRuntime) -> Result<(), Fail> {
     let log = Log::new();
-    let mut map: Map<Vec<u8>, u32, FixedState, Observed<'_>> = Map::new(Observed::new(
-        rt.alloc(),
-        &log,
-    ));
-    let mut set: Set<Vec<u8>, FixedState, Observed<'_>> = Set::new(Observed::new(rt.alloc(), &log));
-    for (text, value) in [("b", 2), ("", 0), ("a", 1), ("ab", 3)] {
-        map.insert(String::from_str(rt.alloc(), text)?.into_bytes(), value)?;
-        set.insert(String::from_str(rt.alloc(), text)?.into_bytes())?;
-    }
-    log.refuse_from(1);
-    for (text, value) in [
-        ("a", Some(1)),
-        ("", Some(0)),
-        ("ab", Some(3)),
-        ("b", Some(2)),
-        ("ba", None),
-    ] {
-        let (key, is_there) = (text.as_bytes(), value.is_some());
-        assert_equal!(rt;
-            (map.contains_key_slice(key), set.contains_slice(key), set.get_slice(key).is_some()),
-            (is_there, is_there, is_there),
-            "{text}"
-        );
-        let entry = map.get_key_value_slice(key).map(|(_, value)| *value);
-        assert_equal!(rt; (map.get_slice(key).copied(), entry), (value, value), "{text}");
-        if let Some(value) = map.get_mut_slice(key) {
-            *value = value.wrapping_add(10);
+    {
+        let heap = Observed::new(rt.alloc(), &log);
+        let mut map: Map<Vec<u8, &Observed<'_>>, u32, FixedState, &Observed<'_>> = Map::new(&heap);
+        let mut set: Set<Vec<u8, &Observed<'_>>, FixedState, &Observed<'_>> = Set::new(&heap);
+        for (text, value) in [("b", 2), ("", 0), ("a", 1), ("ab", 3)] {
+            map.insert(String::from_str(&heap, text)?.into_bytes(), value)?;
+            set.insert(String::from_str(&heap, text)?.into_bytes())?;
         }
-        let (taken, was_in) = if text.len() == 1 {
-            (map.remove_slice(key), set.remove_slice(key))
-        } else {
-            let entry = map.remove_entry_slice(key);
-            (entry.map(|(_, value)| value), set.take_slice(key).is_some())
-        };
-        assert_equal!(rt; (taken, was_in), (value.map(|value| value.wrapping_add(10)), is_there), "{text}");
+        log.refuse_from(1);
+        for (text, value) in [
+            ("a", Some(1)),
+            ("", Some(0)),
+            ("ab", Some(3)),
+            ("b", Some(2)),
+            ("ba", None),
+        ] {
+            let (key, is_there) = (text.as_bytes(), value.is_some());
+            assert_equal!(rt;
+                (map.contains_key_slice(key), set.contains_slice(key), set.get_slice(key).is_some()),
+                (is_there, is_there, is_there),
+                "{text}"
+            );
+            let entry = map.get_key_value_slice(key).map(|(_, value)| *value);
+            assert_equal!(rt; (map.get_slice(key).copied(), entry), (value, value), "{text}");
+            if let Some(value) = map.get_mut_slice(key) {
+                *value = value.wrapping_add(10);
+            }
+            let (taken, was_in) = if text.len() == 1 {
+                (map.remove_slice(key), set.remove_slice(key))
+            } else {
+                let entry = map.remove_entry_slice(key);
+                (entry.map(|(_, value)| value), set.take_slice(key).is_some())
+            };
+            assert_equal!(rt; (taken, was_in), (value.map(|value| value.wrapping_add(10)), is_there), "{text}");
+        }
+        assert_equal!(rt; (map.len(), set.len()), (0, 0));
     }
-    assert_equal!(rt; (map.len(), set.len()), (0, 0));
+    assert_equal!(rt; (log.returned(), log.misplaced()), (log.given(), 0));
     Ok(())
 }

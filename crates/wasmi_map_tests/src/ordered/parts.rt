@@ -1,8 +1,11 @@
 //! The ends of ordered maps and sets, their parts, and what is joined.
+use std::cell::Cell;
 use std::test::Fail;
 use wasmi_arena::ArenaError;
 use wasmi_ordered::{Map, Set};
 use wasmi_vectors::assert_equal;
+use wasmi_vectors::counted::Counted;
+use wasmi_vectors::noted::{Noted, Notes};
 use wasmi_vectors::observed::{Log, Observed};
 
 #[test]
@@ -20,6 +23,10 @@ fn ends_are_read_and_taken(rt: HostRuntime) -> Result<(), Fail> {
     assert_equal!(rt; (map.pop_first(), set.pop_first()), (Some((2, "d")), Some(2)));
     assert_equal!(rt; (map.pop_first(), set.pop_last()), (None, None));
     assert_equal!(rt; (map.first_key_value(), set.last()), (None, None));
+    let (mut rest, mut others) = (map.split_off(&2)?, set.split_off(&2)?);
+    map.append(&mut rest)?;
+    set.append(&mut others)?;
+    assert_equal!(rt; (map.len(), set.len()), (0, 0));
     Ok(())
 }
 
@@ -76,5 +83,26 @@ fn a_cut_and_a_join_lose_nothing(rt: HostRuntime) -> Result<(), Fail> {
         }
         assert_equal!(rt; (log.returned(), log.misplaced()), (log.given(), 0));
     }
+    Ok(())
+}
+
+// Of 0 to 4, 3 to 7 and 6 to 10, four are there when they come again.
+#[test]
+fn what_is_in_both_is_dropped_once(rt: HostRuntime) -> Result<(), Fail> {
+    let (keys, elements, values) = (Notes::new(), Notes::new(), Cell::new(0));
+    let mut map: Map<Noted<'_>, Counted<'_>> = Map::new(rt.alloc());
+    let mut set: Set<Noted<'_>> = Set::new(rt.alloc());
+    for first in [0u32, 3, 6] {
+        let mut pairs: Map<Noted<'_>, Counted<'_>> = Map::new(rt.alloc());
+        let mut others: Set<Noted<'_>> = Set::new(rt.alloc());
+        for number in first..first.wrapping_add(5) {
+            pairs.insert(Noted::new(number, &keys), Counted::new(&values))?;
+            others.insert(Noted::new(number, &elements))?;
+        }
+        map.append(&mut pairs)?;
+        set.append(&mut others)?;
+    }
+    assert_equal!(rt; (map.len(), set.len()), (11, 11));
+    assert_equal!(rt; (keys.dropped(), values.get(), elements.dropped()), (4, 4, 4));
     Ok(())
 }

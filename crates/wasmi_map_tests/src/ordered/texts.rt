@@ -28,11 +28,12 @@ fn found<A: Allocator + Clone>(
 fn a_text_finds_its_key_without_memory(rt: HostRuntime) -> Result<(), Fail> {
     let log = Log::new();
     {
-        let mut map: Map<String, u32, Observed<'_>> = Map::new(Observed::new(rt.alloc(), &log));
-        let mut set: Set<String, Observed<'_>> = Set::new(Observed::new(rt.alloc(), &log));
+        let heap = Observed::new(rt.alloc(), &log);
+        let mut map: Map<String<&Observed<'_>>, u32, &Observed<'_>> = Map::new(&heap);
+        let mut set: Set<String<&Observed<'_>>, &Observed<'_>> = Set::new(&heap);
         for (text, value) in [("b", 2), ("", 0), ("a", 1), ("ab", 3)] {
-            map.insert(String::from_str(rt.alloc(), text)?, value)?;
-            set.insert(String::from_str(rt.alloc(), text)?)?;
+            map.insert(String::from_str(&heap, text)?, value)?;
+            set.insert(String::from_str(&heap, text)?)?;
         }
         log.refuse_from(1);
         for (text, value) in [
@@ -91,39 +92,43 @@ fn a_text_is_an_index(rt: HostRuntime) -> Result<(), Fail> {
 #[test]
 fn a_slice_finds_its_key_without_memory(rt: HostRuntime) -> Result<(), Fail> {
     let log = Log::new();
-    let mut map: Map<Vec<u8>, u32, Observed<'_>> = Map::new(Observed::new(rt.alloc(), &log));
-    let mut set: Set<Vec<u8>, Observed<'_>> = Set::new(Observed::new(rt.alloc(), &log));
-    for (text, value) in [("b", 2), ("", 0), ("a", 1), ("ab", 3)] {
-        map.insert(String::from_str(rt.alloc(), text)?.into_bytes(), value)?;
-        set.insert(String::from_str(rt.alloc(), text)?.into_bytes())?;
-    }
-    log.refuse_from(1);
-    for (text, value) in [
-        ("a", Some(1)),
-        ("", Some(0)),
-        ("ab", Some(3)),
-        ("b", Some(2)),
-        ("ba", None),
-    ] {
-        let (key, is_there) = (text.as_bytes(), value.is_some());
-        assert_equal!(rt;
-            (map.contains_key_slice(key), set.contains_slice(key), set.get_slice(key).is_some()),
-            (is_there, is_there, is_there),
-            "{text}"
-        );
-        let entry = map.get_key_value_slice(key).map(|(_, value)| *value);
-        assert_equal!(rt; (map.get_slice(key).copied(), entry), (value, value), "{text}");
-        if let Some(value) = map.get_mut_slice(key) {
-            *value = value.wrapping_add(10);
+    {
+        let heap = Observed::new(rt.alloc(), &log);
+        let mut map: Map<Vec<u8, &Observed<'_>>, u32, &Observed<'_>> = Map::new(&heap);
+        let mut set: Set<Vec<u8, &Observed<'_>>, &Observed<'_>> = Set::new(&heap);
+        for (text, value) in [("b", 2), ("", 0), ("a", 1), ("ab", 3)] {
+            map.insert(String::from_str(&heap, text)?.into_bytes(), value)?;
+            set.insert(String::from_str(&heap, text)?.into_bytes())?;
         }
-        let (taken, was_in) = if text.len() == 1 {
-            (map.remove_slice(key), set.remove_slice(key))
-        } else {
-            let entry = map.remove_entry_slice(key);
-            (entry.map(|(_, value)| value), set.take_slice(key).is_some())
-        };
-        assert_equal!(rt; (taken, was_in), (value.map(|value| value.wrapping_add(10)), is_there), "{text}");
+        log.refuse_from(1);
+        for (text, value) in [
+            ("a", Some(1)),
+            ("", Some(0)),
+            ("ab", Some(3)),
+            ("b", Some(2)),
+            ("ba", None),
+        ] {
+            let (key, is_there) = (text.as_bytes(), value.is_some());
+            assert_equal!(rt;
+                (map.contains_key_slice(key), set.contains_slice(key), set.get_slice(key).is_some()),
+                (is_there, is_there, is_there),
+                "{text}"
+            );
+            let entry = map.get_key_value_slice(key).map(|(_, value)| *value);
+            assert_equal!(rt; (map.get_slice(key).copied(), entry), (value, value), "{text}");
+            if let Some(value) = map.get_mut_slice(key) {
+                *value = value.wrapping_add(10);
+            }
+            let (taken, was_in) = if text.len() == 1 {
+                (map.remove_slice(key), set.remove_slice(key))
+            } else {
+                let entry = map.remove_entry_slice(key);
+                (entry.map(|(_, value)| value), set.take_slice(key).is_some())
+            };
+            assert_equal!(rt; (taken, was_in), (value.map(|value| value.wrapping_add(10)), is_there), "{text}");
+        }
+        assert_equal!(rt; (map.len(), set.len()), (0, 0));
     }
-    assert_equal!(rt; (map.len(), set.len()), (0, 0));
+    assert_equal!(rt; (log.returned(), log.misplaced()), (log.given(), 0));
     Ok(())
 }

@@ -3,14 +3,14 @@ use Rattle.std.specs.Str.Iter.{split_text, split_has_more, split_terminator_part
 use Rattle.wasmi_script_lib.specs.Lines.{lines_of}
 use Rattle.wasmi_script_lib.specs.Outputs.{output_from, output_of}
 use Rattle.wasmi_script_lib.specs.Sessions.{state_of}
-use Rattle.wasmi_script_lib.proofs.session.answer.Given as goal
+use Rattle.wasmi_script_lib.proofs.session.reply_all.Given as goal
 
 abbrev pub invariant-loop-line : goal.invariant-loop-line
-invariant-loop-line l =
+invariant-loop-line g l =
     let parts = split_terminator_parts l.line-iterator in
     let left = cond (split_has_more parts) (lines_of (split_text parts)) [] in
-    (goal.iterator-loop-line).can_next l.line-iterator
-    × (goal.iterator-loop-line).is_finite l.line-iterator
+    (goal.iterator-loop-line g).can_next l.line-iterator
+    × (goal.iterator-loop-line g).is_finite l.line-iterator
     × (split_terminator_pattern l.line-iterator ≡ 10)
-    × (string_bytes l.session.replies ++ output_from (state_of l.session) l.session.lines left ≡ output_of l.text)
-    × (l.session.lines + length left ≤ length l.text)
+    × (string_bytes l.replies ++ output_from (state_of l.texts l.store) l.number left ≡ output_of l.text)
+    × (l.number + length left ≤ length l.text)

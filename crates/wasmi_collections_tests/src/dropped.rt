@@ -1,0 +1,95 @@
+//! Whatever comes to a run is dropped once: put in, kept out, taken out, refused, or not reached.
+use std::alloc::AllocError;
+use std::cell::Cell;
+use std::test::Fail;
+use wasmi_collections::run::{MapCommand, SetCommand, run_map, run_set};
+use wasmi_collections::{hashed, ordered};
+use wasmi_vectors::assert_equal;
+use wasmi_vectors::counted::Counted;
+use wasmi_vectors::noted::{Noted, Notes};
+use wasmi_vectors::observed::{Log, Observed};
+
+type MapCommands<'a, 'h, 'l> = Vec<MapCommand<Noted<'a>, Counted<'a>>, &'h Observed<'l>>;
+
+// With 28 keys and 20 values.
+fn map_commands<'a, 'h, 'l>(
+    heap: &'h Observed<'l>,
+    keys: &'a Notes,
+    values: &'a Cell<u64>,
+) -> Result<MapCommands<'a, 'h, 'l>, AllocError> {
+    let mut commands = Vec::new(heap);
+    for number in 0..8 {
+        commands.push(MapCommand::Insert(Noted::new(number, keys), Counted::new(values)))?;
+        commands.push(MapCommand::OrInsert(Noted::new(number, keys), Counted::new(values)))?;
+    }
+    for number in 0..4 {
+        commands.push(MapCommand::Insert(Noted::new(number, keys), Counted::new(values)))?;
+        commands.push(MapCommand::Remove(Noted::new(number, keys)))?;
+        commands.push(MapCommand::Has(Noted::new(number, keys)))?;
+    }
+    Ok(commands)
+}
+
+type SetCommands<'a, 'h, 'l> = Vec<SetCommand<Noted<'a>>, &'h Observed<'l>>;
+
+// With 24 elements.
+fn set_commands<'a, 'h, 'l>(
+    heap: &'h Observed<'l>,
+    elements: &'a Notes,
+) -> Result<SetCommands<'a, 'h, 'l>, AllocError> {
+    let mut commands = Vec::new(heap);
+    for number in 0..8 {
+        commands.push(SetCommand::Insert(Noted::new(number, elements)))?;
+        commands.push(SetCommand::Insert(Noted::new(number, elements)))?;
+    }
+    for number in 0..4 {
+        commands.push(SetCommand::Remove(Noted::new(number, elements)))?;
+        commands.push(SetCommand::Has(Noted::new(number, elements)))?;
+    }
+    Ok(commands)
+}
+
+// Whether a run of one of the two maps ends well, whose nth request is refused.
+fn map_runs(is_hashed: bool, log: &Log, nth: u64, commands: MapCommands<'_, '_, '_>) -> bool {
+    let heap = *commands.allocator();
+    log.refuse_once(nth);
+    let ran = if is_hashed {
+        run_map(heap, &mut hashed::Map::new(heap), commands).is_ok()
+    } else {
+        run_map(heap, &mut ordered::Map::new(heap), commands).is_ok()
+    };
+    log.refuse_none();
+    ran
+}
+
+// The same of the two sets.
+fn set_runs(is_hashed: bool, log: &Log, nth: u64, commands: SetCommands<'_, '_, '_>) -> bool {
+    let heap = *commands.allocator();
+    log.refuse_once(nth);
+    let ran = if is_hashed {
+        run_set(heap, &mut hashed::Set::new(heap), commands).is_ok()
+    } else {
+        run_set(heap, &mut ordered::Set::new(heap), commands).is_ok()
+    };
+    log.refuse_none();
+    ran
+}
+
+// The first request is that for the replies.
+#[test]
+fn runs_drop_each_key_and_value_once(rt: HostRuntime) -> Result<(), Fail> {
+    let (log, keys, values) = (Log::new(), Notes::new(), Cell::new(0u64));
+    let heap = Observed::new(rt.alloc(), &log);
+    for nth in 1..=5u64 {
+        for is_hashed in [false, true] {
+            let commands = map_commands(&heap, &keys, &values)?;
+            let ran = map_runs(is_hashed, &log, nth, commands);
+            assert_equal!(rt; ran, nth != 1, "{is_hashed} {nth}");
+            assert_equal!(rt; (keys.dropped(), values.replace(0)), (28, 20), "{is_hashed} {nth}");
+            let ran = set_runs(is_hashed, &log, nth, set_commands(&heap, &keys)?);
+            assert_equal!(rt; (ran, keys.dropped()), (nth != 1, 24), "{is_hashed} {nth}");
+        }
+    }
+    assert_equal!(rt; (log.returned(), log.misplaced()), (log.given(), 0));
+    Ok(())
+}
