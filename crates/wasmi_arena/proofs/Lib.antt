@@ -1,6 +1,7 @@
 pub mod Geometry
 pub mod Table
 pub mod Refilled
+pub mod Rewritten
 pub mod LaidOut
 pub mod Arena
 pub mod OneAnswer
@@ -22,6 +23,8 @@ pub mod TableMemory
 pub mod VecMemory
 pub mod ArenaMemory
 pub mod LoanMemory
+pub mod BucketLoans
+pub mod TwoBuckets
 pub mod Refusals
 pub mod Answered
 pub mod WalkedKeys

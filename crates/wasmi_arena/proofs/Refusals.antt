@@ -8,14 +8,14 @@ use lib.Dec as dec
 use lib.Dec.{T_not, eqb, eqb_refl}
 use mathlib.Core.Bool.{not}
 use Rattle.std.specs.Borrow.{RestsIfErr}
-use base.Logic.{wand, ent, emp}
+use base.Logic.{wand, ent, emp, sep}
 use mathlib.Core.Option.{none, some}
 use base.Fml.{Lft, Fml, GName, fex, feq, fsep, fres, fauth}
 use seplogic.Ra.Ura.{Ura}
 use mir.Syntax.{named}
 use mir.Val.{Val, of_list, vptr, vstruct, vcons, vnil}
 use types.Logic.{Logic, sem}
-use types.Kit.{‵, ◌$◌, ◌∵◌, !, qed, done, each, assume, use0, use1, fjoin, fpack, feq_i}
+use types.Kit.{‵, ◌$◌, ◌∵◌, !, qed, done, move, each, assume, use0, use1, fjoin, fpack, feq_i}
 use types.Match.{live}
 use denote.RattleType.{RattleType, Valss, owns}
 use denote.Enum.Row.{tagged_with}
@@ -30,7 +30,7 @@ use denote.Steps.{nothing, only}
 use denote.Struct.Declared as Declared
 use denote.Struct.Field.{mut_ref_field, row_field}
 use denote.Struct.Laws.{mut_ref_laws}
-use denote.Struct.Struct.{Struct-Tells}
+use denote.Struct.Struct.{Struct-Tells, within}
 use denote.Struct.Tuple.{Tuple, tuple_type, tuple_laws}
 use Rattle.core.proofs.once.Made.{err_of}
 use Rattle.core.proofs.result.Result.TheLaws as ResultLaws
@@ -131,6 +131,15 @@ module _ (κ : Lft) (T : RattleType) where
   pair_told r v seen =
       let told = mut_Tells (named 0) κ T in
       ap only (Struct-Tells (Declared.shape (tuple_type (Lent κ T ∷ Lent κ T ∷ []))) (mut_vals, (mut_vals, tt)) (told, (told, tt)) (r.0, (r.1, tt)) (v ∷ []) seen)
+
+  -- two references are such a pair
+  pub pair_made : {M : Type 1} {𝓤 : Ura M} (𝓛 : Logic 𝓤) (r : MutBor T.Denot × MutBor T.Denot)
+      → ent 𝓤 (sep 𝓤 (sem 𝓛 ((Lent κ T).own_val r.0 (mut_vals r.0))) (sem 𝓛 ((Lent κ T).own_val r.1 (mut_vals r.1)))) (sem 𝓛 ((Pair κ T).own_val r (pair_val r ∷ [])))
+  pair_made 𝓛 r =
+      let Shape' = Declared.shape (tuple_type (Lent κ T ∷ Lent κ T ∷ [])) in let v = pair_val r in
+      qed 𝓛 (‵ ((Lent κ T).own_val r.0 (mut_vals r.0)) ∷ ‵ ((Lent κ T).own_val r.1 (mut_vals r.1)) ∷ []) ∵
+      nothing ! $ move ! (2 ∷ 0 ∷ []) $ fjoin ! $ move ! (1 ∷ 0 ∷ []) $ fjoin ! $ feq_i ! (List Val) (v ∷ []) (v ∷ []) refl $ fjoin ! $
+      fpack ! (Valss (Lent κ T ∷ Lent κ T ∷ [])) (within Shape' (r.0, (r.1, tt)) (v ∷ [])) (mut_vals r.0, (mut_vals r.1, tt)) $ done !
 
 module _ (κ : Lft) (T : RattleType) (L : Laws T) where
   lent_laws : Laws (Lent κ T)
