@@ -7,6 +7,7 @@ pub mod Arena
 pub mod OneAnswer
 pub mod Entries
 pub mod FilledParts
+pub mod PairPlaces
 pub mod Loans
 pub mod Ahead
 pub mod Taken
@@ -25,6 +26,7 @@ pub mod ArenaMemory
 pub mod LoanMemory
 pub mod BucketLoans
 pub mod TwoBuckets
+pub mod PairLoans
 pub mod Refusals
 pub mod Answered
 pub mod WalkedKeys

@@ -69,7 +69,7 @@ module _ {T : Type 0} where
   all_like-set (bucket ∷ buckets) (next ∷ others) (suc b) other all like = (all.0, all_like-set buckets others b other all.1 like)
 
   -- a bucket written over by the items of one like it is that one
-  with_items-like : (bucket other : Option (Bucket T)) (ws : List T) → AreLike bucket other → with_items bucket (items_in other ++ ws) ≡ other
+  pub with_items-like : (bucket other : Option (Bucket T)) (ws : List T) → AreLike bucket other → with_items bucket (items_in other ++ ws) ≡ other
   with_items-like None None ws like = refl
   with_items-like None (Some other) ws like = absurd like
   with_items-like (Some bucket) None ws like = absurd like
