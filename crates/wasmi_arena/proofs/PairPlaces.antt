@@ -1,11 +1,13 @@
 -- Two items of a vector's buckets, by their places.
 use Rattle.std.proofs.Common.{◌≡◌, ◌≢◌, ℕ, ◌+◌, ◌<◌, List, [], ◌∷◌, length, get_or, set, slice_get, Option, Some, None, refl, sym, ◌∙◌, ap, arith, append-nil, IsSome}
 use Rattle.std.proofs.lemmas.List.{length-set}
+use Rattle.std.specs.List.{refill}
 use Rattle.wasmi_arena.specs.Bucket.{Bucket}
 use Rattle.wasmi_arena.specs.Geometry.{start, max_len, fewest, IsPlace}
 use Rattle.wasmi_arena.specs.Table.{items_of, items_in, with_item, with_items, write, write_all, IsLaidOut, HasBuckets}
-use Rattle.wasmi_arena.proofs.FilledParts.{HasBuckets-laid}
+use Rattle.wasmi_arena.proofs.FilledParts.{HasBuckets-laid, HasBuckets-items}
 use Rattle.wasmi_arena.proofs.LaidOut.{index-lt_max, items_of-written, IsLaidOut-written, slot_filled, slice_get-slot}
+use Rattle.wasmi_arena.proofs.Refilled.{refill-whole}
 use Rattle.wasmi_arena.proofs.Rewritten.{filled_inside, with_items-like}
 use Rattle.wasmi_arena.proofs.Table.{write-write}
 
@@ -20,6 +22,11 @@ module _ {T : Type 0} where
   with_items-two (Some bucket) s t x y =
       let last = set (set bucket.items s x) t y in
       ap (with_items (Some bucket)) (sym (append-nil last)) ∙ with_items-like (Some bucket) (Some record { items = last; capacity = bucket.capacity }) [] (length-set (set bucket.items s x) t y ∙ length-set bucket.items s x, refl)
+
+  -- a vector's items once two of them were written through a loan
+  pub ends_both : (items : List T) (buckets : List (Option (Bucket T))) → HasBuckets items buckets → (i j : ℕ) (x y : T) → refill (length items) items (set (set (items_of buckets) i x) j y) ≡ set (set items i x) j y
+  ends_both items buckets has i j x y =
+      rw (HasBuckets-items items buckets has) (refill-whole items (set (set items i x) j y) (length-set (set items i x) j y ∙ length-set items i x))
 
   module _ (buckets : List (Option (Bucket T))) (has : HasBuckets (items_of buckets) buckets) where
     laid : IsLaidOut buckets (fewest (length (items_of buckets))) (start (fewest (length (items_of buckets)))) (length (items_of buckets))

@@ -58,6 +58,10 @@ module _ {T : Type 0} where
   drop-whole (suc n) [] ws same = absurd (omega arith)
   drop-whole (suc n) (u ∷ us) ws same = drop-whole n us ws (omega arith)
 
+  -- a list written over by as many items is these
+  pub refill-whole : (xs ws : List T) → length ws ≡ length xs → refill (length xs) xs ws ≡ ws
+  refill-whole xs ws same = refill-over xs ws ∙ (ap (λ (vs : List T). over xs vs) (sym (append-nil ws)) ∙ over-whole xs ws [] same)
+
   -- the first bucket, before the others
   pub items_of-first : (bucket : Option (Bucket T)) (buckets : List (Option (Bucket T))) → items_of (bucket ∷ buckets) ≡ items_in bucket ++ items_of buckets
   items_of-first None buckets = refl

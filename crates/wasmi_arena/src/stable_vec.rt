@@ -300,6 +300,7 @@ impl<T, A: Allocator> StableVec<T, A> {
     // All items, to write to.
     pub(crate) fn lend<'a>(&'a mut self) -> ItemsLoan<'a, T, A>
         ensures* writes_back { sem 𝓛 (lends_items T.row A.row A.Allocator self.entry result.whole) }
+        ensures one_name { result.name ≡ result.whole }
         ensures buckets { HasBuckets self.old result.buckets }
     {
         ItemsLoan {
