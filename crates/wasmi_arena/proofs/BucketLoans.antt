@@ -1,7 +1,7 @@
 -- A bucket in what a loan holds is lent to a call, and the loan is closed by what the call says of it. Assumes `Logic`.
 --     opens, closes      the loan is opened, and the bucket lent;  the bucket follows what was lent of it, so the loan does
 --     one_out, one_back      a run of buckets is one of them and the others, also once its items were written
-use mathlib.Core.Path.{◌≡◌, refl, sym}
+use mathlib.Core.Path.{refl, sym}
 use Prim.Native.Nat.{ℕ, ◌+◌, ◌*◌, ◌<◌}
 use mathlib.Core.List.{List, [], ◌∷◌}
 use lib.ListN.{length, get_or}

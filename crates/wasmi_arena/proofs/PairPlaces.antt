@@ -1,5 +1,5 @@
 -- Two items of a vector's buckets, by their places.
-use Rattle.std.proofs.Common.{◌≡◌, ◌≢◌, ℕ, ◌+◌, ◌<◌, List, [], ◌∷◌, length, get_or, set, slice_get, Option, Some, None, refl, sym, ◌∙◌, ap, arith, append-nil, IsSome}
+use Rattle.std.proofs.Common.{◌≡◌, ◌≢◌, ℕ, ◌+◌, ◌<◌, List, [], length, get_or, set, slice_get, Option, Some, None, refl, sym, ◌∙◌, ap, arith, append-nil, IsSome}
 use Rattle.std.proofs.lemmas.List.{length-set}
 use Rattle.std.specs.List.{refill}
 use Rattle.wasmi_arena.specs.Bucket.{Bucket}

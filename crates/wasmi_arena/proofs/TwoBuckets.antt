@@ -4,7 +4,7 @@
 --     cuts_slots      the loan is cut into those of the two slots
 --     slots_follow      it follows what each of the two follows
 use mathlib.Core.Path.{◌≡◌, refl, sym}
-use Prim.Native.Nat.{ℕ, zero, suc, ◌+◌, ◌*◌, ◌<◌}
+use Prim.Native.Nat.{ℕ, zero, suc, ◌+◌, ◌<◌}
 use native.Mathlib.Omega.{arith}
 use mathlib.Core.List.{List, [], ◌∷◌}
 use lib.ListN.{length, get_or, set}
@@ -31,7 +31,7 @@ use Rattle.core.specs.declared.option.Option.TheVariants.{None}
 use Rattle.std.specs.Mem.{type_size}
 use Rattle.wasmi_arena.specs.Bucket.{Bucket}
 use Rattle.wasmi_arena.specs.Loan.{SameBuckets}
-use Rattle.wasmi_arena.specs.Table.{items_of, items_in, refilled, with_item, write}
+use Rattle.wasmi_arena.specs.Table.{items_of, with_item, write}
 use Rattle.wasmi_arena.proofs.Refilled.{refilled-own}
 use Rattle.wasmi_arena.proofs.Rewritten.{write-apart, refilled-write}
 use Rattle.wasmi_arena.proofs.TableMemory.{MaybeBucket}

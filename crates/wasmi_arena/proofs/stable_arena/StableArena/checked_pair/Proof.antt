@@ -115,7 +115,7 @@ checked_pair_spec 𝓤 𝓛 𝓜 𝓡 wired K X Y LK LX LY copy keys kd clone cd
     (and_then ! (get ! refl) (and_then ! (get ! refl) (and_then ! (get ! refl) (no_more !)))) (λ v.
     use1 𝓛 (later (some (λ (r : Two). (alive ⊛ ‵ ((Pair κ T).own_val r (v ∷ []))) ⊛
     some (λ (ws : Unit {0} × (Unit {0} × (Unit {0} × Unit {0}))). ‵ (lasts (Call.ended K X Y keys kd clone cd g d dd) κs (a.0, (i, (j, tt))) ws)
-    ⊛ ‵ (Ends (Ok r))⊛ raw (fact 𝓤 (slice_get items i ≡ Some r.0.now)) ⊛ raw (fact 𝓤 (slice_get items j ≡ Some r.1.now)))))) (id⊢ 𝓤 _) $
+    ⊛ ‵ (Ends (Ok r)) ⊛ raw (fact 𝓤 (slice_get items i ≡ Some r.0.now)) ⊛ raw (fact 𝓤 (slice_get items j ≡ Some r.1.now)))))) (id⊢ 𝓤 _) $
     await ! tt $ pick ! (λ r. split ! $ split ! $ move ! (2 ∷ []) $ pick ! (λ ws. split3 ! $ drop ! $ move ! (1 ∷ []) $ split ! $ heard ! _ (λ at_i. heard ! _ (λ at_j.
     move ! (2 ∷ []) $ peeks ! (Pair κ T) _ (shows 𝓛 (Pair κ T)) r (v ∷ []) (λ seen.
     let told = pair_told κ T r v seen in let both = pair_val r in

@@ -1,5 +1,5 @@
 -- `pair` lends two items of all. Assumes `Logic`.
-use Rattle.std.proofs.Common.{◌≡◌, ◌≢◌, ℕ, ◌<◌, ◌^◌, List, [], ◌∷◌, length, set, Some, refl, sym, ap, ◌∙◌, subst, w64, MutBor}
+use Rattle.std.proofs.Common.{◌≡◌, ◌≢◌, ◌<◌, ◌^◌, List, [], ◌∷◌, length, set, Some, refl, sym, ap, ◌∙◌, subst, w64, MutBor}
 use Rattle.std.proofs.raw_atomic.Walks.{proved}
 use Rattle.std.specs.Prelude.{slice_get}
 use Rattle.core.specs.List.{refill}

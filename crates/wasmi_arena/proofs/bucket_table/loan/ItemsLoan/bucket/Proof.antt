@@ -1,5 +1,5 @@
 -- `bucket` lends one bucket on, and the loan ends with what was written to its items. Assumes `Logic`.
-use Rattle.std.proofs.Common.{◌≡◌, ℕ, ◌+◌, ◌*◌, ◌<◌, ◌≤◌, ◌^◌, List, [], ◌∷◌, length, get_or, None, refl, sym, ap, subst, arith, w64, MutBor, mul-le-mul_right}
+use Rattle.std.proofs.Common.{◌≡◌, ℕ, ◌*◌, ◌<◌, ◌≤◌, ◌^◌, List, [], ◌∷◌, length, get_or, None, refl, sym, ap, subst, arith, w64, MutBor, mul-le-mul_right}
 use Rattle.std.proofs.raw_atomic.Walks.{proved}
 use Rattle.std.specs.Prelude.{IsSome}
 use base.Share
@@ -13,7 +13,6 @@ use contract.Fact.{fact_i}
 use contract.Lifetimes.{Lfts, Shares}
 use contract.Monad.{fact}
 use contract.Running.{tables}
-use types.Follow.{after}
 use types.Kit.{join, use0, use1, use2, ‵, raw, ◌⊛◌, some, later, at_ret, ◌$◌, ◌∵◌, !, qed, done, move, keep, drop, split, split3, group, pick, await, fsplit, flt_l, frame, rewrite, suffices}
 use types.Part.{whole, sub}
 use types.Run.{enter, of_opd, bin, size_word, addr, fld, stop, first, blocks, exec, returns, and_then, no_more}
@@ -25,11 +24,10 @@ use denote.Builtin.{usize}
 use denote.Exit.{yes, no}
 use denote.Follow.{follows}
 use denote.Laws.{shows}
-use denote.Memory.{mem}
 use denote.Param.{bounded}
 use denote.Plain.{uint_vals, uint_Tells}
-use denote.RawPtr.{block_ptr, ptr_val, in_a_block}
-use denote.Ref.{MutRef, mut_vals}
+use denote.RawPtr.{ptr_val, in_a_block}
+use denote.Ref.{MutRef}
 use denote.Signature.{plain, named_lft}
 use denote.Slice.{MutSlice, slice_val}
 use denote.Steps.{nothing, heard, peeks, only}
@@ -49,7 +47,7 @@ use Rattle.wasmi_arena.specs.contracts.bucket_table.loan.parts.items_mut as Call
 use Rattle.wasmi_arena.proofs.bucket_table.loan.parts.items_mut.Met as Lends
 use Rattle.wasmi_arena.proofs.bucket_table.loan.ItemsLoan.bucket.Statement.{statement}
 use Rattle.wasmi_arena.proofs.bucket_table.loan.ItemsLoan.bucket.Code as code
-use Rattle.wasmi_arena.proofs.BucketLoans.{lent, Kept, Opened, opens, closes, here, here_at, others_of, one_out, one_back}
+use Rattle.wasmi_arena.proofs.BucketLoans.{lent, Kept, opens, closes, here, here_at, others_of, one_out, one_back}
 use Rattle.wasmi_arena.proofs.Frame.{let_go, gone}
 use Rattle.wasmi_arena.proofs.LoanMemory.{LoanRow, loan_val, loan_tells, loan_good, bucket_size}
 use Rattle.wasmi_arena.proofs.Rewritten.{open_inside}

@@ -1,5 +1,5 @@
 -- `pair` lends two items of one bucket, or of two. Assumes `Logic`.
-use Rattle.std.proofs.Common.{◌≡◌, ◌≢◌, ℕ, ◌+◌, ◌<◌, List, [], ◌∷◌, length, get_or, set, None, Some, refl, sym, ap, ◌∙◌, subst, w64, MutBor}
+use Rattle.std.proofs.Common.{◌≡◌, ◌≢◌, ℕ, ◌<◌, List, [], ◌∷◌, length, get_or, set, None, Some, refl, sym, ap, ◌∙◌, subst, w64, MutBor}
 use Rattle.std.proofs.raw_atomic.Walks.{proved}
 use Rattle.std.specs.Prelude.{slice_get, IsSome}
 use lib.Dec as dec
@@ -35,7 +35,7 @@ use denote.Triple.Call.{calls_at, calls_at_last}
 use denote.Triple.Clauses.{lasts}
 use denote.Triple.Spec.{triple_of}
 use denote.Triple.Table.{framed}
-use denote.Triple.Walked.{Stays, walk_of, says, stay_dropped, Goes-dropped, ends_at}
+use denote.Triple.Walked.{Stays, walk_of, stay_dropped, Goes-dropped, ends_at}
 use Rattle.core.proofs.alloc.Calls.{Al, Goes-blank}
 use Rattle.core.proofs.mem.Param.{El, R}
 use Rattle.std_alloc.proofs.VecSteps.Shapes.{after as rest_of}
@@ -56,7 +56,7 @@ use Rattle.wasmi_arena.proofs.Frame.{let_go, gone, says_two}
 use Rattle.wasmi_arena.proofs.LoanMemory.{LoanRow, loan_val, loan_tells, loan_good}
 use Rattle.wasmi_arena.proofs.PairLoans.{follows_both_then}
 use Rattle.wasmi_arena.proofs.PairPlaces.{below_max, filled, opened, reads, slots_apart, ends, ends_within}
-use Rattle.wasmi_arena.proofs.Refusals.{Pair, pair_val, pair_told, neqb→neq}
+use Rattle.wasmi_arena.proofs.Refusals.{Pair, pair_told, neqb→neq}
 
 pub pair_spec : {M : Type 1} → statement M
 pair_spec 𝓤 𝓛 𝓜 𝓡 wired X Y LX LY g d dd met md =

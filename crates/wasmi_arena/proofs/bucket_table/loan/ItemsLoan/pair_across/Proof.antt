@@ -1,5 +1,5 @@
 -- `pair_across` lends a slot of each of two buckets on, and the loan ends with what was written to them. Assumes `Logic`.
-use Rattle.std.proofs.Common.{◌≡◌, ◌≢◌, ℕ, ◌+◌, ◌*◌, ◌<◌, ◌≤◌, ◌^◌, List, [], ◌∷◌, length, get_or, None, Some, refl, sym, ap, subst, arith, w64, MutBor, mul-le-mul_right}
+use Rattle.std.proofs.Common.{◌≡◌, ◌≢◌, ℕ, ◌+◌, ◌*◌, ◌<◌, ◌≤◌, ◌^◌, [], ◌∷◌, length, get_or, None, Some, refl, sym, ap, subst, arith, w64, MutBor, mul-le-mul_right}
 use Rattle.std.proofs.raw_atomic.Walks.{proved}
 use Rattle.std.specs.Prelude.{slice_get}
 use base.Share
@@ -14,8 +14,7 @@ use contract.Lifetimes.{Lfts, Shares}
 use contract.Monad.{fact}
 use contract.Running.{tables}
 use types.Follow.{after, after₂}
-use types.Kit.{join, use0, use1, use2, use3, ‵, raw, ◌⊛◌, some, later, at_ret, ◌$◌, ◌∵◌, !, qed, done, move, keep, drop, split, split3, group, pick, await, fsplit, fjoin, flt_l, frame, rewrite, suffices}
-use types.Logic.{sem}
+use types.Kit.{join, use0, use1, use2, use3, ‵, raw, ◌⊛◌, some, later, at_ret, ◌$◌, ◌∵◌, !, qed, done, move, keep, drop, split, split3, group, pick, await, fsplit, flt_l, frame, rewrite, suffices}
 use types.Part.{agg, whole, sub}
 use types.Run.{enter, of_opd, bin, size_word, addr, fld, stop, first, blocks, exec, returns, and_then, no_more}
 use types.ByLocal.{alloc_all, pass_all, free_all, look_at, get, get_in, through, sets, sets_last, lands_as, is, env}
@@ -29,33 +28,33 @@ use denote.Laws.{shows}
 use denote.Memory.{mem}
 use denote.Param.{bounded}
 use denote.Plain.{uint_vals, uint_Tells, uint_Makes}
-use denote.RawPtr.{block_ptr, ptr_val, in_a_block}
-use denote.Ref.{MutRef, mut_vals, mut_Tells}
+use denote.RawPtr.{ptr_val, in_a_block}
+use denote.Ref.{MutRef, mut_Tells}
 use denote.Signature.{plain, named_lft}
 use denote.Steps.{nothing, heard, owned, peeks, only}
 use denote.Triple.Call.{calls_at}
 use denote.Triple.Clauses.{lasts}
 use denote.Triple.Spec.{triple_of}
 use denote.Triple.Table.{framed}
-use denote.Triple.Walked.{Stays, walk_of, says, stay_dropped, Goes-dropped, ends_at}
+use denote.Triple.Walked.{Stays, walk_of, stay_dropped, Goes-dropped, ends_at}
 use Rattle.core.proofs.alloc.Calls.{Al, Goes-blank}
 use Rattle.core.proofs.mem.Param.{El, R}
 use Rattle.core.proofs.slots.Leases.{uncapped, P}
 use Rattle.std_alloc.proofs.VecSteps.Shapes.{after as rest_of}
 use Rattle.wasmi_arena.specs.Loan.{SameBuckets, loan_owns}
-use Rattle.wasmi_arena.specs.Table.{items_of, items_in, with_item}
+use Rattle.wasmi_arena.specs.Table.{items_in, with_item}
 use Rattle.wasmi_arena.specs.contracts.bucket_table.loan.ItemsLoan.pair_across as F
 use Rattle.wasmi_arena.specs.contracts.stable_vec.slot_mut as Call
 use Rattle.wasmi_arena.proofs.stable_vec.slot_mut.Met as Lends
 use Rattle.wasmi_arena.proofs.bucket_table.loan.ItemsLoan.pair_across.Statement.{statement}
 use Rattle.wasmi_arena.proofs.bucket_table.loan.ItemsLoan.pair_across.Code as code
-use Rattle.wasmi_arena.proofs.BucketLoans.{lent, Kept, Opened, opens, closes}
+use Rattle.wasmi_arena.proofs.BucketLoans.{lent, Kept, opens, closes}
 use Rattle.wasmi_arena.proofs.Frame.{let_go, gone, says_two}
 use Rattle.wasmi_arena.proofs.LoanMemory.{LoanRow, loan_val, loan_tells, loan_good, bucket_size}
 use Rattle.wasmi_arena.proofs.Refusals.{Pair, pair_val, pair_made}
 use Rattle.wasmi_arena.proofs.Rewritten.{filled_inside, item_in_slot}
 use Rattle.wasmi_arena.proofs.TableMemory.{MaybeBucket}
-use Rattle.wasmi_arena.proofs.TwoBuckets.{OneSlot, Ends, Cut, cuts_slots, slot_out, slot_back, slots_follow}
+use Rattle.wasmi_arena.proofs.TwoBuckets.{OneSlot, Ends, cuts_slots, slot_out, slot_back, slots_follow}
 
 pub pair_across_spec : {M : Type 1} → statement M
 pair_across_spec 𝓤 𝓛 𝓜 𝓡 wired X Y LX LY g d dd met md =
