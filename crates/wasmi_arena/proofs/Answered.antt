@@ -1,10 +1,10 @@
 -- What an answer on two items says in single clauses.
-use Rattle.std.proofs.Common.{◌≡◌, ◌≢◌, ◌≤◌, ℕ, Bool, true, false, List, [], ◌∷◌, length, inl, inr, refl, subst, arith, MutBor}
+use Rattle.std.proofs.Common.{◌≡◌, ◌≢◌, ◌≤◌, ℕ, suc, Bool, true, false, List, [], ◌∷◌, length, set, inl, inr, refl, subst, arith, MutBor}
 use Rattle.std.proofs.lemmas.Option.{slice_get_within}
 use lib.Dec.{T}
 use mathlib.Core.Bool.{not}
 use Rattle.std.specs.Prelude.{◌↔◌, ◌⊎◌, Result, Ok, Err, IfOk, IfErr, IsErrOf, slice_get, Some}
-use Rattle.wasmi_arena.specs.Pairs.{PairAnswer, AreNumbers}
+use Rattle.wasmi_arena.specs.Pairs.{PairAnswer, AreNumbers, with_both}
 use Rattle.wasmi_arena.specs.declared.error.ArenaError.{ArenaError}
 use Rattle.wasmi_arena.specs.declared.error.ArenaError.TheVariants.{OutOfSystemMemory, KeyOutOfBounds, NotEnoughKeys, AliasingPairAccess, DuplicateItem}
 
@@ -89,3 +89,20 @@ module _ {K R : Type 0} (number : K → ℕ) (items : List R) (keys : List K) wh
 
     pub asked-bounds : Bounds r
     asked-bounds first second e = answered-bounds items (number first) (number second) r (of_keys first second e)
+
+none_is_two : (n : ℕ) → n ≡ 0 → n ≡ 2 → ⊥
+none_is_two n none two = omega (arith, none, two)
+
+one_is_two : (n : ℕ) → n ≡ 1 → n ≡ 2 → ⊥
+one_is_two n one two = omega (arith, one, two)
+
+more_is_two : (n : ℕ) → suc (suc (suc n)) ≡ 2 → ⊥
+more_is_two n two = omega (arith, two)
+
+-- two writes at the numbers of two keys are two writes under the keys
+pub asked-writes : {K R : Type 0} (number : K → ℕ) (items : List R) (both : List K) (i j : ℕ) → AreNumbers number both i j → length both ≡ 2 → (x y : R)
+    → set (set items i x) j y ≡ with_both number items both x y
+asked-writes number items [] i j are two x y = absurd (none_is_two _ refl two)
+asked-writes number items (one ∷ []) i j are two x y = absurd (one_is_two _ refl two)
+asked-writes number items (one ∷ other ∷ []) i j are two x y = let n = are one other refl in λ k. set (set items (n.0 k) x) (n.1 k) y
+asked-writes number items (one ∷ other ∷ more ∷ rest) i j are two x y = absurd (more_is_two (length rest) two)

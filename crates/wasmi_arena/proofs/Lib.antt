@@ -1,11 +1,13 @@
 pub mod Geometry
 pub mod Table
 pub mod Refilled
+pub mod Rewritten
 pub mod LaidOut
 pub mod Arena
 pub mod OneAnswer
 pub mod Entries
 pub mod FilledParts
+pub mod PairPlaces
 pub mod Loans
 pub mod Ahead
 pub mod Taken
@@ -22,6 +24,9 @@ pub mod TableMemory
 pub mod VecMemory
 pub mod ArenaMemory
 pub mod LoanMemory
+pub mod BucketLoans
+pub mod TwoBuckets
+pub mod PairLoans
 pub mod Refusals
 pub mod Answered
 pub mod WalkedKeys

@@ -2,7 +2,7 @@
 --     LoanRow, loan_val      its type, and its machine value
 --     loan_made      it is made of what it owns.        pair_made      and so are two of them
 --     cuts      a loan of two runs of buckets is one of each
-use mathlib.Core.Path.{◌≡◌, refl, sym}
+use mathlib.Core.Path.{refl, sym}
 use Prim.Native.Nat.{ℕ, ◌+◌, ◌*◌, ◌<◌, ◌^◌}
 use native.Mathlib.Omega.{arith}
 use mathlib.Core.List.{List, [], ◌∷◌, ◌++◌}
@@ -37,11 +37,10 @@ use Rattle.core.proofs.mem.Param.{El, R}
 use Rattle.core.proofs.ptr.Rows.{times_below}
 use Rattle.core.proofs.slots.Leases.{P}
 use Rattle.core.specs.declared.option.Option.{Option}
-use Rattle.core.specs.declared.option.Option.TheVariants.{None, Some}
 use Rattle.wasmi_arena.specs.Bucket.{Bucket}
 use Rattle.std.specs.Mem.{type_size}
 use Rattle.wasmi_arena.specs.Loan.{SameBuckets, loan_owns}
-use Rattle.wasmi_arena.specs.Table.{items_of, refilled, AreFilled}
+use Rattle.wasmi_arena.specs.Table.{items_of, refilled}
 use Rattle.wasmi_arena.specs.contracts.bucket_table.loan.ItemsLoan as Loan
 use Rattle.wasmi_arena.proofs.Refilled.{length-refilled, refilled-own, refilled-append}
 use Rattle.wasmi_arena.proofs.TableMemory.{MaybeBucket}
@@ -167,10 +166,3 @@ module _ (E : El) (Z : Al) {M : Type 1} {𝓤 : Ura M} (𝓛 : Logic 𝓤) (b : 
         split ! $ fjoin ! $ flt_i ! (length front * bucket_size) (2 ^ 63) front_small $ fjoin ! $ move ! (1 ∷ []) $
         split ! $ fjoin ! $ flt_i ! (length back * bucket_size) (2 ^ 63) back_small $ fjoin ! $ move ! (2 ∷ []) $ split ! $
         now ! $ show ! Halves νs $ keep ! (3 ∷ 2 ∷ 0 ∷ []) $ done !))
-
--- a loan of one bucket is a loan of an open bucket
-pub one_open : {T : Type 0} (buckets : List (Option (Bucket T))) → length buckets ≡ 1 → AreFilled buckets → (bucket : Bucket T) × (buckets ≡ Some bucket ∷ [])
-one_open [] one filled = absurd (omega arith)
-one_open (None ∷ buckets) one filled = absurd filled
-one_open (Some bucket ∷ []) one filled = (bucket, refl)
-one_open (Some bucket ∷ next ∷ buckets) one filled = absurd (omega arith)

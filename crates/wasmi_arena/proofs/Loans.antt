@@ -1,5 +1,5 @@
 -- Facts on a loan that is cut.
-use Rattle.std.proofs.Common.{◌≡◌, ℕ, get_or, refl, ◌+◌, ◌-◌, ◌<◌, List, [], ◌∷◌, ◌++◌, length, map, Option, Some, None, sym, ◌∙◌, ap, subst, arith, length-append, append-nil}
+use Rattle.std.proofs.Common.{◌≡◌, ℕ, ◌+◌, ◌-◌, ◌<◌, List, [], ◌∷◌, ◌++◌, length, map, Option, Some, None, sym, ◌∙◌, ap, subst, arith, length-append, append-nil}
 use Rattle.std.proofs.lemmas.List.{map-append}
 use Rattle.wasmi_arena.specs.Bucket.{Bucket}
 use Rattle.wasmi_arena.specs.IterMut.{IsCut, IsLent, parts_of, left}
@@ -23,23 +23,6 @@ module _ {T : Type 0} where
   one_part (None ∷ buckets) one filled = absurd filled
   one_part (Some bucket ∷ []) one filled = ap (λ (xs : List T). xs ∷ []) (sym (append-nil bucket.items))
   one_part (Some bucket ∷ next ∷ buckets) one filled = absurd (omega arith)
-
-  -- a bucket that is cut out
-  cut_out : (before one rest : List (Option (Bucket T))) → length one ≡ 1 → one ≡ get_or (before ++ (one ++ rest)) (length before) None ∷ []
-  cut_out [] [] rest count = absurd (omega (arith, count))
-  cut_out [] (bucket ∷ []) rest count = refl
-  cut_out [] (bucket ∷ next ∷ one) rest count = absurd (omega (arith, count))
-  cut_out (first ∷ before) one rest count = cut_out before one rest count
-
-  items_of-one : (bucket : Option (Bucket T)) → items_of (bucket ∷ []) ≡ items_in bucket
-  items_of-one None = refl
-  items_of-one (Some bucket) = append-nil bucket.items
-
-  module _ (buckets before rest one after : List (Option (Bucket T))) (b : ℕ) (whole : buckets ≡ before ++ rest) (counted : length before ≡ b) (inner : rest ≡ one ++ after) (single : length one ≡ 1) where
-    pub bucket_read : items_of one ≡ items_in (get_or buckets b None)
-    bucket_read =
-        let out : one ≡ get_or buckets b None ∷ [] = rw (whole, inner, ← counted) (cut_out before one after single) in
-        rw out (items_of-one (get_or buckets b None))
 
 -- what is lent, where it is found and cut
 module _ {T A : Type 0} (found : Option (ItemsLoan T A)) (loan front back : ItemsLoan T A) (count at : ℕ) (lent : IsLent found count) (is : found ≡ Some loan) (cut : IsCut loan front back at) where

@@ -12,7 +12,7 @@ module _ {T : Type 0} where
   over (x ∷ xs) [] = x ∷ xs
   over (x ∷ xs) (w ∷ ws) = w ∷ over xs ws
 
-  refill-over : (xs ws : List T) → refill (length xs) xs ws ≡ over xs ws
+  pub refill-over : (xs ws : List T) → refill (length xs) xs ws ≡ over xs ws
   refill-over [] ws = refl
   refill-over (x ∷ xs) [] = take_all (length (x ∷ xs)) (x ∷ xs) (omega arith)
   refill-over (x ∷ xs) (w ∷ ws) = ap (λ (ys : List T). w ∷ ys) (refill-over xs ws)
@@ -34,7 +34,7 @@ module _ {T : Type 0} where
   over-append (x ∷ xs) ys [] = ap (λ (zs : List T). x ∷ xs ++ zs) (sym (over-none ys))
   over-append (x ∷ xs) ys (w ∷ ws) = ap (λ (zs : List T). w ∷ zs) (over-append xs ys ws)
 
-  over-whole : (xs us ws : List T) → length us ≡ length xs → over xs (us ++ ws) ≡ us
+  pub over-whole : (xs us ws : List T) → length us ≡ length xs → over xs (us ++ ws) ≡ us
   over-whole [] [] ws same = refl
   over-whole [] (u ∷ us) ws same = absurd (omega arith)
   over-whole (x ∷ xs) [] ws same = absurd (omega arith)
@@ -52,14 +52,18 @@ module _ {T : Type 0} where
   drop-over (suc n) (x ∷ xs) [] = over-none (drop n xs)
   drop-over (suc n) (x ∷ xs) (w ∷ ws) = drop-over n xs ws
 
-  drop-whole : (n : ℕ) (us ws : List T) → length us ≡ n → drop n (us ++ ws) ≡ ws
+  pub drop-whole : (n : ℕ) (us ws : List T) → length us ≡ n → drop n (us ++ ws) ≡ ws
   drop-whole zero [] ws same = refl
   drop-whole zero (u ∷ us) ws same = absurd (omega arith)
   drop-whole (suc n) [] ws same = absurd (omega arith)
   drop-whole (suc n) (u ∷ us) ws same = drop-whole n us ws (omega arith)
 
+  -- a list written over by as many items is these
+  pub refill-whole : (xs ws : List T) → length ws ≡ length xs → refill (length xs) xs ws ≡ ws
+  refill-whole xs ws same = refill-over xs ws ∙ (ap (λ (vs : List T). over xs vs) (sym (append-nil ws)) ∙ over-whole xs ws [] same)
+
   -- the first bucket, before the others
-  items_of-first : (bucket : Option (Bucket T)) (buckets : List (Option (Bucket T))) → items_of (bucket ∷ buckets) ≡ items_in bucket ++ items_of buckets
+  pub items_of-first : (bucket : Option (Bucket T)) (buckets : List (Option (Bucket T))) → items_of (bucket ∷ buckets) ≡ items_in bucket ++ items_of buckets
   items_of-first None buckets = refl
   items_of-first (Some bucket) buckets = refl
 

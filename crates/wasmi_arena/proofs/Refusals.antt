@@ -1,27 +1,23 @@
--- What the proofs of `checked_pair` share. Assumes `Logic`.
---     Pair, PairOr      two `&mut T`, and these or an `ArenaError`.        pair_told, pair_or_laws      which machine value a pair is; that the result is one
+-- What the proofs of calls that lend two items, or fail, share. Assumes `Logic`.
+--     Pair, PairOr      two `&mut T`, and these or an `ArenaError`.        pair_told, pair_made, pair_or_laws      which machine value a pair is; that it is made of two; that the result is one
 --     error_made, refused      an error, of which one of its variants without fields is made of nothing, and it as the result
---           stays, keeps      the lender is as it was;  or it ends as itself, whatever that is
 use Rattle.std.proofs.Common.{◌≡◌, ◌≢◌, ℕ, List, [], ◌∷◌, refl, ap, subst, MutBor}
-use Rattle.std.specs.Prelude.{Result, Ok, Err, OnOk, OnErr}
+use Rattle.std.specs.Prelude.{Err}
 use lib.Dec as dec
 use lib.Dec.{T_not, eqb, eqb_refl}
 use mathlib.Core.Bool.{not}
-use Rattle.std.specs.Borrow.{RestsIfErr}
-use base.Logic.{wand, ent, emp}
-use mathlib.Core.Option.{none, some}
-use base.Fml.{Lft, Fml, GName, fex, feq, fsep, fres, fauth}
+use base.Logic.{ent, emp, sep}
+use base.Fml.{Lft}
 use seplogic.Ra.Ura.{Ura}
 use mir.Syntax.{named}
 use mir.Val.{Val, of_list, vptr, vstruct, vcons, vnil}
 use types.Logic.{Logic, sem}
-use types.Kit.{‵, ◌$◌, ◌∵◌, !, qed, done, each, assume, use0, use1, fjoin, fpack, feq_i}
+use types.Kit.{‵, ◌$◌, ◌∵◌, !, qed, done, move, use0, use1, fjoin, fpack, feq_i}
 use types.Match.{live}
 use denote.RattleType.{RattleType, Valss, owns}
 use denote.Enum.Row.{tagged_with}
 use denote.Enum.Enum.{form_of, in_a_row}
 use denote.Enum.Declared.{shape}
-use denote.Follow.{follows, follows_by, such_by}
 use denote.Laws.{Is}
 use denote.Param.Laws.{Laws, of_field, is_one}
 use denote.Param.Shared.{Sharable, mut_ref_shared}
@@ -30,7 +26,7 @@ use denote.Steps.{nothing, only}
 use denote.Struct.Declared as Declared
 use denote.Struct.Field.{mut_ref_field, row_field}
 use denote.Struct.Laws.{mut_ref_laws}
-use denote.Struct.Struct.{Struct-Tells}
+use denote.Struct.Struct.{Struct-Tells, within}
 use denote.Struct.Tuple.{Tuple, tuple_type, tuple_laws}
 use Rattle.core.proofs.once.Made.{err_of}
 use Rattle.core.proofs.result.Result.TheLaws as ResultLaws
@@ -49,41 +45,6 @@ module _ (κ : Lft) (T : RattleType) where
 
   abbrev pub PairOr : RattleType
   PairOr = ResultType.the_row Pair ErrorType.the_row
-
-module _ {M : Type 1} {𝓤 : Ura M} (𝓛 : Logic 𝓤) (S : RattleType) (γ : GName) where
-  open 𝓛 use {A}
-
-  -- a name follows itself
-  itself : ent 𝓤 (emp 𝓤) (sem 𝓛 (follows S S γ γ (λ w. w)))
-  itself =
-      let From : S.Denot → S.Denot → Fml = λ z w. fsep (feq S.Denot z w) (fauth γ (S.coded.code w)) in
-      let said = qed 𝓛 [] ∵ each ! (λ (w : S.Denot). wand 𝓤 (A.res γ (S.coded.code w)) (A.res γ (S.coded.code w))) (λ w. assume ! (‵ (fres γ (S.coded.code w))) $ done !) in
-      let back = qed 𝓛 [] ∵ each ! (λ (z : S.Denot). wand 𝓤 (A.auth γ (S.coded.code z)) (sem 𝓛 (fex S.Denot (From z)))) (λ z. assume ! (‵ (fauth γ (S.coded.code z))) $
-      feq_i ! S.Denot z z refl $ fjoin ! $ fpack ! S.Denot (From z) z $ done !) in
-      record { apply = λ a p. (said.apply a p, back.apply a p) }
-
-module _ {M : Type 1} {𝓤 : Ura M} (𝓛 : Logic 𝓤) (S : RattleType) (lender : MutBor S.Denot) (X : Type 0) where
-  -- what is said of the lender
-  abbrev pub Rests : Result X ArenaError → Fml
-  Rests r = RestsIfErr S lender (λ (_ : X). lender.ghost_name) r (λ now. now ≡ lender.now)
-
-  -- what its last value is known by
-  abbrev Known : Result X ArenaError → Type 0
-  Known r = (s : (S.Denot → S.Denot) × S.Denot) × ((w : S.Denot) → OnOk r (s.0 w ≡ w)) × OnErr r (s.1 ≡ lender.now)
-
-  -- where the call failed, it is as it was
-  pub stays : (e : ArenaError) → ent 𝓤 (sem 𝓛 (fres lender.ghost_name (S.coded.code lender.now))) (sem 𝓛 (Rests (Err e)))
-  unfolding such_by follows_by
-  stays e =
-      qed 𝓛 (‵ (fres lender.ghost_name (S.coded.code lender.now)) ∷ []) ∵
-      fpack ! (Known (Err e)) (λ s. follows_by S.Denot S.Denot S.coded.code S.coded.code lender.ghost_name none s.0.0 s.0.1) (((λ w. w), lender.now), (λ w. tt), refl) $ done !
-
-  -- else it ends as itself, whatever that is
-  pub ends : (x : X) → ent 𝓤 (emp 𝓤) (sem 𝓛 (Rests (Ok x)))
-  unfolding such_by follows_by
-  ends x =
-      qed 𝓛 [] ∵ use0 𝓛 (‵ (follows S S lender.ghost_name lender.ghost_name (λ w. w))) (itself 𝓛 S lender.ghost_name) $
-      fpack ! (Known (Ok x)) (λ s. follows_by S.Denot S.Denot S.coded.code S.coded.code lender.ghost_name (some lender.ghost_name) s.0.0 s.0.1) (((λ w. w), lender.now), (λ w. refl), tt) $ done !
 
 -- the machine's value of an error, by the place of its variant
 abbrev pub error_val : ℕ → Val
@@ -131,6 +92,15 @@ module _ (κ : Lft) (T : RattleType) where
   pair_told r v seen =
       let told = mut_Tells (named 0) κ T in
       ap only (Struct-Tells (Declared.shape (tuple_type (Lent κ T ∷ Lent κ T ∷ []))) (mut_vals, (mut_vals, tt)) (told, (told, tt)) (r.0, (r.1, tt)) (v ∷ []) seen)
+
+  -- two references are such a pair
+  pub pair_made : {M : Type 1} {𝓤 : Ura M} (𝓛 : Logic 𝓤) (r : MutBor T.Denot × MutBor T.Denot)
+      → ent 𝓤 (sep 𝓤 (sem 𝓛 ((Lent κ T).own_val r.0 (mut_vals r.0))) (sem 𝓛 ((Lent κ T).own_val r.1 (mut_vals r.1)))) (sem 𝓛 ((Pair κ T).own_val r (pair_val r ∷ [])))
+  pair_made 𝓛 r =
+      let Shape' = Declared.shape (tuple_type (Lent κ T ∷ Lent κ T ∷ [])) in let v = pair_val r in
+      qed 𝓛 (‵ ((Lent κ T).own_val r.0 (mut_vals r.0)) ∷ ‵ ((Lent κ T).own_val r.1 (mut_vals r.1)) ∷ []) ∵
+      nothing ! $ move ! (2 ∷ 0 ∷ []) $ fjoin ! $ move ! (1 ∷ 0 ∷ []) $ fjoin ! $ feq_i ! (List Val) (v ∷ []) (v ∷ []) refl $ fjoin ! $
+      fpack ! (Valss (Lent κ T ∷ Lent κ T ∷ [])) (within Shape' (r.0, (r.1, tt)) (v ∷ [])) (mut_vals r.0, (mut_vals r.1, tt)) $ done !
 
 module _ (κ : Lft) (T : RattleType) (L : Laws T) where
   lent_laws : Laws (Lent κ T)

@@ -13,6 +13,7 @@ pub mod VecLend
 pub mod TableLend
 pub mod Table
 pub mod Loan
+pub mod LoanLend
 pub mod IterMut
 pub mod Ahead
 pub mod Arena

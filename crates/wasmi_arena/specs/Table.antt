@@ -45,6 +45,10 @@ module _ {T : Type 0} where
   with_items (Some bucket) items =
       Some record { items = refill (length bucket.items) bucket.items items; capacity = bucket.capacity }
 
+  -- a table with these items in the filled slots of bucket b
+  abbrev pub write_all : List (Option (Bucket T)) → ℕ → List T → List (Option (Bucket T))
+  write_all buckets b items = slice_set buckets b (with_items (slice_index_or buckets b None) items)
+
   -- the same buckets with these items in their filled slots, from the first to the last
   abbrev pub refilled : List (Option (Bucket T)) → List T → List (Option (Bucket T))
   refilled [] items = []

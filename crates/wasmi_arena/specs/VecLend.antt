@@ -1,8 +1,10 @@
 -- What a stable vector is once a `&mut` to an item of it has ended.
-use Rattle.std.specs.Prelude.{◌≡◌, ℕ, List, length, slice_set, Option, Result}
-use Rattle.std.specs.Borrow.{Fml, GName, RattleType, MutBor, Lends, LendsIf, RestsIfErr, follows}
+use Rattle.std.specs.Prelude.{ℕ, List, length, slice_set, Option, Result}
+use Rattle.std.specs.Borrow.{Fml, GName, RattleType, MutBor, Lends, LendsIf, LendsBoth, follows}
 use Rattle.std.specs.List.{refill}
 use Rattle.std.specs.declared.alloc.Allocator.{Ghosts}
+use Rattle.wasmi_arena.specs.Pairs.{LendsBothIfOk, with_both}
+use Rattle.wasmi_arena.specs.declared.error.ArenaError.{ArenaError}
 use Rattle.wasmi_arena.specs.contracts.stable_vec.StableVec.{the_row}
 
 module _ (R A : RattleType) (alloc : Ghosts A.Denot) where
@@ -18,6 +20,14 @@ module _ (R A : RattleType) (alloc : Ghosts A.Denot) where
   abbrev pub lends_items : MutBor (List R.Denot) → GName → Fml
   lends_items vec loan = follows (the_row R A alloc) (the_row R A alloc) vec.ghost_name loan (refill (length vec.now) vec.now)
 
-  -- where the call failed, the vector is as before
-  abbrev pub rests_if_refused : {X E : Type 0} → MutBor (List R.Denot) → Result X E → Fml
-  rests_if_refused vec result = RestsIfErr (the_row R A alloc) vec (λ _. vec.ghost_name) result (λ now. now ≡ vec.now)
+  -- the items at the two indices are what was written last through the references, and no other changes
+  abbrev pub lends_two : MutBor (List R.Denot) → ℕ → ℕ → MutBor R.Denot × MutBor R.Denot → Fml
+  lends_two vec first second pair = LendsBoth (the_row R A alloc) R R vec pair (λ x y. slice_set (slice_set vec.now first x) second y)
+
+  -- the same where there are two references, and else nothing changes
+  abbrev pub lends_pair : MutBor (List R.Denot) → ℕ → ℕ → Result (MutBor R.Denot × MutBor R.Denot) ArenaError → Fml
+  lends_pair vec first second pair = LendsBothIfOk (the_row R A alloc) R vec pair (λ x y. slice_set (slice_set vec.now first x) second y)
+
+  -- the same of the two indices in a list
+  abbrev pub lends_both : MutBor (List R.Denot) → List ℕ → Result (MutBor R.Denot × MutBor R.Denot) ArenaError → Fml
+  lends_both vec indices pair = LendsBothIfOk (the_row R A alloc) R vec pair (with_both (λ index. index) vec.now indices)

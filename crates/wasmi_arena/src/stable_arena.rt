@@ -227,6 +227,7 @@ impl<Key: ArenaKey, T, A: Allocator> StableArena<Key, T, A> {
     // All items, to write to.
     fn lend<'a>(&'a mut self) -> ItemsLoan<'a, T, A>
         ensures* writes_back { sem 𝓛 (lends_items Key.row T.row A.row Key.ArenaKey A.Allocator self.entry result.whole) }
+        ensures one_name { result.name ≡ result.whole }
         ensures buckets { HasBuckets self.old result.buckets }
     {
         ItemsLoan {

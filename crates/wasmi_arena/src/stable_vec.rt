@@ -132,7 +132,7 @@ fn open_with<T: Drop, A: Allocator + Clone>(
 }
 
 // The item in a filled slot of an open bucket, to write to.
-fn slot_mut<T, A: Allocator>(bucket: &mut Option<Bucket<T, A>>, slot: usize) -> &mut T
+pub(crate) fn slot_mut<T, A: Allocator>(bucket: &mut Option<Bucket<T, A>>, slot: usize) -> &mut T
     requires { slot < length (items_in bucket.old) }
     ensures* writes_back { sem 𝓛 (lends_slot T.row A.row A.Allocator bucket.entry slot result) }
     ensures value { slice_get (items_in bucket.old) slot ≡ Some result.now }
@@ -300,6 +300,7 @@ impl<T, A: Allocator> StableVec<T, A> {
     // All items, to write to.
     pub(crate) fn lend<'a>(&'a mut self) -> ItemsLoan<'a, T, A>
         ensures* writes_back { sem 𝓛 (lends_items T.row A.row A.Allocator self.entry result.whole) }
+        ensures one_name { result.name ≡ result.whole }
         ensures buckets { HasBuckets self.old result.buckets }
     {
         ItemsLoan {

@@ -2,7 +2,7 @@
 ghost use Rattle.std.specs.Prelude.{◌≡◌, ◌≢◌, ◌<◌, ◌≤◌, ◌↔◌, ◌⊎◌, [], ◌∷◌, length, IfOk, IfErr, IsOk, IsErrOf, slice_get, Some};
 ghost use Rattle.std.specs.Borrow.{sem};
 ghost use Rattle.wasmi_arena.specs.Pairs.{PairAnswer, AreNumbers};
-ghost use Rattle.wasmi_arena.specs.ArenaLend.{rests_if_refused};
+ghost use Rattle.wasmi_arena.specs.ArenaLend.{lends_two, lends_pair, lends_both};
 
 use super::StableArena;
 use crate::{ArenaError, ArenaKey};
@@ -14,6 +14,7 @@ impl<Key: ArenaKey, T, A: Allocator> StableArena<Key, T, A> {
         requires disjoint { first ≢ second }
         requires first { first < length self.old }
         requires second { second < length self.old }
+        ensures* writes_back { sem 𝓛 (lends_two Key.row T.row A.row Key.ArenaKey A.Allocator self.entry first second result) }
         ensures first { slice_get self.old first ≡ Some result.0.now }
         ensures second { slice_get self.old second ≡ Some result.1.now }
     {
@@ -29,7 +30,7 @@ impl<Key: ArenaKey, T, A: Allocator> StableArena<Key, T, A> {
         second: usize,
     ) -> Result<(&mut T, &mut T), ArenaError>
         requires len { len ≡ length self.old }
-        ensures* refused { sem 𝓛 (rests_if_refused Key.row T.row A.row Key.ArenaKey A.Allocator self.entry result) }
+        ensures* writes_back { sem 𝓛 (lends_pair Key.row T.row A.row Key.ArenaKey A.Allocator self.entry first second result) }
         ensures answer { PairAnswer self.old first second result }
     {
         if first == second {
@@ -61,7 +62,7 @@ impl<Key: ArenaKey, T, A: Allocator> StableArena<Key, T, A> {
     /// Fails with `AliasingPairAccess` if the keys are equal, and then with `KeyOutOfBounds` if there is
     /// no item under one. After an error the arena is as before. Constant time.
     pub fn get_disjoint_mut(&mut self, keys: [Key; 2]) -> Result<(&mut T, &mut T), ArenaError>
-        ensures* refused { sem 𝓛 (rests_if_refused Key.row T.row A.row Key.ArenaKey A.Allocator self.entry result) }
+        ensures* writes_back { sem 𝓛 (lends_both Key.row T.row A.row Key.ArenaKey A.Allocator self.entry keys result) }
         ensures items { (first second : Key) → keys ≡ first ∷ second ∷ [] → IfOk result (λ pair.
             (slice_get self.old (Key.keys.number first) ≡ Some pair.0.now)
             × (slice_get self.old (Key.keys.number second) ≡ Some pair.1.now)) }

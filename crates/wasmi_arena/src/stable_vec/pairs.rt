@@ -4,7 +4,7 @@ ghost use Rattle.std.specs.Borrow.{sem};
 ghost use Rattle.wasmi_arena.specs.Pairs.{PairAnswer, AreNumbers};
 ghost use Rattle.std.specs.List.{swap};
 ghost use Rattle.wasmi_arena.specs.Table.{items_in, with_item, write};
-ghost use Rattle.wasmi_arena.specs.VecLend.{rests_if_refused};
+ghost use Rattle.wasmi_arena.specs.VecLend.{lends_two, lends_pair, lends_both};
 
 use super::{StableVec, slot_mut};
 use crate::{ArenaError, Bucket};
@@ -113,6 +113,7 @@ impl<T, A: Allocator> StableVec<T, A> {
         requires disjoint { first ≢ second }
         requires first { first < length self.old }
         requires second { second < length self.old }
+        ensures* writes_back { sem 𝓛 (lends_two T.row A.row A.Allocator self.entry first second result) }
         ensures first { slice_get self.old first ≡ Some result.0.now }
         ensures second { slice_get self.old second ≡ Some result.1.now }
     {
@@ -128,7 +129,7 @@ impl<T, A: Allocator> StableVec<T, A> {
         second: usize,
     ) -> Result<(&mut T, &mut T), ArenaError>
         requires len { len ≡ length self.old }
-        ensures* refused { sem 𝓛 (rests_if_refused T.row A.row A.Allocator self.entry result) }
+        ensures* writes_back { sem 𝓛 (lends_pair T.row A.row A.Allocator self.entry first second result) }
         ensures answer { PairAnswer self.old first second result }
     {
         if first == second {
@@ -160,7 +161,7 @@ impl<T, A: Allocator> StableVec<T, A> {
     /// Fails with `AliasingPairAccess` if the indices are equal, and then with `KeyOutOfBounds` if one
     /// isn't below the length. After an error the vector is as before. Constant time.
     pub fn get_disjoint_mut(&mut self, indices: [usize; 2]) -> Result<(&mut T, &mut T), ArenaError>
-        ensures* refused { sem 𝓛 (rests_if_refused T.row A.row A.Allocator self.entry result) }
+        ensures* writes_back { sem 𝓛 (lends_both T.row A.row A.Allocator self.entry indices result) }
         ensures items { (first second : ℕ) → indices ≡ first ∷ second ∷ [] → IfOk result (λ pair.
             (slice_get self.old first ≡ Some pair.0.now)
             × (slice_get self.old second ≡ Some pair.1.now)) }

@@ -1,72 +1,97 @@
 //! Two items of a loan at once.
-ghost use Rattle.std.specs.Prelude.{◌≡◌, ◌≢◌, ◌<◌, ◌≤◌, length, slice_get, slice_index_or, Some, None};
+ghost use Rattle.std.specs.Prelude.{◌≡◌, ◌≢◌, ◌<◌, ◌≤◌, length, slice_get, slice_set, slice_index_or, Some, None};
+ghost use Rattle.std.specs.Borrow.{sem, LendsBoth, Array};
+ghost use Rattle.wasmi_arena.specs.Geometry.{IsPlace, max_len};
+ghost use Rattle.wasmi_arena.specs.LoanLend.{lends_slots, lends_pair};
 ghost use Rattle.wasmi_arena.specs.Table.{items_in, items_of, HasBuckets};
 
 use super::ItemsLoan;
 use crate::StableVec;
+use crate::stable_vec::slot_mut;
 use std::alloc::Allocator;
 
-impl<'a, T, A: Allocator> ItemsLoan<'a, T, A> {
-    // The items of one of the buckets.
-    fn bucket(self, bucket: usize) -> &'a mut [T]
-        requires { 0 < length (items_in (slice_index_or self.buckets bucket None)) }
-        ensures { result.now ≡ items_in (slice_index_or self.entry.buckets bucket None) }
-    {
-        let (_, rest) = self.cut(bucket);
-        let (one, _) = rest.cut(1);
-        one.into_slice()
-    }
+// The bucket and the slot of one index, and those of another.
+fn places(first: usize, second: usize) -> (usize, usize, usize, usize)
+    requires first { first < max_len }
+    requires second { second < max_len }
+    ensures first { IsPlace first result.0 result.1 }
+    ensures second { IsPlace second result.2 result.3 }
+{
+    let (bucket, slot) = StableVec::<()>::place(first);
+    let (other_bucket, other_slot) = StableVec::<()>::place(second);
+    (bucket, slot, other_bucket, other_slot)
+}
 
-    // The items in two filled slots, of which the first lies before the second.
-    fn pair_of_slots(self, first: (usize, usize), second: (usize, usize)) -> (&'a mut T, &'a mut T)
-        requires buckets { first.0 ≤ second.0 }
-        requires slots { first.0 ≡ second.0 → first.1 < second.1 }
-        requires first { first.1 < length (items_in (slice_index_or self.buckets first.0 None)) }
-        requires second { second.1 < length (items_in (slice_index_or self.buckets second.0 None)) }
-        ensures first { slice_get (items_in (slice_index_or self.entry.buckets first.0 None)) first.1
+// Two items of a slice, of which the first lies before the second.
+fn pair_in_order<T>(items: &mut [T], low: usize, high: usize) -> (&mut T, &mut T)
+    requires order { low < high }
+    requires in_bounds { high < length items.old }
+    ensures* writes_back { sem 𝓛 (LendsBoth (Array T.row 0) T.row T.row items.entry result
+        (λ x y. slice_set (slice_set items.old low x) high y)) }
+    ensures first { slice_get items.old low ≡ Some result.0.now }
+    ensures second { slice_get items.old high ≡ Some result.1.now }
+{
+    let (front, back) = items.split_at_mut(high);
+    (&mut front[low], &mut back[0])
+}
+
+// Two items of a slice.
+fn pair_within<T>(items: &mut [T], slot: usize, other_slot: usize) -> (&mut T, &mut T)
+    requires apart { slot ≢ other_slot }
+    requires first { slot < length items.old }
+    requires second { other_slot < length items.old }
+    ensures* writes_back { sem 𝓛 (LendsBoth (Array T.row 0) T.row T.row items.entry result
+        (λ x y. slice_set (slice_set items.old slot x) other_slot y)) }
+    ensures first { slice_get items.old slot ≡ Some result.0.now }
+    ensures second { slice_get items.old other_slot ≡ Some result.1.now }
+{
+    if slot < other_slot {
+        pair_in_order(items, slot, other_slot)
+    } else {
+        let (low, high) = pair_in_order(items, other_slot, slot);
+        (high, low)
+    }
+}
+
+impl<'a, T, A: Allocator> ItemsLoan<'a, T, A> {
+    // The items in a filled slot of one bucket and in one of another.
+    fn pair_across(
+        self,
+        bucket: usize,
+        slot: usize,
+        other_bucket: usize,
+        other_slot: usize,
+    ) -> (&'a mut T, &'a mut T)
+        requires apart { bucket ≢ other_bucket }
+        requires first { slot < length (items_in (slice_index_or self.buckets bucket None)) }
+        requires second { other_slot < length (items_in (slice_index_or self.buckets other_bucket None)) }
+        ensures* writes_back { sem 𝓛 (lends_slots T.row A.row self.entry bucket slot other_bucket other_slot result) }
+        ensures first { slice_get (items_in (slice_index_or self.entry.buckets bucket None)) slot
             ≡ Some result.0.now }
-        ensures second { slice_get (items_in (slice_index_or self.entry.buckets second.0 None)) second.1
+        ensures second { slice_get (items_in (slice_index_or self.entry.buckets other_bucket None)) other_slot
             ≡ Some result.1.now }
     {
-        if first.0 == second.0 {
-            let items = self.bucket(first.0);
-            let (front, back) = items.split_at_mut(second.1);
-            (&mut front[first.1], &mut back[0])
-        } else {
-            let (front, back) = self.cut(second.0);
-            let one = front.bucket(first.0);
-            let other = back.bucket(0);
-            (&mut one[first.1], &mut other[second.1])
-        }
+        let ItemsLoan { first, marker: _ } = self;
+        let one = slot_mut(unsafe { &mut *first.add(bucket) }, slot);
+        let other = slot_mut(unsafe { &mut *first.add(other_bucket) }, other_slot);
+        (one, other)
     }
 
-    // The items at two indices, of which `low` comes first.
-    fn pair_in_order(self, low: usize, high: usize) -> (&'a mut T, &'a mut T)
-        requires buckets { HasBuckets (items_of self.buckets) self.buckets }
-        requires order { low < high }
-        requires in_bounds { high < length (items_of self.buckets) }
-        ensures first { slice_get (items_of self.entry.buckets) low ≡ Some result.0.now }
-        ensures second { slice_get (items_of self.entry.buckets) high ≡ Some result.1.now }
-    {
-        let first = StableVec::<T>::place(low);
-        let second = StableVec::<T>::place(high);
-        self.pair_of_slots(first, second)
-    }
-
-    // The items at two indices, in their order.
+    /// The items at two indices.
     pub(crate) fn pair(self, first: usize, second: usize) -> (&'a mut T, &'a mut T)
         requires buckets { HasBuckets (items_of self.buckets) self.buckets }
         requires disjoint { first ≢ second }
         requires first { first < length (items_of self.buckets) }
         requires second { second < length (items_of self.buckets) }
+        ensures* writes_back { sem 𝓛 (lends_pair T.row A.row self.entry first second result) }
         ensures first { slice_get (items_of self.entry.buckets) first ≡ Some result.0.now }
         ensures second { slice_get (items_of self.entry.buckets) second ≡ Some result.1.now }
     {
-        if first < second {
-            self.pair_in_order(first, second)
+        let (bucket, slot, other_bucket, other_slot) = places(first, second);
+        if bucket == other_bucket {
+            pair_within(self.bucket(bucket), slot, other_slot)
         } else {
-            let (low, high) = self.pair_in_order(second, first);
-            (high, low)
+            self.pair_across(bucket, slot, other_bucket, other_slot)
         }
     }
 }

@@ -1,7 +1,8 @@
-//! A loan of items is cut in two, and that of one bucket is a slice.
-ghost use Rattle.std.specs.Prelude.{◌≡◌, ◌≤◌, length, IsSome};
+//! A loan of items is cut in two, and one bucket of it is lent on as a slice.
+ghost use Rattle.std.specs.Prelude.{◌≡◌, ◌≤◌, length, slice_index_or, IsSome, None};
 ghost use Rattle.std.specs.Borrow.{sem};
 ghost use Rattle.wasmi_arena.specs.IterMut.{IsCut};
+ghost use Rattle.wasmi_arena.specs.LoanLend.{lends_bucket};
 ghost use Rattle.wasmi_arena.specs.Table.{items_in, items_of, AreFilled};
 ghost use Rattle.wasmi_arena.specs.TableLend.{lends_filled};
 
@@ -42,13 +43,22 @@ impl<'a, T, A: Allocator> ItemsLoan<'a, T, A> {
         )
     }
 
+    /// The items of one of the buckets, which is open.
+    pub(crate) fn bucket(self, bucket: usize) -> &'a mut [T]
+        requires { IsSome (slice_index_or self.buckets bucket None) }
+        ensures* writes_back { sem 𝓛 (lends_bucket T.row A.row self.entry bucket result) }
+        ensures value { result.now ≡ items_in (slice_index_or self.entry.buckets bucket None) }
+    {
+        let ItemsLoan { first, marker: _ } = self;
+        items_mut(unsafe { &mut *first.add(bucket) })
+    }
+
     /// The items of the one bucket of the loan.
     pub(crate) fn into_slice(self) -> &'a mut [T]
         requires one { length self.buckets ≡ 1 }
         requires open { AreFilled self.buckets }
         ensures { result.now ≡ items_of self.entry.buckets }
     {
-        let ItemsLoan { first, marker: _ } = self;
-        items_mut(unsafe { &mut *first })
+        self.bucket(0)
     }
 }

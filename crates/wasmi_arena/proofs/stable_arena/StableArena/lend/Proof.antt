@@ -26,7 +26,7 @@ use denote.RawPtr.{block_ptr}
 use denote.Ref.{MutRef, mut_vals, mut_Tells}
 use denote.Signature.{plain, named_lft}
 use denote.Steps.{heard}
-use denote.Triple.Walked.{Stays, walk_of, says, stay_dropped, Goes-spent_ref, ends_at}
+use denote.Triple.Walked.{Stays, walk_of, stay_dropped, Goes-spent_ref, ends_at}
 use Rattle.core.proofs.alloc.Calls.{Al}
 use Rattle.core.proofs.mem.Param.{El, R}
 use Rattle.core.proofs.slots.Leases.{P}
@@ -38,7 +38,7 @@ use Rattle.wasmi_arena.specs.Table.{items_of, IsTable}
 use Rattle.wasmi_arena.specs.contracts.stable_arena.StableArena.lend as F
 use Rattle.wasmi_arena.proofs.stable_arena.StableArena.lend.Statement.{statement}
 use Rattle.wasmi_arena.proofs.stable_arena.StableArena.lend.Code as code
-use Rattle.wasmi_arena.proofs.Frame.{let_go, gone}
+use Rattle.wasmi_arena.proofs.Frame.{let_go, gone, says_two}
 use Rattle.wasmi_arena.proofs.LoanMemory.{LoanRow, loan, loan_val, loan_made}
 use Rattle.wasmi_arena.proofs.Refilled.{refilled-own}
 use Rattle.wasmi_arena.proofs.TableMemory.{MaybeBucket}
@@ -82,4 +82,4 @@ lend_spec 𝓤 𝓛 𝓜 𝓡 wired K X Y LK LX LY copy keys kd clone cd g d dd 
     move ! (1 ∷ []) $ split ! $
     suffices ! _ (ends_at 𝓛 call stayed c y (loan_val ℓ E Z (block_ptr b at)) (loan ℓ E Z (block_ptr b at) buckets ν ν) (tt, tt) (tt, tt)) $
     move ! (0 ∷ 3 ∷ []) $ join ! $ use0 𝓛 (‵ (let_go 1)) (gone 𝓛 1) $ move ! (1 ∷ 0 ∷ 3 ∷ 2 ∷ []) $ group ! 3 $ frame ! $
-    says ! (record { counted = v.1.1.buckets_counted; table = subst (λ (xs : List X.Denot). IsTable 32 xs buckets) seen v.1.1.table; few_items = subst (λ (n : ℕ). n ≤ max_len) (v.1.1.items_counted ∙ ap length seen) v.1.1.few_items }) $ done !)))))
+    says_two ! refl (record { counted = v.1.1.buckets_counted; table = subst (λ (xs : List X.Denot). IsTable 32 xs buckets) seen v.1.1.table; few_items = subst (λ (n : ℕ). n ≤ max_len) (v.1.1.items_counted ∙ ap length seen) v.1.1.few_items }) $ done !)))))

@@ -1,5 +1,5 @@
 -- `checked_pair` lends two items, or leaves the vector as it is. Assumes `Logic`.
-use Rattle.std.proofs.Common.{◌≡◌, ◌≢◌, ℕ, ◌<◌, ◌≤◌, ◌^◌, List, [], ◌∷◌, length, Ok, Err, Some, refl, subst, inl, inr, lit<, MutBor}
+use Rattle.std.proofs.Common.{◌≡◌, ◌≢◌, ℕ, ◌<◌, ◌≤◌, ◌^◌, List, [], ◌∷◌, length, set, Result, Ok, Err, Some, refl, subst, inl, inr, lit<, MutBor}
 use lib.Dec.{eqb→eq, leb→le, nleb→lt}
 use Rattle.std_alloc.proofs.VecSteps.Shapes.{after as rest_of}
 use Rattle.std.proofs.raw_atomic.Walks.{proved}
@@ -8,7 +8,7 @@ use Rattle.core.proofs.once.Made.{ok_of}
 use Rattle.wasmi_arena.specs.contracts.error.ArenaError as ErrorType
 use base.Logic.{ent, id⊢, emp}
 use types.Logic.{sem}
-use base.Fml.{ftrue, flft, fres}
+use base.Fml.{Fml, ftrue, flft}
 use contract.BorrowLft.{◌⊑◌}
 use contract.Fact.{fact_i}
 use contract.Monad.{fact}
@@ -18,12 +18,13 @@ use mir.MapTy.{inst_fn}
 use mir.Val.{Val, of_list}
 use prog.Memory.{size}
 use types.ByLocal.{alloc_all, pass_all, free_all, look_at, get, through, sets, lands_as, env}
-use types.Kit.{‵, raw, ◌⊛◌, some, later, prop, at_ret, Sq, ◌$◌, ◌∵◌, !, qed, done, move, keep, drop, join, split, fsplit, fsplit3, fjoin, use0, use1, use2, pick, rewrite, await, group, frame, suffices}
+use types.Kit.{‵, raw, ◌⊛◌, some, later, prop, at_ret, Sq, ◌$◌, ◌∵◌, !, qed, done, move, keep, drop, join, split, split3, fsplit, fsplit3, fjoin, use0, use1, use2, pick, rewrite, await, group, frame, suffices}
 use types.Match.{live}
 use types.Part.{agg}
 use types.Run.{enter, addr, stop, bin, lit, and_then, no_more, first, branches, skips, exec, returns, returns_within}
 use denote.Builtin.{usize}
 use denote.Exit.{no, yes}
+use denote.Follow.{both_if_by, follows_both_if}
 use denote.Param.{layout, bounded}
 use denote.Plain.{uint_vals, uint_Tells, uint_Makes}
 use denote.RattleType.{RattleType, Valss, owns}
@@ -38,7 +39,7 @@ use denote.Triple.Table.{framed}
 use denote.Triple.Walked.{Stays, walk_of, says, stay_dropped, Goes-spent_ref, Goes-dropped, ends_at}
 use Rattle.core.proofs.alloc.Calls.{Al}
 use Rattle.core.proofs.mem.Param.{El, R}
-use Rattle.wasmi_arena.specs.Pairs.{PairAnswer}
+use Rattle.wasmi_arena.specs.Pairs.{PairAnswer, names_if_ok}
 use Rattle.wasmi_arena.specs.declared.error.ArenaError.{ArenaError}
 use Rattle.wasmi_arena.specs.declared.error.ArenaError.TheVariants.{KeyOutOfBounds, AliasingPairAccess}
 use Rattle.wasmi_arena.specs.contracts.stable_vec.StableVec.checked_pair as F
@@ -47,10 +48,11 @@ use Rattle.wasmi_arena.proofs.stable_vec.StableVec.pair.Met as Lends
 use Rattle.wasmi_arena.proofs.stable_vec.StableVec.checked_pair.Statement.{statement}
 use Rattle.wasmi_arena.proofs.stable_vec.StableVec.checked_pair.Code as code
 use Rattle.wasmi_arena.proofs.Frame.{let_go, gone}
-use Rattle.wasmi_arena.proofs.Refusals.{Pair, PairOr, pair_val, pair_told, error_val, place_of, refused, Rests, stays, ends, neqb→neq}
+use Rattle.wasmi_arena.proofs.Refusals.{Pair, PairOr, pair_val, pair_told, error_val, place_of, refused, neqb→neq}
 use Rattle.wasmi_arena.proofs.VecMemory.{VecRow}
 
 pub checked_pair_spec : {M : Type 1} → statement M
+unfolding both_if_by
 checked_pair_spec 𝓤 𝓛 𝓜 𝓡 wired X Y LX LY g d dd met md =
     let E : El = record { row = X; laws = LX } in let Z : Al = record { row = Y; laws = LY; g = g; d = d; drops = dd } in
     let args : Args = bounded (a_type ∷ a_type ∷ []) (X, (Y, tt)) (dcons d (dcons dd dnil)) in
@@ -70,11 +72,11 @@ checked_pair_spec 𝓤 𝓛 𝓜 𝓡 wired X Y LX LY g d dd met md =
     let y : W.Ghost = ((κs, qs, bounds, a, vals), tt) in
     let others_alive = ‵ (flft κs.1.0 qs.1.0) ⊛ ‵ (flft κs.1.1.0 qs.1.1.0) ⊛ ‵ ftrue in
     let alive = ‵ (flft κ q) ⊛ others_alive in let Two : Type 0 = MutBor X.Denot × MutBor X.Denot in
+    let Final = λ (x y : X.Denot). set (set items i x) j y in let Ends : Result Two ArenaError → Fml = λ r. follows_both_if Self T T γ (names_if_ok r) Final items in
     let refuses : (e : ArenaError) (v : Val) → ent 𝓤 (emp 𝓤) (sem 𝓛 ((PairOr κ T).own_val (Err e) (v ∷ []))) → PairAnswer items i j (Err e)
     → Sq 𝓛 (‵ ((MutRef (named 0) κ Self).own_val a.0 (mut_vals a.0)) ∷ alive ∷ []) (prop (W.post y v)) = λ e v made says_so.
     suffices ! _ (ends_at 𝓛 call stayed c y v (Err e) (tt, (tt, (tt, (tt, tt)))) (tt, (tt, (tt, (tt, tt))))) $
-    fsplit3 ! $ keep ! (1 ∷ 3 ∷ []) $ use1 𝓛 (‵ (fres γ (Self.coded.code items))) (𝓛.names.obs-res γ (Self.coded.code items)) $
-    use1 𝓛 (‵ (Rests 𝓛 Self a.0 Two (Err e))) (stays 𝓛 Self a.0 Two e) $ use0 𝓛 (‵ ((PairOr κ T).own_val (Err e) (v ∷ []))) made $
+    fsplit3 ! $ keep ! (1 ∷ 3 ∷ []) $ use1 𝓛 (‵ (Ends (Err e))) (𝓛.names.obs-res γ (Self.coded.code items)) $ use0 𝓛 (‵ ((PairOr κ T).own_val (Err e) (v ∷ []))) made $
     use0 𝓛 (‵ (let_go 4)) (gone 𝓛 4) $ move ! (3 ∷ 0 ∷ 1 ∷ 2 ∷ []) $ group ! 3 $ frame ! $ says ! says_so $ done ! in
     qed 𝓛 ((alive ⊛ ‵ (owns Taken a vals))
     ∷ (raw (fact 𝓤 (κs.1.0 ⊑ X.lives)) ⊛ raw (fact 𝓤 (κs.1.1.0 ⊑ Y.lives)) ⊛ raw (fact 𝓤 (size (layout Self) < 2 ^ 63)) ⊛ raw (fact 𝓤 (len ≡ length items))) ∷ []) ∵
@@ -112,14 +114,15 @@ checked_pair_spec 𝓤 𝓛 𝓜 𝓡 wired X Y LX LY g d dd met md =
     (and_then ! (get ! refl) (and_then ! (get ! refl) (and_then ! (get ! refl) (no_more !)))) (λ v.
     use1 𝓛 (later (some (λ (r : Two). (alive ⊛ ‵ ((Pair κ T).own_val r (v ∷ []))) ⊛
     some (λ (ws : Unit {0} × (Unit {0} × (Unit {0} × Unit {0}))). ‵ (lasts (Call.ended X Y g d dd) κs (a.0, (i, (j, tt))) ws)
-    ⊛ raw (fact 𝓤 (slice_get items i ≡ Some r.0.now)) ⊛ raw (fact 𝓤 (slice_get items j ≡ Some r.1.now)))))) (id⊢ 𝓤 _) $
-    await ! tt $ pick ! (λ r. split ! $ split ! $ move ! (2 ∷ []) $ pick ! (λ ws. split ! $ drop ! $ split ! $ heard ! _ (λ at_i. heard ! _ (λ at_j.
-    move ! (1 ∷ []) $ peeks ! (Pair κ T) _ (shows 𝓛 (Pair κ T)) r (v ∷ []) (λ seen.
+    ⊛ ‵ (Ends (Ok r)) ⊛ raw (fact 𝓤 (slice_get items i ≡ Some r.0.now)) ⊛ raw (fact 𝓤 (slice_get items j ≡ Some r.1.now)))))) (id⊢ 𝓤 _) $
+    await ! tt $ pick ! (λ r. split ! $ split ! $ move ! (2 ∷ []) $ pick ! (λ ws. split3 ! $ drop ! $ move ! (1 ∷ []) $ split ! $ heard ! _ (λ at_i. heard ! _ (λ at_j.
+    move ! (2 ∷ []) $ peeks ! (Pair κ T) _ (shows 𝓛 (Pair κ T)) r (v ∷ []) (λ seen.
     let told = pair_told κ T r v seen in let both = pair_val r in
     lands_as ! told refl (tt, (tt, (tt, tt))) $ rewrite ! 0 (λ (w : Val). ‵ ((Pair κ T).own_val r (w ∷ []))) told refl $
     sets ! (agg ! (and_then ! (lit ! tt) (and_then ! (get ! refl) (no_more !)))) refl (tt, (record { fits = lit< tt }, ((tt, (tt, tt)), tt))) $
     returns ! (look_at ! 0 refl) $ free_all ! refl $
     use1 𝓛 (‵ ((PairOr κ T).own_val (Ok r) (live 0 (of_list (both ∷ [])) ∷ []))) (ok_of 𝓛 (Pair κ T) ErrorType.the_row r both) $
     suffices ! _ (ends_at 𝓛 call stayed c y (live 0 (of_list (both ∷ []))) (Ok r) (tt, (tt, (tt, (tt, tt)))) (tt, (tt, (tt, (tt, tt))))) $
-    use0 𝓛 (‵ (Rests 𝓛 Self a.0 Two (Ok r))) (ends 𝓛 Self a.0 Two r) $ use0 𝓛 (‵ (let_go 4)) (gone 𝓛 4) $
-    move ! (3 ∷ 0 ∷ 2 ∷ 1 ∷ []) $ group ! 3 $ frame ! $ says ! (distinct, at_i, at_j) $ done !)))))))))))))))
+    -- [the result; what is said of the lender; the tokens]
+    use0 𝓛 (‵ (let_go 4)) (gone 𝓛 4) $
+    move ! (3 ∷ 0 ∷ 1 ∷ 2 ∷ []) $ group ! 3 $ frame ! $ says ! (distinct, at_i, at_j) $ done !)))))))))))))))

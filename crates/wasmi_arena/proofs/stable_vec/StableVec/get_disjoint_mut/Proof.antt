@@ -1,8 +1,8 @@
 -- `get_disjoint_mut` hands on what `checked_pair` lends. Assumes `Logic`.
-use Rattle.std.proofs.Common.{◌≡◌, ◌<◌, ◌^◌, List, [], ◌∷◌, length, Result, refl, sym, ap, ◌∙◌, subst, MutBor}
+use Rattle.std.proofs.Common.{◌≡◌, ◌<◌, ◌^◌, List, [], ◌∷◌, length, set, Result, refl, sym, ap, ◌∙◌, subst, MutBor}
 use Rattle.std.proofs.raw_atomic.Walks.{proved}
 use base.Logic.{id⊢, emp}
-use base.Fml.{GName, ftrue, flft}
+use base.Fml.{GName, Fml, ftrue, flft}
 use contract.BorrowLft.{◌⊑◌}
 use contract.Fact.{fact_i}
 use contract.Monad.{fact}
@@ -17,6 +17,7 @@ use types.Part.{whole, sub}
 use types.Run.{enter, addr, stop, fld, of_opd, and_then, no_more, returns}
 use denote.Builtin.{usize}
 use denote.Exit.{no, yes}
+use denote.Follow.{follows_both_if}
 use denote.Param.{layout, bounded}
 use denote.Plain.{uint_vals, uint_Tells, uint_Makes}
 use denote.Ref.{MutRef, mut_vals, mut_Tells}
@@ -30,7 +31,7 @@ use denote.Triple.Table.{framed}
 use denote.Triple.Walked.{Stays, walk_of, stay_dropped, Goes-spent_ref, Goes-dropped, ends_at}
 use Rattle.core.proofs.alloc.Calls.{Al}
 use Rattle.core.proofs.mem.Param.{El, R}
-use Rattle.wasmi_arena.specs.Pairs.{PairAnswer, AreNumbers}
+use Rattle.wasmi_arena.specs.Pairs.{PairAnswer, AreNumbers, names_if_ok, with_both}
 use Rattle.wasmi_arena.specs.declared.error.ArenaError.{ArenaError}
 use Rattle.wasmi_arena.specs.contracts.stable_vec.StableVec.get_disjoint_mut as F
 use Rattle.wasmi_arena.specs.contracts.stable_vec.StableVec.checked_pair as Call
@@ -38,7 +39,7 @@ use Rattle.wasmi_arena.proofs.stable_vec.StableVec.checked_pair.Met as Lends
 use Rattle.wasmi_arena.proofs.stable_vec.StableVec.get_disjoint_mut.Statement.{statement}
 use Rattle.wasmi_arena.proofs.stable_vec.StableVec.get_disjoint_mut.Code as code
 use Rattle.wasmi_arena.proofs.Frame.{let_go, gone}
-use Rattle.wasmi_arena.proofs.Refusals.{PairOr, pair_or_laws, Rests}
+use Rattle.wasmi_arena.proofs.Refusals.{PairOr, pair_or_laws}
 use Rattle.wasmi_arena.proofs.VecMemory.{VecRow}
 use denote.Array.{Array}
 use denote.Param.Laws.{param_laws, Laws, Told, array_told, array_laws, of_field}
@@ -48,7 +49,7 @@ use denote.Struct.Field.{usize-field}
 use denote.Struct.Laws.{usize-laws, usize-copy}
 use denote.Struct.Struct.{Struct-Tells}
 use denote.Struct.Tuple.{Tuple, tuple_type}
-use Rattle.wasmi_arena.proofs.Answered.{Items, Aliasing, Bounds, Errors, asked-items, asked-aliasing, asked-bounds, answered-errors}
+use Rattle.wasmi_arena.proofs.Answered.{Items, Aliasing, Bounds, Errors, asked-items, asked-aliasing, asked-bounds, asked-writes, answered-errors}
 use Rattle.wasmi_arena.specs.contracts.stable_vec.StableVec.asked as Asks
 use Rattle.wasmi_arena.proofs.stable_vec.StableVec.asked.Met as Asked
 
@@ -103,6 +104,7 @@ get_disjoint_mut_spec 𝓤 𝓛 𝓜 𝓡 wired X Y LX LY g d dd met md =
     fpick ! (λ vss. fsplit ! $ drop ! $ fsplit ! $ move ! (1 ∷ []) $ drop ! $ fsplit3 ! $ drop ! $ feq_i ! (List Val) (mut_vals r) (mut_vals r) refl $ fjoin3 ! $
     -- [the reference, as it came back; the tokens]
     sets ! (addr ! (through ! refl (stop !))) refl (tt, tt) $
+    let Ends : GName → List X.Denot → Result Two ArenaError → Fml = λ n xs res. follows_both_if Self T T n (names_if_ok res) (λ x y. set (set xs i x) j y) xs in
     let G₂ = triple_of 𝓛 (Call.signature X Y g d dd) (Call.spec X Y g d dd 𝓛 𝓜.mem 𝓡.returns) in
     let z₂ : G₂.Ghost = ((κs, qs, bounds, (r, (len, (i, (j, tt)))), (mut_vals r, (uint_vals w64 len, (uint_vals w64 i, (uint_vals w64 j, tt))))), tt) in
     nothing ! $ owned ! usize _ (uint_Makes 𝓛 w64) j _ (refl, fits₃) $ fjoin ! $ owned ! usize _ (uint_Makes 𝓛 w64) i _ (refl, fits₂) $ fjoin ! $
@@ -115,7 +117,7 @@ get_disjoint_mut_spec 𝓤 𝓛 𝓜 𝓡 wired X Y LX LY g d dd met md =
     (and_then ! (get ! refl) (and_then ! (get ! refl) (and_then ! (get ! refl) (and_then ! (get ! refl) (no_more !))))) (λ v.
     use1 𝓛 (later (some (λ (res : Result Two ArenaError). (alive ⊛ ‵ ((PairOr κ T).own_val res (v ∷ []))) ⊛
     some (λ (ws : Unit {0} × (Unit {0} × (Unit {0} × (Unit {0} × Unit {0})))). ‵ (lasts (Call.ended X Y g d dd) κs (r, (len, (i, (j, tt)))) ws)
-    ⊛ ‵ (Rests 𝓛 Self r Two res) ⊛ raw (fact 𝓤 (PairAnswer r.now i j res)))))) (id⊢ 𝓤 _) $
+    ⊛ ‵ (Ends r.ghost_name r.now res) ⊛ raw (fact 𝓤 (PairAnswer r.now i j res)))))) (id⊢ 𝓤 _) $
     await ! tt $ pick ! (λ res. split ! $ split ! $ move ! (2 ∷ []) $ pick ! (λ ws. split ! $ drop ! $ split ! $ move ! (1 ∷ []) $ heard ! _ (λ answered. move ! (2 ∷ []) $
     let told : PairAnswer items i j res = subst (λ (xs : List X.Denot). PairAnswer xs i j res) now_is answered in
     peeks ! (PairOr κ T) _ (shows 𝓛 (PairOr κ T)) res (v ∷ []) (λ seen'.
@@ -123,8 +125,9 @@ get_disjoint_mut_spec 𝓤 𝓛 𝓜 𝓡 wired X Y LX LY g d dd met md =
     returns ! (look_at ! 0 refl) $ free_all ! refl $
     -- [the result; what is said of the vector; the tokens]
     suffices ! _ (ends_at 𝓛 call stayed c y v res (tt, (tt, tt)) (tt, (tt, tt))) $ move ! (1 ∷ []) $
-    rewrite ! 0 (λ (n : GName). ‵ (Rests 𝓛 Self (record r { ghost_name = n }) Two res)) same refl $
-    rewrite ! 0 (λ (xs : List X.Denot). ‵ (Rests 𝓛 Self (record r { ghost_name = γ; now = xs }) Two res)) now_is refl $
+    rewrite ! 0 (λ (n : GName). ‵ (Ends n r.now res)) same refl $ rewrite ! 0 (λ (xs : List X.Denot). ‵ (Ends γ xs res)) now_is refl $
+    let is : (λ x y. set (set items i x) j y) ≡ with_both (λ k. k) items indices = λ k x y. asked-writes (λ k. k) items indices i j numbered are.1.0.1.0.1 x y k in
+    rewrite ! 0 (λ (f : X.Denot → X.Denot → List X.Denot). ‵ (follows_both_if Self T T γ (names_if_ok res) f items)) is refl $
     use0 𝓛 (raw (fact 𝓤 (Errors items i j res))) (fact_i 𝓤 _ (emp 𝓤) (answered-errors items i j res told)) $
     use0 𝓛 (raw (fact 𝓤 (Bounds (λ k. k) items indices res))) (fact_i 𝓤 _ (emp 𝓤) (asked-bounds (λ k. k) items indices i j numbered res told)) $
     use0 𝓛 (raw (fact 𝓤 (Aliasing (λ k. k) items indices res))) (fact_i 𝓤 _ (emp 𝓤) (asked-aliasing (λ k. k) items indices i j numbered res told)) $

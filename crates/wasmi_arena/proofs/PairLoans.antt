@@ -1,0 +1,22 @@
+-- How a lender ends of which a part was lent, and two of that part. Assumes `Logic`.
+use seplogic.Ra.Ura.{Ura}
+use base.Fml.{GName, fres, fsep}
+use base.Logic.{ent, sep, wand}
+use types.Follow.{followed₂}
+use types.Kit.{‵, ◌$◌, ◌∵◌, !, qed, by, move, use2, each, assume}
+use types.Logic.{Logic, sem}
+use denote.Follow.{follows, followed, follows_both, both_by}
+use denote.Memory.{mem}
+use denote.RattleType.{RattleType}
+use mathlib.Core.List.{[], ◌∷◌}
+
+module _ {M : Type 1} {𝓤 : Ura M} (𝓛 : Logic 𝓤) (R S T U : RattleType) (F : S.Denot → R.Denot) (G : T.Denot → U.Denot → S.Denot) (γ δ γ₁ γ₂ : GName) where
+  open 𝓛 use {A}
+
+  pub follows_both_then : ent 𝓤 (sep 𝓤 (sem 𝓛 (follows R S γ δ F)) (sem 𝓛 (follows_both S T U δ γ₁ γ₂ G))) (sem 𝓛 (follows_both R T U γ γ₁ γ₂ (λ x y. F (G x y))))
+  unfolding both_by
+  follows_both_then =
+      qed 𝓛 (‵ (follows R S γ δ F) ∷ ‵ (follows_both S T U δ γ₁ γ₂ G) ∷ []) ∵
+      each ! (λ (w : T.Denot × U.Denot). wand 𝓤 (sep 𝓤 (A.res γ₁ (T.coded.code w.0)) (A.res γ₂ (U.coded.code w.1))) (A.res γ (R.coded.code (F (G w.0 w.1))))) (λ w.
+      assume ! (‵ (fsep (fres γ₁ (T.coded.code w.0)) (fres γ₂ (U.coded.code w.1)))) $ move ! (0 ∷ 2 ∷ []) $
+      use2 𝓛 (‵ (fres δ (S.coded.code (G w.0 w.1)))) (followed₂ 𝓛 (mem S) (mem T) (mem U) G δ γ₁ γ₂ w.0 w.1) $ move ! (1 ∷ 0 ∷ []) $ by ! (followed 𝓛 R S F γ δ (G w.0 w.1)))
