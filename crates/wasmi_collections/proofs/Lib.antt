@@ -14,4 +14,5 @@ mod Runs
 mod Search
 mod SetRuns
 mod TextIndex
+mod TextKey
 mod WithSymbols
