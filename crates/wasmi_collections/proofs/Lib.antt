@@ -5,6 +5,7 @@ mod DedupRuns
 mod Filtered
 mod DedupTexts
 mod IndexBlocks
+mod IndexExchange
 mod IndexRing
 mod InternerRuns
 mod InternsEach

@@ -119,8 +119,12 @@ fn exchange<A: Allocator>(ring: &mut Vec<Entry, A>, from: usize, to: usize, entr
     ensures len { length (vec_items ring.new) ≡ length (vec_items ring.old) }
     ensures taken { result ≡ slice_index_or (vec_items ring.old) from result }
 {
-    let out = ring.remove(from);
-    let _put = ring.insert(to, entry);
+    let out = mem::replace(&mut ring[from], entry);
+    if to <= from {
+        ring[to..from + 1].rotate_right(1);
+    } else {
+        ring[from..to + 1].rotate_left(1);
+    }
     out
 }
 
