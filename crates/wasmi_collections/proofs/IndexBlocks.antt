@@ -111,6 +111,13 @@ pushed_out (q ∷ r ∷ rest) (suc b) p rank x out d new is before small at goes
       omega (arith, next.3, length-append q.entries others, length-append q.entries (entries_in (r ∷ rest))),
     )
 
+-- where there is room, the last block takes one more
+pub fits_last : (blocks : List (BlockState)) (b : ℕ) (d last : BlockState) → IsBlocks blocks → b + 1 ≡ length blocks → 0 < room_in blocks → last ≡ get_or blocks b d
+    → (length (entries_in blocks) ≡ b * width + length last.entries) × (length last.entries < width) × (length last.entries < last.capacity)
+fits_last blocks b d last is at_end room same =
+    let many = counted blocks b d is at_end in
+    rw same (many.0, omega (arith, many.1, room), omega (arith, many.1, room))
+
 -- an entry goes into the last block
 pub put_last : (blocks : List (BlockState)) (b p rank : ℕ) (x : Entry) (d new : BlockState) → IsBlocks blocks → b + 1 ≡ length blocks → rank ≡ b * width + p
     → p ≤ length (get_or blocks b d).entries → length (get_or blocks b d).entries < width → new.entries ≡ insert (get_or blocks b d).entries p x

@@ -9,7 +9,7 @@ use std::marker::Model;
 use std::mem;
 
 // How many entries a full block has.
-pub(super) const WIDTH: usize = 512;
+pub(super) const WIDTH: usize = 256;
 
 // Entries in a ring.
 #[derive(Drop)]
@@ -79,11 +79,7 @@ impl<A: Allocator> Block<A> {
         requires { length self.old.entries ≡ width }
         ensures { self.new.entries ++ result ∷ [] ≡ entry ∷ self.old.entries }
     {
-        let last = if self.first == 0 {
-            WIDTH - 1
-        } else {
-            self.first - 1
-        };
+        let last = (self.first + WIDTH - 1) % WIDTH;
         self.first = last;
         mem::replace(&mut self.ring[last], entry)
     }
@@ -94,9 +90,6 @@ impl<A: Allocator> Block<A> {
         requires within { place < width }
         ensures { self.new.entries ++ result ∷ [] ≡ insert self.old.entries place entry }
     {
-        if place == 0 {
-            return self.turn(entry);
-        }
         if self.first == 0 {
             return exchange(&mut self.ring, WIDTH - 1, place, entry);
         }

@@ -48,12 +48,16 @@ pub(super) fn insert<A: Allocator>(blocks: &mut Vec<Block<A>, A>, rank: usize, e
 {
     let last = blocks.len() - 1;
     let mut block = rank / WIDTH;
-    let mut place = rank % WIDTH;
-    let mut carried = entry;
+    let place = rank % WIDTH;
+    if block == last {
+        blocks[last].put(place, entry);
+        return;
+    }
+    let mut carried = blocks[block].push_out(place, entry);
+    block += 1;
     while block < last {
-        carried = blocks[block].push_out(place, carried);
-        place = 0;
+        carried = blocks[block].turn(carried);
         block += 1;
     }
-    blocks[last].put(place, carried);
+    blocks[last].put(0, carried);
 }
