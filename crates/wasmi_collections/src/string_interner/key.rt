@@ -5,19 +5,22 @@ ghost use Rattle.wasmi_collections.specs.TextKey.{IsKeyOf};
 
 use std::cmp::Ordering;
 
-// How many bytes of a text are in its key.
+// How many bytes of a text its key has.
 const BYTES: usize = 11;
 
-// The length from which on texts have one key.
+// From this length on all texts have one key.
 const LONG: usize = 255;
+
+// What a length of one adds to a head, where it stands above seven bytes.
+const ONE: u64 = 1 << 56;
 
 // The length of a text and its first bytes, as one number in two parts. Where the keys of two texts differ,
 // they compare as the texts do.
 #[derive(Copy, Clone)]
 pub(super) struct Key {
-    // The length, and seven bytes.
+    // The length and seven bytes,
     pub(super) head: u64,
-    // Four bytes more.
+    // and four bytes more.
     pub(super) tail: u32,
 }
 
@@ -30,7 +33,7 @@ impl Key {
         let len = bytes.len();
         if LONG <= len {
             return Key {
-                head: 255 * 0x100_0000_0000_0000,
+                head: LONG as u64 * ONE,
                 tail: 0,
             };
         }
@@ -39,13 +42,13 @@ impl Key {
             0, first[0], first[1], first[2], first[3], first[4], first[5], first[6],
         ]);
         Key {
-            head: len as u64 * 0x100_0000_0000_0000 + seven,
+            head: len as u64 * ONE + seven,
             tail: u32::from_be_bytes([first[7], first[8], first[9], first[10]]),
         }
     }
 
-    // How a text with this key compares with one with the other, where the keys tell: where they differ, or
-    // have all of a text.
+    // How a text with this key compares with one with the other, where the keys tell: where they differ, and
+    // where all bytes of the texts are in them.
     pub(super) fn order(&self, other: &Key) -> Option<Ordering>
         ensures { (x y : List ℕ) → IsKeyOf self.now.head self.now.tail x → IsKeyOf other.now.head other.now.tail y
             → IfSome result (λ order. order ≡ len_cmp x y) }
@@ -56,7 +59,7 @@ impl Key {
         if self.tail != other.tail {
             return Some(self.tail.cmp(&other.tail));
         }
-        if self.head < (BYTES as u64 + 1) * 0x100_0000_0000_0000 {
+        if self.head < (BYTES as u64 + 1) * ONE {
             return Some(Ordering::Equal);
         }
         None
