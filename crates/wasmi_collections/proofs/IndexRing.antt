@@ -5,17 +5,18 @@ use Rattle.std.proofs.lemmas.List.{append_assoc, append-nil, length-take-le, tak
 use Rattle.std.proofs.lemmas.List.Edits.{insert-append_left, insert-append_right, length-insert}
 use Rattle.std.proofs.Math.ListN.{drop_of_length-le}
 use Rattle.std.proofs.Math.Seq.{take-suc, take-append_seam, drop-append_seam}
+use Rattle.wasmi_collections.specs.declared.string_interner.entry.Entry.{Entry}
 use Rattle.wasmi_collections.specs.IndexBlocks.{from_first}
 
 -- two lists in a row, read from where the second begins
-seam : (xs ys : List ℕ) (n : ℕ) → length xs ≡ n → from_first (xs ++ ys) n ≡ ys ++ xs
+seam : (xs ys : List Entry) (n : ℕ) → length xs ≡ n → from_first (xs ++ ys) n ≡ ys ++ xs
 seam xs ys n long = subst (λ m. from_first (xs ++ ys) m ≡ ys ++ xs) long (λ i. drop-append_seam xs ys i ++ take-append_seam xs ys i)
 
-module _ (ring : List ℕ) (f out x : ℕ) (below : f < length ring) (taken : out ≡ get_or ring f out) where
-  kept : List ℕ
+module _ (ring : List Entry) (f : ℕ) (out x : Entry) (below : f < length ring) (taken : out ≡ get_or ring f out) where
+  kept : List Entry
   kept = take f ring
 
-  upper : List ℕ
+  upper : List Entry
   upper = drop (suc f) ring
 
   kept_long : length (take f ring) ≡ f

@@ -5,6 +5,7 @@ mod DedupRuns
 mod Filtered
 mod DedupTexts
 mod IndexBlocks
+mod IndexExchange
 mod IndexRing
 mod InternerRuns
 mod InternsEach
@@ -14,4 +15,5 @@ mod Runs
 mod Search
 mod SetRuns
 mod TextIndex
+mod TextKey
 mod WithSymbols

@@ -8,7 +8,7 @@ use Rattle.std.specs.declared.string.String.{String}
 use Rattle.std.specs.Cmp.Lexicographic.{pointwise, nat_list_eq_equiv}
 use Rattle.std.proofs.lemmas.Iterator.Adapters.{position_from-zero}
 use Rattle.std.proofs.lemmas.List.{get_or_append_left, get_or-map, get_or_push, length_push, length-append, length-map, length-replicate, take-map, drop-map, map-append}
-use Rattle.std.proofs.lemmas.List.Elements.{All-head, All-tail}
+use Rattle.std.proofs.lemmas.List.Elements.{All-append, All-cons, All-drop, All-head, All-nil, All-tail, All-take, All-weaker}
 use Rattle.std.proofs.lemmas.List.FromFn.{length-range_with_len, get_or-range_with_len}
 use Rattle.std.proofs.lemmas.List.Quantifiers.{position-Some}
 use Rattle.std.proofs.lemmas.List.Sorted.{IsPermutation-refl, IsPermutation-cons, IsPermutation-to_front, IsPermutation-insert, IsPermutation-trans, length_permutation, All-permutation, Contains-permutation}
@@ -20,10 +20,12 @@ use Rattle.wasmi_collections.specs.Interner.{symbol_of, AreDistinctTexts}
 use Rattle.wasmi_collections.specs.LenOrder.{len_cmp}
 use Rattle.wasmi_collections.specs.LenOrderLaws.{len_cmp_total, len_cmp-Equal}
 use Rattle.wasmi_collections.specs.Search.{IsSearchable}
-use Rattle.wasmi_collections.specs.TextIndex.{IsIndexOf, texts_of, orders_with}
+use Rattle.wasmi_collections.specs.TextIndex.{AreEntriesOf, IsEntryOf, IsIndexOf, symbols_of, texts_of, orders_with}
+use Rattle.wasmi_collections.specs.TextKey.{IsKeyOf}
+use Rattle.wasmi_collections.specs.declared.string_interner.entry.Entry.{Entry}
 
 -- y is greater than x where x is less
-turned : (x y : List ℕ) → len_cmp x y ≡ Less → len_cmp y x ≡ Greater
+pub turned : (x y : List ℕ) → len_cmp x y ≡ Less → len_cmp y x ≡ Greater
 turned x y less = len_cmp_total.antisymm y x ∙ ap ordering_reverse less
 
 turned_back : (x y : List ℕ) → len_cmp x y ≡ Greater → len_cmp y x ≡ Less
@@ -163,7 +165,7 @@ range_push a zero = ap (λ (m : ℕ). m ∷ []) (omega arith)
 range_push a (suc n) = ap (λ (ms : List ℕ). a ∷ ms) (range_push (a + 1) n ∙ ap (λ m. range_with_len (a + 1) n ++ m ∷ []) (omega arith))
 
 -- the symbol of a rank tells how the text there compares
-pub order_at : (text : List ℕ) (texts : List (List ℕ)) (symbols : List ℕ) (rank s : ℕ) → slice_get symbols rank ≡ Some s → slice_get (orders_with text (texts_of texts symbols)) rank ≡ Some (len_cmp (get_or texts s []) text)
+order_at : (text : List ℕ) (texts : List (List ℕ)) (symbols : List ℕ) (rank s : ℕ) → slice_get symbols rank ≡ Some s → slice_get (orders_with text (texts_of texts symbols)) rank ≡ Some (len_cmp (get_or texts s []) text)
 order_at text texts symbols rank s at =
     slice_get-map (λ other. len_cmp other text) (texts_of texts symbols) rank
     ∙ ap (option_map (λ other. len_cmp other text)) (slice_get-map (λ symbol. get_or texts symbol []) symbols rank ∙ ap (option_map (λ symbol. get_or texts symbol [])) at)
@@ -194,7 +196,7 @@ module _ (texts : List (List ℕ)) (symbols : List ℕ) (is : IsIndexOf texts sy
   pub length-symbols : length symbols ≡ length texts
   length-symbols = length_permutation (range_with_len 0 (length texts)) symbols is.complete ∙ length-range_with_len 0 (length texts)
 
-  pub symbols_within : All (λ s. s < length texts) symbols
+  symbols_within : All (λ s. s < length texts) symbols
   symbols_within = All-permutation (λ s. s < length texts) (range_with_len 0 (length texts)) symbols is.complete (below_range (length texts))
 
   -- where a search finds a text, its symbol stands
@@ -249,7 +251,7 @@ module _ (text : List ℕ) where
       map-append read (take rank symbols) (s ∷ drop rank symbols) ∙ (λ i. sym (take-map read rank symbols) i ++ read s ∷ sym (drop-map read rank symbols) i)
 
   module _ (texts : List (List ℕ)) (symbols : List ℕ) (is : IsIndexOf texts symbols) where
-    pub IsIndexOf-insert : (less greater : ℕ) → orders_with text (texts_of texts symbols) ≡ replicate less Less ++ replicate greater Greater → IsIndexOf (texts ++ text ∷ []) (insert symbols less (length texts))
+    IsIndexOf-insert : (less greater : ℕ) → orders_with text (texts_of texts symbols) ≡ replicate less Less ++ replicate greater Greater → IsIndexOf (texts ++ text ∷ []) (insert symbols less (length texts))
     IsIndexOf-insert less greater orders =
         let n = length texts in
         let range = range_with_len 0 n in
@@ -264,9 +266,49 @@ module _ (text : List ℕ) where
               ascending_insert less greater (texts_of texts symbols) orders is.ascending);
         }
 
-pub IsIndexOf-nil : IsIndexOf [] []
+-- ---- the entries
+
+pub symbol_at : (entries : List Entry) (rank : ℕ) (entry : Entry) → slice_get entries rank ≡ Some entry → slice_get (symbols_of entries) rank ≡ Some entry.symbol
+symbol_at entries rank entry at = slice_get-map (λ e. e.symbol) entries rank ∙ ap (option_map (λ e. e.symbol)) at
+
+module _ (text : List ℕ) (texts : List (List ℕ)) (entries : List Entry) where
+  -- the entry of a rank tells how the text there compares
+  pub entry_order : (rank : ℕ) (entry : Entry) → slice_get entries rank ≡ Some entry → slice_get (orders_with text (texts_of texts (symbols_of entries))) rank ≡ Some (len_cmp (get_or texts entry.symbol []) text)
+  entry_order rank entry at = order_at text texts (symbols_of entries) rank entry.symbol (symbol_at entries rank entry at)
+
+  -- what holds of each entry holds of that of a rank
+  pub entry_of_rank : All (IsEntryOf texts) entries → (rank : ℕ) (entry : Entry) → slice_get entries rank ≡ Some entry → IsEntryOf texts entry
+  entry_of_rank each rank entry at = subst (IsEntryOf texts) (get_or_from_slice_get entries rank entry entry at) (each rank entry (slice_get_within entries rank entry at))
+
+  longer : (e : Entry) → IsEntryOf texts e → IsEntryOf (texts ++ text ∷ []) e
+  longer e is = record {
+    within = omega (arith, is.within, length_push texts text);
+    key = rw (get_or_append_left texts (text ∷ []) [] e.symbol is.within) is.key;
+  }
+
+  symbols_of-insert : (rank : ℕ) (entry : Entry) → symbols_of (insert entries rank entry) ≡ insert (symbols_of entries) rank entry.symbol
+  symbols_of-insert rank entry =
+      let read : Entry → ℕ = λ e. e.symbol in
+      map-append read (take rank entries) (entry ∷ drop rank entries) ∙ (λ i. sym (take-map read rank entries) i ++ read entry ∷ sym (drop-map read rank entries) i)
+
+  -- the entry of a new text goes where a search ends
+  pub AreEntriesOf-insert : AreEntriesOf texts entries → (less greater : ℕ) → orders_with text (texts_of texts (symbols_of entries)) ≡ replicate less Less ++ replicate greater Greater
+      → (entry : Entry) → entry.symbol ≡ length texts → IsKeyOf entry.head entry.tail text → AreEntriesOf (texts ++ text ∷ []) (insert entries less entry)
+  AreEntriesOf-insert is less greater orders entry last key =
+      let now = IsEntryOf (texts ++ text ∷ []) in
+      let here : now entry = record { within = omega (arith, last, length_push texts text); key = rw (get_or_push texts text [] entry.symbol (sym last)) key } in
+      let all = All-weaker (IsEntryOf texts) now longer entries is.each in
+      record {
+        index = rw (symbols_of-insert less entry, last) (IsIndexOf-insert text texts (symbols_of entries) is.index less greater orders);
+        each = All-append now (take less entries) (entry ∷ drop less entries) (All-take now less entries all) (All-cons now entry (drop less entries) here (All-drop now less entries all));
+      }
+
+IsIndexOf-nil : IsIndexOf [] []
 unfolding IsStrictlySortedBy
 IsIndexOf-nil = record { complete = IsPermutation-refl []; ascending = tt }
+
+pub AreEntriesOf-nil : AreEntriesOf [] []
+AreEntriesOf-nil = record { index = IsIndexOf-nil; each = All-nil (IsEntryOf []) }
 
 pub AreDistinctTexts-nil : AreDistinctTexts []
 unfolding IsDistinct

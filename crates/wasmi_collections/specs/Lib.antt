@@ -17,3 +17,4 @@ pub mod Search
 pub mod SetCalls
 pub mod SetSteps
 pub mod TextIndex
+pub mod TextKey

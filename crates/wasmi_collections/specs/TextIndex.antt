@@ -1,14 +1,20 @@
 -- The index of an interner: the symbols in the length order of their texts.
-use Rattle.std.specs.Prelude.{ℕ, List, [], length, map, slice_index_or, IsPermutation}
-use Rattle.std.specs.List.{range_with_len}
+use Rattle.std.specs.Prelude.{ℕ, ◌<◌, List, [], length, map, slice_index_or, IsPermutation}
+use Rattle.std.specs.List.{All, range_with_len}
 use Rattle.std.specs.List.Sorted.{IsStrictlySortedBy}
 use Rattle.std.specs.declared.cmp.Ordering.{Ordering}
 use Rattle.wasmi_collections.specs.LenOrder.{len_cmp}
+use Rattle.wasmi_collections.specs.TextKey.{IsKeyOf}
+use Rattle.wasmi_collections.specs.declared.string_interner.entry.Entry.{Entry}
 
--- the symbols by rank, and for how many more there is room
+-- the entries by rank, and for how many more there is room
 pub record Ranked : Type 0 where
-  pub symbols : List ℕ
+  pub entries : List Entry
   pub room : ℕ
+
+-- the symbols of entries
+abbrev pub symbols_of : List Entry → List ℕ
+symbols_of entries = map (λ entry. entry.symbol) entries
 
 -- the texts of these symbols
 abbrev pub texts_of : List (List ℕ) → List ℕ → List (List ℕ)
@@ -18,6 +24,16 @@ texts_of texts symbols = map (λ symbol. slice_index_or texts symbol []) symbols
 pub record IsIndexOf (texts : List (List ℕ)) (symbols : List ℕ) : Type 0 where
   pub complete : IsPermutation (range_with_len 0 (length texts)) symbols
   pub ascending : IsStrictlySortedBy len_cmp (texts_of texts symbols)
+
+-- an entry of an index of these texts: the symbol of one beside its key
+pub record IsEntryOf (texts : List (List ℕ)) (entry : Entry) : Type 0 where
+  pub within : entry.symbol < length texts
+  pub key : IsKeyOf entry.head entry.tail (slice_index_or texts entry.symbol [])
+
+-- the entries of an index of these texts
+pub record AreEntriesOf (texts : List (List ℕ)) (entries : List Entry) : Type 0 where
+  pub index : IsIndexOf texts (symbols_of entries)
+  pub each : All (IsEntryOf texts) entries
 
 -- how each of these texts compares with another
 abbrev pub orders_with : List ℕ → List (List ℕ) → List Ordering

@@ -11,16 +11,20 @@ ghost use Rattle.wasmi_collections.specs.BinaryDigits.{digits};
 ghost use Rattle.wasmi_collections.specs.Interner.{symbol_of, with_symbols, AreDistinctTexts, Interning, InternsAll, InternsUntilRefused};
 ghost use Rattle.wasmi_collections.specs.LenOrderLaws.{texts_per};
 
+mod entry;
 mod find;
 mod index;
 mod iter;
+mod key;
 mod len_order;
 mod probe;
 mod steps;
 
+use entry::Entry;
 use find::find;
 use index::Index;
 pub use iter::Iter;
+use key::Key;
 pub use len_order::LenOrder;
 pub use probe::{Probe, search};
 use std::alloc::{Allocator, Global};
@@ -135,14 +139,14 @@ pub struct StringInterner<A: Allocator = Global> {
 impl<A: Allocator> Model for StringInterner<A> {
     ghost use Rattle.std.specs.Prelude.{◌≤◌, ◌^◌, ℕ, List, length, map, string_bytes};
     ghost use Rattle.wasmi_collections.specs.Interner.{AreDistinctTexts};
-    ghost use Rattle.wasmi_collections.specs.TextIndex.{IsIndexOf};
+    ghost use Rattle.wasmi_collections.specs.TextIndex.{AreEntriesOf};
 
     ghost Value = { List (List ℕ) };
 
     ghost view = { λ interner. map string_bytes interner.texts.items };
 
     ghost invariant = { λ interner. AreDistinctTexts (map string_bytes interner.texts.items)
-        × IsIndexOf (map string_bytes interner.texts.items) interner.index.symbols
+        × AreEntriesOf (map string_bytes interner.texts.items) interner.index.entries
         × (length interner.texts.items ≤ 2 ^ 32) };
 }
 
@@ -213,7 +217,7 @@ impl<A: Allocator> StringInterner<A> {
         ensures many_steps { symbol_of self.now text.now ≡ None
             → steps.old + digits (length self.now + 1) ≤ steps.new + 1 }
     {
-        find(&self.index, &self.texts, text, steps).ok()
+        find(&self.index, &self.texts, text, Key::of(text), steps).ok()
     }
 
     /// The symbol of a text. A text that isn't there is copied, and its symbol is the number of texts
@@ -222,7 +226,7 @@ impl<A: Allocator> StringInterner<A> {
     /// For a text that is there nothing is copied or allocated, and it isn't refused. For a new one it
     /// fails with `NotEnoughKeys` if there are 2^32 texts, and then with `OutOfSystemMemory` if there is
     /// no memory for it, or the clone of the allocator fails. After an error the interner is as before.
-    /// A binary search, and for a new text also a step for each 1,024 texts.
+    /// A binary search, and for a new text also a step for each 256 texts.
     #[inline]
     pub fn get_or_intern(&mut self, text: &str) -> Result<Sym, ArenaError>
     where
@@ -256,7 +260,8 @@ impl<A: Allocator> StringInterner<A> {
         A: Clone,
         ensures { Interning self.old text.now result self.new }
     {
-        let rank = match find(&self.index, &self.texts, text, &mut Steps::new()) {
+        let key = Key::of(text);
+        let rank = match find(&self.index, &self.texts, text, key, &mut Steps::new()) {
             Ok(symbol) => return Ok(symbol),
             Err(rank) => rank,
         };
@@ -267,7 +272,7 @@ impl<A: Allocator> StringInterner<A> {
         self.index.reserve()?;
         self.texts.reserve(1)?;
         let copy = String::from_str(self.texts.allocator().clone()?, text)?;
-        self.index.insert(rank, symbol);
+        self.index.insert(rank, Entry::new(key, symbol));
         self.texts.push_reserved(copy);
         Ok(symbol)
     }

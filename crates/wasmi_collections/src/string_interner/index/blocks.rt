@@ -1,17 +1,17 @@
-//! Symbols by rank in blocks of one width.
+//! Entrybols by rank in blocks of one width.
 ghost use Rattle.std.specs.Prelude.{◌≡◌, ◌<◌, ◌≤◌, length, OnOk, vec_items};
 ghost use Rattle.std.specs.List.{insert as insert_at};
-ghost use Rattle.wasmi_collections.specs.IndexBlocks.{IsBlocks, symbols_in, places_in, room_in};
+ghost use Rattle.wasmi_collections.specs.IndexBlocks.{IsBlocks, entries_in, places_in, room_in};
 
 use super::block::{Block, WIDTH};
-use crate::string_interner::Sym;
+use crate::string_interner::entry::Entry;
 use std::alloc::{AllocError, Allocator};
 
-// Makes room for one more symbol.
+// Makes room for one more entry.
 pub(super) fn reserve<A: Allocator + Clone>(blocks: &mut Vec<Block<A>, A>) -> Result<(), AllocError>
     requires { IsBlocks (vec_items blocks.old) }
     ensures blocks { IsBlocks (vec_items blocks.new) }
-    ensures symbols { symbols_in (vec_items blocks.new) ≡ symbols_in (vec_items blocks.old) }
+    ensures entries { entries_in (vec_items blocks.new) ≡ entries_in (vec_items blocks.old) }
     ensures ok { OnOk result (0 < room_in (vec_items blocks.new)) }
 {
     open_block(blocks)?;
@@ -23,7 +23,7 @@ pub(super) fn reserve<A: Allocator + Clone>(blocks: &mut Vec<Block<A>, A>) -> Re
 fn open_block<A: Allocator + Clone>(blocks: &mut Vec<Block<A>, A>) -> Result<(), AllocError>
     requires { IsBlocks (vec_items blocks.old) }
     ensures blocks { IsBlocks (vec_items blocks.new) }
-    ensures symbols { symbols_in (vec_items blocks.new) ≡ symbols_in (vec_items blocks.old) }
+    ensures entries { entries_in (vec_items blocks.new) ≡ entries_in (vec_items blocks.old) }
     ensures ok { OnOk result (0 < places_in (vec_items blocks.new)) }
 {
     let len = blocks.len();
@@ -36,24 +36,28 @@ fn open_block<A: Allocator + Clone>(blocks: &mut Vec<Block<A>, A>) -> Result<(),
     Ok(())
 }
 
-// Puts a symbol at a rank. There is room. What a full block then has too many goes to the front of the
+// Puts an entry at a rank. There is room. What a full block then has too many goes to the front of the
 // next.
-pub(super) fn insert<A: Allocator>(blocks: &mut Vec<Block<A>, A>, rank: usize, symbol: Sym)
+pub(super) fn insert<A: Allocator>(blocks: &mut Vec<Block<A>, A>, rank: usize, entry: Entry)
     requires blocks { IsBlocks (vec_items blocks.old) }
-    requires within { rank ≤ length (symbols_in (vec_items blocks.old)) }
+    requires within { rank ≤ length (entries_in (vec_items blocks.old)) }
     requires room { 0 < room_in (vec_items blocks.old) }
     ensures blocks { IsBlocks (vec_items blocks.new) }
-    ensures symbols { symbols_in (vec_items blocks.new)
-        ≡ insert_at (symbols_in (vec_items blocks.old)) rank symbol }
+    ensures entries { entries_in (vec_items blocks.new)
+        ≡ insert_at (entries_in (vec_items blocks.old)) rank entry }
 {
     let last = blocks.len() - 1;
     let mut block = rank / WIDTH;
-    let mut place = rank % WIDTH;
-    let mut carried = symbol;
+    let place = rank % WIDTH;
+    if block == last {
+        blocks[last].put(place, entry);
+        return;
+    }
+    let mut carried = blocks[block].push_out(place, entry);
+    block += 1;
     while block < last {
-        carried = blocks[block].push_out(place, carried);
-        place = 0;
+        carried = blocks[block].turn(carried);
         block += 1;
     }
-    blocks[last].put(place, carried);
+    blocks[last].put(0, carried);
 }

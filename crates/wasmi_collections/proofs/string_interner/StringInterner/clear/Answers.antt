@@ -1,6 +1,6 @@
 use Rattle.std.proofs.Common.{arith}
-use Rattle.wasmi_collections.proofs.TextIndex.{AreDistinctTexts-nil, IsIndexOf-nil}
+use Rattle.wasmi_collections.proofs.TextIndex.{AreDistinctTexts-nil, AreEntriesOf-nil}
 use Rattle.wasmi_collections.proofs.string_interner.StringInterner.clear.Goals as goal
 
 pub invariant_of-self : goal.invariant_of-self
-invariant_of-self g c = rw (c.clear.ensures.items, c.clear-2.ensures) (AreDistinctTexts-nil, IsIndexOf-nil, omega arith)
+invariant_of-self g c = rw (c.clear.ensures.items, c.clear-2.ensures) (AreDistinctTexts-nil, AreEntriesOf-nil, omega arith)

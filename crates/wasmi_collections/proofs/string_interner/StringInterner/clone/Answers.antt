@@ -9,7 +9,7 @@ invariant_of-result g c =
     let clones = c.in_ok-clone.field-0.items in
     let texts = bytes_of_clones items clones c.in_ok-clone.ensures.cases.0 in
     let lengths = ap length texts in
-    rw (texts, c.in_ok-clone-2.ensures.symbols) (
+    rw (texts, c.in_ok-clone-2.ensures.entries) (
       c.self.invariant.0,
       c.self.invariant.1,
       omega (arith, c.self.invariant.2, lengths, length-map items (string_bytes {Z = g.row.A.Denot}), length-map clones (string_bytes {Z = g.row.A.Denot})),

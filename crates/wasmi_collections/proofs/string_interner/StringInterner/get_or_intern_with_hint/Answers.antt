@@ -12,10 +12,11 @@ invariant_of-self-2 g c =
     ∙ (map-append string_bytes before (c.in_ok-copy.copy ∷ []) ∙ (λ i. map string_bytes before ++ c.in_ok-copy.ensures.ok i ∷ [])) in
     let small = c.in-Ok-try_from.ensures in
     let number : c.from_u32-symbol.result ≡ length before = omega (arith, c.from_u32-symbol.ensures, small.1, c.len.ensures) in
-    let symbols : c.insert.new.self.symbols ≡ insert c.self.inside.index.symbols c.in-Err.rank (length before) =
-    c.insert.ensures ∙ (λ i. insert (c.in_ok-reserve.ensures.symbols i) c.in-Err.rank (number i)) in
-    rw (texts, symbols) (
+    let entry = c.new-2.result in
+    let entries : c.insert.new.self.entries ≡ insert c.self.inside.index.entries c.in-Err.rank entry =
+    c.insert.ensures ∙ (λ i. insert (c.in_ok-reserve.ensures.entries i) c.in-Err.rank entry) in
+    rw (texts, entries) (
       AreDistinctTexts-push c.args.text.now (map string_bytes before) c.self.invariant.0 c.in-Err.ensures.absent,
-      ranks.1,
+      ranks.1 entry (c.new-2.ensures.symbol ∙ number) (rw (c.new-2.ensures.head, c.new-2.ensures.tail) c.of-key.ensures),
       rw items (omega (arith, length_push before c.in_ok-copy.copy, small.0, c.len.ensures)),
     )

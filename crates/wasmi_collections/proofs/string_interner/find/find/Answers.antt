@@ -1,36 +1,43 @@
-use Rattle.std.proofs.Common.{map, string_bytes, arith}
+use Rattle.std.proofs.Common.{map, string_bytes, arith, sym, ◌∙◌}
 use Rattle.std.proofs.lemmas.List.{length-map}
-use Rattle.wasmi_collections.proofs.TextIndex.{IsSearchable-texts, IsIndexOf-insert, found_nowhere, found_symbol, length-orders, length-symbols, place_within, rank_within, symbol_of-at, symbol_of-nowhere, symbols_within}
+use Rattle.wasmi_collections.specs.TextIndex.{symbols_of}
+use Rattle.wasmi_collections.proofs.TextIndex.{AreEntriesOf-insert, IsSearchable-texts, found_nowhere, found_symbol, length-orders, length-symbols, place_within, rank_within, symbol_at, symbol_of-at, symbol_of-nowhere}
 use Rattle.wasmi_collections.proofs.string_interner.find.find.Goals as goal
 
 pub invariant_of-probe : goal.invariant_of-probe
-invariant_of-probe g c =
-    let within = symbols_within _ c.args.index.now.symbols c.requires.indexed in
-    record { within = λ k d h. omega (arith, within k d h, length-map c.args.texts.now.items (string_bytes {Z = g.row.A.Denot})) }
+invariant_of-probe g c = record { keyed = c.requires.keyed; entries = c.requires.indexed.each }
 
 pub search-found-requires-clause-whole : goal.search-found-requires-clause-whole
 search-found-requires-clause-whole g c =
-    omega (arith, c.len.ensures, length-orders c.args.text.now (map (string_bytes {Z = g.row.A.Denot}) c.args.texts.now.items) c.args.index.now.symbols, length-symbols (map (string_bytes {Z = g.row.A.Denot}) c.args.texts.now.items) c.args.index.now.symbols c.requires.indexed, length-map c.args.texts.now.items (string_bytes {Z = g.row.A.Denot}))
+    let texts = map (string_bytes {Z = g.row.A.Denot}) c.args.texts.now.items in let symbols = symbols_of c.args.index.now.entries in
+    omega (arith, c.len.ensures, length-orders c.args.text.now texts symbols, length-symbols texts symbols c.requires.indexed.index, length-map c.args.texts.now.items (string_bytes {Z = g.row.A.Denot}))
 
 pub search-found-requires-clause-in_order : goal.search-found-requires-clause-in_order
-search-found-requires-clause-in_order g c = IsSearchable-texts c.args.text.now _ c.requires.indexed.ascending
+search-found-requires-clause-in_order g c = IsSearchable-texts c.args.text.now _ c.requires.indexed.index.ascending
 
 pub at-requires : goal.at-requires
-at-requires g c = place_within c.args.text.now _ c.args.index.now.symbols c.in-Ok.rank _ c.in-Ok.ensures.found
+at-requires g c =
+    let within = place_within c.args.text.now _ (symbols_of c.args.index.now.entries) c.in-Ok.rank _ c.in-Ok.ensures.found in
+    omega (arith, within, length-map c.args.index.now.entries (λ e. e.symbol))
 
 pub returns-in-Ok-clause-there : goal.returns-in-Ok-clause-there
 returns-in-Ok-clause-there g c =
-    symbol_of-at c.args.text.now _ c.at.result c.requires.distinct (
-    found_symbol _ c.args.index.now.symbols c.requires.indexed c.args.text.now c.in-Ok.rank c.at.result c.in-Ok.ensures.found c.at.ensures)
+    let entries = c.args.index.now.entries in
+    rw (c.symbol.ensures) (
+    symbol_of-at c.args.text.now _ c.at.result.symbol c.requires.distinct (
+    found_symbol _ (symbols_of entries) c.requires.indexed.index c.args.text.now c.in-Ok.rank c.at.result.symbol c.in-Ok.ensures.found (symbol_at entries c.in-Ok.rank c.at.result c.at.ensures)))
 
 pub returns-in-Err-clause-absent : goal.returns-in-Err-clause-absent
 returns-in-Err-clause-absent g c =
     symbol_of-nowhere c.args.text.now _ (
-    found_nowhere _ c.args.index.now.symbols c.requires.indexed c.args.text.now c.in-Err.rank c.in-Err.ensures.found.0 c.in-Err.ensures.found.1)
+    found_nowhere _ (symbols_of c.args.index.now.entries) c.requires.indexed.index c.args.text.now c.in-Err.rank c.in-Err.ensures.found.0 c.in-Err.ensures.found.1)
 
 pub returns-in-Err-clause-rank : goal.returns-in-Err-clause-rank
-returns-in-Err-clause-rank g c = (
-  rank_within c.args.text.now _ c.args.index.now.symbols c.in-Err.rank c.in-Err.ensures.found.0 c.in-Err.ensures.found.1,
-  rw (← length-map c.args.texts.now.items (string_bytes {Z = g.row.A.Denot})) (
-      IsIndexOf-insert c.args.text.now _ c.args.index.now.symbols c.requires.indexed c.in-Err.rank c.in-Err.ensures.found.0 c.in-Err.ensures.found.1),
-)
+returns-in-Err-clause-rank g c =
+    let entries = c.args.index.now.entries in let texts = map (string_bytes {Z = g.row.A.Denot}) c.args.texts.now.items in
+    let many = c.in-Err.ensures.found in
+    let within = rank_within c.args.text.now texts (symbols_of entries) c.in-Err.rank many.0 many.1 in (
+      omega (arith, within, length-map entries (λ e. e.symbol)),
+      λ entry last key. AreEntriesOf-insert c.args.text.now texts entries c.requires.indexed c.in-Err.rank many.0 many.1 entry
+          (last ∙ sym (length-map c.args.texts.now.items (string_bytes {Z = g.row.A.Denot}))) key,
+    )

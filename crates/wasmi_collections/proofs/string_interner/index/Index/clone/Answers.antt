@@ -6,5 +6,5 @@ use Rattle.wasmi_collections.proofs.string_interner.index.Index.clone.Goals as g
 pub invariant_of-result : goal.invariant_of-result
 invariant_of-result g c = (cloned (vec_items c.self.inside.blocks) (vec_items c.in_ok-clone.field-0) c.in_ok-clone.ensures.cases.0 c.self.invariant).0
 
-pub returns-clause-symbols : goal.returns-clause-symbols
-returns-clause-symbols g c = (cloned (vec_items c.self.inside.blocks) (vec_items c.in_ok-clone.field-0) c.in_ok-clone.ensures.cases.0 c.self.invariant).1 ∙ ap (λ (s : Ranked). s.symbols) c.self.view_is
+pub returns-clause-entries : goal.returns-clause-entries
+returns-clause-entries g c = (cloned (vec_items c.self.inside.blocks) (vec_items c.in_ok-clone.field-0) c.in_ok-clone.ensures.cases.0 c.self.invariant).1 ∙ ap (λ (s : Ranked). s.entries) c.self.view_is

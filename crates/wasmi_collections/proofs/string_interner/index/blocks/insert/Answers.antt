@@ -1,82 +1,95 @@
-use Rattle.std.proofs.Common.{suc, ◌≡◌, ◌<◌, ◌+◌, ◌-◌, ◌*◌, ◌/◌, ◌%◌, ◌∙◌, ap, arith, length, slice_set, vec_items}
+use Rattle.std.proofs.Common.{suc, ◌≡◌, ◌<◌, ◌+◌, ◌-◌, ◌*◌, ◌/◌, ◌%◌, ◌∙◌, sym, ap, arith, length, slice_set, vec_items}
 use Rattle.std.specs.List.{insert}
 use Rattle.std.proofs.lemmas.List.{length-set}
-use Rattle.wasmi_collections.specs.IndexBlocks.{IsBlocks, symbols_in, width}
-use Rattle.wasmi_collections.proofs.IndexBlocks.{has_room, counted, full, pushed_out, put_last}
+use Rattle.wasmi_collections.specs.IndexBlocks.{entries_in, width}
+use Rattle.wasmi_collections.proofs.IndexBlocks.{has_room, fits_last, full, pushed_out, put_last}
 use Rattle.wasmi_collections.proofs.string_interner.index.blocks.insert.Goals as goal
+
+-- ---- where the rank is in the last block
+
+pub put-requires : goal.put-requires
+put-requires g c =
+    let blocks = vec_items c.args.blocks.now in let last = c.len-last.result - 1 in let block = c.index_mut.result.now in
+    let is_last : last + 1 ≡ length blocks = omega (arith, has_room blocks c.requires.blocks c.requires.room, c.len-last.ensures, c.args.blocks.now.ok) in
+    let fits = fits_last blocks last block block c.requires.blocks is_last c.requires.room c.index_mut.ensures.value in
+    record { within = omega (arith, fits.0, c.requires.within, c.if-block-last.true); free = fits.1; room = fits.2 }
+
+pub returns-then-block-last : goal.returns-then-block-last
+returns-then-block-last g c =
+    let blocks = vec_items c.args.blocks.now in let last = c.len-last.result - 1 in let block = c.index_mut.result.now in let place = c.args.rank % width in
+    let is_last : last + 1 ≡ length blocks = omega (arith, has_room blocks c.requires.blocks c.requires.room, c.len-last.ensures, c.args.blocks.now.ok) in
+    let at : c.args.rank ≡ last * width + place = omega (arith, c.if-block-last.true) in
+    let fits = fits_last blocks last block block c.requires.blocks is_last c.requires.room c.index_mut.ensures.value in
+    let long = ap (λ b. length b.entries) c.index_mut.ensures.value in
+    let next = put_last blocks last place c.args.rank c.args.entry block c.put.new.self c.requires.blocks is_last at (omega (arith, long, at, fits.0, c.requires.within)) (omega (arith, long, fits.1))
+    (c.put.ensures ∙ ap (λ b. insert b.entries place c.args.entry) c.index_mut.ensures.value) in
+    record { blocks = next.0; entries = next.1 }
+
+-- ---- where it is in another
+
+pub index_mut-requires-2 : goal.index_mut-requires-2
+index_mut-requires-2 g c =
+    omega (arith, has_room (vec_items c.args.blocks.now) c.requires.blocks c.requires.room, c.requires.within, c.if-block-last.false, c.len-last.ensures, c.args.blocks.now.ok)
+
+pub push_out-carried-requires-clause-full : goal.push_out-carried-requires-clause-full
+push_out-carried-requires-clause-full g c =
+    let blocks = vec_items c.args.blocks.now in
+    let before : c.args.rank / width + 1 < length blocks = omega (arith, has_room blocks c.requires.blocks c.requires.room, c.requires.within, c.if-block-last.false, c.len-last.ensures, c.args.blocks.now.ok) in
+    ap (λ b. length b.entries) c.index_mut-2.ensures.value ∙ (full blocks (c.args.rank / width) c.index_mut-2.result.now c.requires.blocks before).0
 
 pub loop-block-init : goal.loop-block-init
 loop-block-init g c =
-    let blocks = vec_items c.args.blocks.now in let rank = c.args.rank in
-    let some = has_room blocks c.requires.blocks c.requires.room in
-    let parts : rank / width * width + rank % width ≡ rank = omega arith in
+    let blocks = vec_items c.args.blocks.now in let rank = c.args.rank in let block = rank / width in let place = rank % width in
+    let out = c.push_out-carried.result in let new = c.push_out-carried.new.self in
+    let before : block + 1 < length blocks = omega (arith, has_room blocks c.requires.blocks c.requires.room, c.requires.within, c.if-block-last.false, c.len-last.ensures, c.args.blocks.now.ok) in
+    let goes = c.push_out-carried.ensures ∙ ap (λ b. insert b.entries place c.args.entry) c.index_mut-2.ensures.value in
+    let next = pushed_out blocks block place rank c.args.entry out c.index_mut-2.result.now new c.requires.blocks before (omega arith) (omega arith) goes in
+    let on : (block + 1) * width ≡ suc block * width = omega arith in
     record {
-      blocks = c.requires.blocks;
-      last = omega (arith, some.0, c.len-last.ensures, c.args.blocks.now.ok);
-      block = omega (arith, some, c.requires.within, c.len-last.ensures, c.args.blocks.now.ok);
-      place = omega arith;
-      within = omega (arith, parts, c.requires.within);
-      room = c.requires.room;
-      same = ap (λ k. insert (symbols_in blocks) k c.args.symbol) parts;
+      blocks = next.0;
+      last = omega (arith, before, c.len-last.ensures, c.args.blocks.now.ok, length-set blocks block new);
+      block = omega (arith, before, c.len-last.ensures, c.args.blocks.now.ok);
+      room = omega (arith, next.1, c.requires.room);
+      same = ap (λ k. insert (entries_in (slice_set blocks block new)) k out) on ∙ next.2;
     }
 
-pub push_out-carried-requires : goal.push_out-carried-requires
-push_out-carried-requires g c =
-    let now = c.loop-block in let block = c.index_mut.result.now in
-    let long = full (vec_items now.blocks) now.block block now.invariant.blocks (omega (arith, now.invariant.last, c.loop-block-test.true)) in
-    record { full = ap (λ b. length b.symbols) c.index_mut.ensures.value ∙ long.0; within = now.invariant.place }
+pub turn-carried-requires : goal.turn-carried-requires
+turn-carried-requires g c =
+    let now = c.loop-block in let blocks = vec_items now.blocks in
+    ap (λ b. length b.entries) c.index_mut-in-loop-block.ensures.value
+    ∙ (full blocks now.block c.index_mut-in-loop-block.result.now now.invariant.blocks (omega (arith, now.invariant.last, c.loop-block-test.true))).0
 
 pub loop-block-preserved : goal.loop-block-preserved
 loop-block-preserved g c =
-    let now = c.loop-block in let block = c.index_mut.result.now in let blocks = vec_items now.blocks in
-    let rank = now.block * width + now.place in let out = c.push_out-carried.result in let new = c.push_out-carried.new.self in
-    let goes = c.push_out-carried.ensures ∙ ap (λ b. insert b.symbols now.place now.carried) c.index_mut.ensures.value in
-    let before : now.block + 1 < length blocks = omega (arith, now.invariant.last, c.loop-block-test.true) in
-    let next = pushed_out blocks now.block now.place rank now.carried out block new now.invariant.blocks before now.invariant.place (omega arith) goes in
-    let front : (now.block + 1) * width + 0 ≡ suc now.block * width = omega arith in
-    let long = full blocks now.block block now.invariant.blocks before in
+    let now = c.loop-block in let blocks = vec_items now.blocks in let block = now.block in
+    let out = c.turn-carried.result in let new = c.turn-carried.new.self in
+    let before : block + 1 < length blocks = omega (arith, now.invariant.last, c.loop-block-test.true) in
+    let goes = c.turn-carried.ensures ∙ ap (λ b. insert b.entries 0 now.carried) c.index_mut-in-loop-block.ensures.value in
+    let next = pushed_out blocks block 0 (block * width) now.carried out c.index_mut-in-loop-block.result.now new now.invariant.blocks before (omega arith) (omega arith) goes in
+    let on : (block + 1) * width ≡ suc block * width = omega arith in
     record {
       blocks = next.0;
-      last = omega (arith, now.invariant.last, length-set blocks now.block new);
+      last = omega (arith, now.invariant.last, length-set blocks block new);
       block = omega (arith, c.loop-block-test.true);
-      place = omega arith;
-      within = omega (arith, front, long.1, next.3);
       room = omega (arith, next.1, now.invariant.room);
-      same = ap (λ k. insert (symbols_in (slice_set blocks now.block new)) k out) front ∙ (next.2 ∙ now.invariant.same);
+      same = ap (λ k. insert (entries_in (slice_set blocks block new)) k out) on ∙ (next.2 ∙ now.invariant.same);
     }
 
-pub put-requires-clause-within : goal.put-requires-clause-within
-put-requires-clause-within g c =
-    let now = c.loop-block in let block = c.index_mut-2.result.now in
-    let many = counted (vec_items now.blocks) (c.len-last.result - 1) block now.invariant.blocks now.invariant.last in
-    omega (arith, many.0, ap (λ b. length b.symbols) c.index_mut-2.ensures.value, now.invariant.within, now.invariant.block, c.loop-block-test.false)
+pub put-requires-2 : goal.put-requires-2
+put-requires-2 g c =
+    let now = c.loop-block in let blocks = vec_items now.blocks in let last = c.len-last.result - 1 in let block = c.index_mut-3.result.now in
+    let fits = fits_last blocks last block block now.invariant.blocks now.invariant.last now.invariant.room c.index_mut-3.ensures.value in
+    record { within = omega arith; free = fits.1; room = fits.2 }
 
-pub put-requires-clause-room : goal.put-requires-clause-room
-put-requires-clause-room g c =
-    let now = c.loop-block in let block = c.index_mut-2.result.now in
-    let many = counted (vec_items now.blocks) (c.len-last.result - 1) block now.invariant.blocks now.invariant.last in
-    omega (arith, many.1, ap (λ b. length b.symbols) c.index_mut-2.ensures.value, ap (λ b. b.capacity) c.index_mut-2.ensures.value, now.invariant.room)
-
-pub put-requires-clause-free : goal.put-requires-clause-free
-put-requires-clause-free g c =
-    let now = c.loop-block in let block = c.index_mut-2.result.now in
-    let many = counted (vec_items now.blocks) (c.len-last.result - 1) block now.invariant.blocks now.invariant.last in
-    omega (arith, many.1, ap (λ b. length b.symbols) c.index_mut-2.ensures.value, now.invariant.room)
-
--- the blocks with the symbol in the last
-after : (g : _) (c : goal.After-blocks-2-1 g) → let new = slice_set (vec_items c.loop-block.blocks) (c.len-last.result - 1) c.put.new.self in
-    IsBlocks new × (symbols_in new ≡ insert (symbols_in (vec_items c.loop-block.blocks)) (c.loop-block.block * width + c.loop-block.place) c.loop-block.carried)
-after g c =
-    let now = c.loop-block in let block = c.index_mut-2.result.now in let blocks = vec_items now.blocks in let last = c.len-last.result - 1 in
-    let rank = now.block * width + now.place in
-    let many = counted blocks last block now.invariant.blocks now.invariant.last in
-    let at : rank ≡ last * width + now.place = omega (arith, now.invariant.block, c.loop-block-test.false) in
-    put_last blocks last now.place rank now.carried block c.put.new.self now.invariant.blocks now.invariant.last at
-    (omega (arith, many.0, at, now.invariant.within)) (omega (arith, many.1, now.invariant.room))
-    (c.put.ensures ∙ ap (λ b. insert b.symbols now.place now.carried) c.index_mut-2.ensures.value)
-
-pub returns-clause-blocks : goal.returns-clause-blocks
-returns-clause-blocks g c = (after g c).0
-
-pub returns-clause-symbols : goal.returns-clause-symbols
-returns-clause-symbols g c = (after g c).1 ∙ c.loop-block.invariant.same
+pub returns : goal.returns
+returns g c =
+    let now = c.loop-block in let blocks = vec_items now.blocks in let last = c.len-last.result - 1 in let block = c.index_mut-3.result.now in
+    let here : now.block ≡ last = omega (arith, now.invariant.block, c.loop-block-test.false) in
+    let fits = fits_last blocks last block block now.invariant.blocks now.invariant.last now.invariant.room c.index_mut-3.ensures.value in
+    let long = ap (λ b. length b.entries) c.index_mut-3.ensures.value in
+    let next = put_last blocks last 0 (last * width) now.carried block c.put-2.new.self now.invariant.blocks now.invariant.last (omega arith) (omega arith) (omega (arith, long, fits.1))
+    (c.put-2.ensures ∙ ap (λ b. insert b.entries 0 now.carried) c.index_mut-3.ensures.value) in
+    record {
+      blocks = next.0;
+      entries = next.1 ∙ (ap (λ k. insert (entries_in blocks) (k * width) now.carried) (sym here) ∙ now.invariant.same);
+    }

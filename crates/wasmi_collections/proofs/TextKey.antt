@@ -1,0 +1,153 @@
+-- Facts on the keys of texts.
+use Rattle.std.proofs.Common.{◌≡◌, ℕ, zero, suc, ◌+◌, ◌*◌, ◌^◌, ◌<◌, ◌≤◌, ◌⊎◌, inl, inr, List, [], ◌∷◌, length, get_or, refl, sym, ◌∙◌, arith, ◌≢◌, Less, Equal, Greater}
+use Rattle.std.specs.Cmp.{nat_cmp_is}
+use Rattle.std.specs.Cmp.Lexicographic.{slice_cmp}
+use Rattle.std.specs.Int.{w32, w64, from_be_bytes}
+use Rattle.std.specs.Ordering.{nat_cmp}
+use Rattle.std.proofs.lemmas.Bool.{cases_lt, le-ltb, lt-ltb}
+use Rattle.std.proofs.lemmas.Bool.Decides.{nat_tests}
+use Rattle.std.proofs.lemmas.Grind.{same_number_lists}
+use borrow.Author.Count.{below_more}
+use Rattle.wasmi_collections.proofs.TextIndex.{turned}
+use Rattle.wasmi_collections.specs.LenOrder.{len_cmp}
+use Rattle.wasmi_collections.specs.LenOrderLaws.{len_cmp-Equal}
+use Rattle.wasmi_collections.specs.TextKey.{leading, key_of, IsKeyOf}
+
+less : (a b : ℕ) → a < b → nat_cmp a b ≡ Less
+less a b below = sym (nat_cmp_is a b Less below)
+
+same : (a b : ℕ) → a ≡ b → nat_cmp a b ≡ Equal
+same a b is = sym (nat_cmp_is a b Equal is)
+
+-- the first bytes that differ decide
+first_decides : (x y : List ℕ) (i : ℕ) → ((k : ℕ) → k < i → get_or x k 0 ≡ get_or y k 0) → get_or x i 0 < get_or y i 0 → length x ≡ length y → slice_cmp nat_cmp x y ≡ Less
+first_decides x [] i before below long = absurd (omega (arith, below))
+first_decides [] (b ∷ y) i before below long = absurd (omega (arith, long))
+first_decides (a ∷ x) (b ∷ y) zero before below long = rw (less a b below) refl
+first_decides (a ∷ x) (b ∷ y) (suc i) before below long =
+    rw (same a b (before 0 (omega arith))) (first_decides x y i (λ k h. before (suc k) (omega (arith, h))) below (omega (arith, long)))
+
+module _ (x y : List ℕ) (of_x : (place : ℕ) → get_or x place 0 < 256) (of_y : (place : ℕ) → get_or y place 0 < 256) where
+  -- equal numbers are of equal bytes
+  same_bytes : (n : ℕ) → leading n x ≡ leading n y → (k : ℕ) → k < n → get_or x k 0 ≡ get_or y k 0
+  same_bytes zero is k below = absurd (omega (arith, below))
+  same_bytes (suc n) is k below =
+      below_more (λ k. get_or x k 0 ≡ get_or y k 0) n (same_bytes n (omega (arith, is, of_x n, of_y n))) (omega (arith, is, of_x n, of_y n)) k (omega (arith, below))
+
+  -- numbers order as the bytes do
+  leading_less : (n : ℕ) → leading n x < leading n y → length x ≡ length y → slice_cmp nat_cmp x y ≡ Less
+  leading_less zero below long = absurd (omega (arith, below))
+  leading_less (suc n) below long = next (cases_lt (leading n x) (leading n y)) (λ sooner. leading_less n sooner long)
+    where
+      next : (leading n x < leading n y) ⊎ (leading n y ≤ leading n x) → (leading n x < leading n y → slice_cmp nat_cmp x y ≡ Less) → slice_cmp nat_cmp x y ≡ Less
+      next (inl sooner) decided = decided sooner
+      next (inr later) decided =
+          let is : leading n x ≡ leading n y = omega (arith, below, later, of_x n, of_y n) in
+          first_decides x y n (same_bytes n is) (omega (arith, below, is)) long
+
+-- eleven bytes are below 256 ^ 11
+leading_small : (x : List ℕ) → ((place : ℕ) → get_or x place 0 < 256) → leading 11 x < 2 ^ 88
+leading_small x bytes = omega (arith, bytes 0, bytes 1, bytes 2, bytes 3, bytes 4, bytes 5, bytes 6, bytes 7, bytes 8, bytes 9, bytes 10)
+
+module _ (x y : List ℕ) (of_x : (place : ℕ) → get_or x place 0 < 256) (of_y : (place : ℕ) → get_or y place 0 < 256) where
+  by_lengths : length x < length y → len_cmp x y ≡ Less
+  by_lengths below = rw (less (length x) (length y) below) refl
+
+  by_bytes : length x ≡ length y → leading 11 x < leading 11 y → len_cmp x y ≡ Less
+  by_bytes long below = rw (same (length x) (length y) long) (leading_less x y of_x of_y 11 below long)
+
+  -- texts order as their keys do
+  pub key_less : key_of x < key_of y → len_cmp x y ≡ Less
+  unfolding key_of
+  key_less below = next (cases_lt (length x) 255) (cases_lt (length y) 255)
+    where
+      next : (length x < 255) ⊎ (255 ≤ length x) → (length y < 255) ⊎ (255 ≤ length y) → len_cmp x y ≡ Less
+      next (inl small) (inl small_too) = ends (cases_lt (length x) (length y))
+        where
+          keys : length x * 2 ^ 88 + leading 11 x < length y * 2 ^ 88 + leading 11 y
+          keys = rw (lt-ltb (length x) 255 small, lt-ltb (length y) 255 small_too) at below
+
+          ends : (length x < length y) ⊎ (length y ≤ length x) → len_cmp x y ≡ Less
+          ends (inl shorter) = by_lengths shorter
+          ends (inr longer) =
+              let long : length x ≡ length y = omega (arith, keys, longer, leading_small x of_x, leading_small y of_y) in
+              by_bytes long (omega (arith, keys, long))
+      next (inl small) (inr large) = by_lengths (omega (arith, small, large))
+      next (inr large) (inl small) = absurd (grind (arith, nat_tests, below, large, small, leading_small y of_y))
+      next (inr large) (inr large_too) = absurd (grind (arith, nat_tests, below, large, large_too))
+
+  -- texts of at most eleven bytes are equal where their keys are
+  key_same : key_of x ≡ key_of y → key_of x < 12 * 2 ^ 88 → x ≡ y
+  unfolding key_of
+  key_same is below = next (cases_lt (length x) 255) (cases_lt (length y) 255)
+    where
+      next : (length x < 255) ⊎ (255 ≤ length x) → (length y < 255) ⊎ (255 ≤ length y) → x ≡ y
+      next (inl small) (inl small_too) =
+          let keys : length x * 2 ^ 88 + leading 11 x ≡ length y * 2 ^ 88 + leading 11 y = rw (lt-ltb (length x) 255 small, lt-ltb (length y) 255 small_too) at is in
+          let few : length x * 2 ^ 88 + leading 11 x < 12 * 2 ^ 88 = rw (lt-ltb (length x) 255 small) at below in
+          let long : length x ≡ length y = omega (arith, keys, leading_small x of_x, leading_small y of_y) in
+          same_number_lists x y long (λ k within. same_bytes x y of_x of_y 11 (omega (arith, keys, long)) k (omega (arith, few, within)))
+      next (inr large) (inl small) = absurd (grind (arith, nat_tests, below, large))
+      next (inl small) (inr large) = absurd (grind (arith, nat_tests, below, is, large))
+      next (inr large) (inr large_too) = absurd (grind (arith, nat_tests, below, large))
+
+module _ (head tail : ℕ) (x : List ℕ) (of_x : IsKeyOf head tail x) (other_head other_tail : ℕ) (y : List ℕ) (of_y : IsKeyOf other_head other_tail y) where
+  when_less : key_of x < key_of y → len_cmp x y ≡ Less
+  when_less below = key_less x y of_x.bytes of_y.bytes below
+
+  when_greater : key_of y < key_of x → len_cmp x y ≡ Greater
+  when_greater above = turned y x (key_less y x of_y.bytes of_x.bytes above)
+
+  -- where the upper parts differ, they tell how the texts compare
+  pub heads_tell : head ≢ other_head → nat_cmp head other_head ≡ len_cmp x y
+  heads_tell differ = next (cases_lt head other_head)
+    where
+      next : (head < other_head) ⊎ (other_head ≤ head) → nat_cmp head other_head ≡ len_cmp x y
+      next (inl below) = less head other_head below ∙ sym (when_less (omega (arith, below, of_x.upper, of_y.upper)))
+      next (inr above) =
+          let more : other_head < head = omega (arith, above, differ) in
+          sym (nat_cmp_is head other_head Greater more) ∙ sym (when_greater (omega (arith, more, of_x.upper, of_y.upper)))
+
+  -- where those are equal, the lower parts do
+  pub tails_tell : head ≡ other_head → tail ≢ other_tail → nat_cmp tail other_tail ≡ len_cmp x y
+  tails_tell is differ = next (cases_lt tail other_tail)
+    where
+      next : (tail < other_tail) ⊎ (other_tail ≤ tail) → nat_cmp tail other_tail ≡ len_cmp x y
+      next (inl below) = less tail other_tail below ∙ sym (when_less (omega (arith, is, below, of_x.upper, of_y.upper, of_x.lower, of_y.lower)))
+      next (inr above) =
+          let more : other_tail < tail = omega (arith, above, differ) in
+          sym (nat_cmp_is tail other_tail Greater more) ∙ sym (when_greater (omega (arith, is, more, of_x.upper, of_y.upper, of_x.lower, of_y.lower)))
+
+  -- equal keys of at most eleven bytes are of one text
+  pub all_told : head ≡ other_head → tail ≡ other_tail → head < 12 * 2 ^ 56 → Equal ≡ len_cmp x y
+  all_told heads tails few =
+      let keys : key_of x ≡ key_of y = omega (arith, heads, tails, of_x.upper, of_y.upper, of_x.lower, of_y.lower) in
+      sym ((len_cmp-Equal x y).1 (key_same x y of_x.bytes of_y.bytes keys (omega (arith, few, of_x.upper))))
+
+module _ (text : List ℕ) where
+  key_of-large : 255 ≤ length text → key_of text ≡ 255 * 2 ^ 88
+  unfolding key_of
+  key_of-large large = rw (le-ltb (length text) 255 large) refl
+
+  key_of-small : length text < 255 → key_of text ≡ length text * 2 ^ 88 + leading 11 text
+  unfolding key_of
+  key_of-small small = rw (lt-ltb (length text) 255 small) refl
+
+  -- the key of a text of at least 255 bytes
+  pub large_key : ((place : ℕ) → get_or text place 0 < 256) → 255 ≤ length text → IsKeyOf (255 * 2 ^ 56) 0 text
+  large_key bytes large = record { bytes = bytes; upper = omega (arith, key_of-large large); lower = omega (arith, key_of-large large) }
+
+  -- the key of another, from its first bytes
+  pub small_key : (first : List ℕ) (seven four : ℕ) → ((place : ℕ) → get_or text place 0 < 256) → length text < 255 → ((place : ℕ) → place < 11 → get_or first place 0 ≡ get_or text place 0)
+      → seven ≡ from_be_bytes w64 (0 ∷ get_or first 0 0 ∷ get_or first 1 0 ∷ get_or first 2 0 ∷ get_or first 3 0 ∷ get_or first 4 0 ∷ get_or first 5 0 ∷ get_or first 6 0 ∷ [])
+      → four ≡ from_be_bytes w32 (get_or first 7 0 ∷ get_or first 8 0 ∷ get_or first 9 0 ∷ get_or first 10 0 ∷ [])
+      → IsKeyOf (length text * 2 ^ 56 + seven) four text
+  small_key first seven four bytes small same_first upper lower =
+      let sevens : seven ≡ leading 7 text =
+      omega (arith, upper, same_first 0 (omega arith), same_first 1 (omega arith), same_first 2 (omega arith), same_first 3 (omega arith), same_first 4 (omega arith), same_first 5 (omega arith), same_first 6 (omega arith)) in
+      let fours : leading 7 text * 2 ^ 32 + four ≡ leading 11 text =
+      omega (arith, lower, same_first 7 (omega arith), same_first 8 (omega arith), same_first 9 (omega arith), same_first 10 (omega arith)) in
+      let below : four < 2 ^ 32 =
+      omega (arith, lower, same_first 7 (omega arith), same_first 8 (omega arith), same_first 9 (omega arith), same_first 10 (omega arith), bytes 7, bytes 8, bytes 9, bytes 10) in
+      let key = key_of-small small in
+      record { bytes = bytes; upper = omega (arith, key, sevens, fours, below); lower = omega (arith, key, sevens, fours, below) }

@@ -1,0 +1,46 @@
+//! An entry of the index of an interner.
+ghost use Rattle.std.specs.Prelude.{◌≡◌};
+
+use super::Sym;
+use super::key::Key;
+
+// A symbol beside the key of its text, so that most looks of a search read no text.
+#[derive(Copy, Clone)]
+pub(super) struct Entry {
+    head: u64,
+    tail: u32,
+    symbol: Sym,
+}
+
+impl Entry {
+    // A symbol beside a key.
+    pub(super) fn new(key: Key, symbol: Sym) -> Entry
+        ensures head { result.head ≡ key.head }
+        ensures tail { result.tail ≡ key.tail }
+        ensures symbol { result.symbol ≡ symbol }
+    {
+        Entry {
+            head: key.head,
+            tail: key.tail,
+            symbol,
+        }
+    }
+
+    // The symbol.
+    pub(super) fn symbol(&self) -> Sym
+        ensures { result ≡ self.now.symbol }
+    {
+        self.symbol
+    }
+
+    // The key.
+    pub(super) fn key(&self) -> Key
+        ensures head { result.head ≡ self.now.head }
+        ensures tail { result.tail ≡ self.now.tail }
+    {
+        Key {
+            head: self.head,
+            tail: self.tail,
+        }
+    }
+}
