@@ -1,4 +1,4 @@
-//! Entrybols by rank in blocks of one width.
+//! Entries by rank in blocks of one width.
 ghost use Rattle.std.specs.Prelude.{◌≡◌, ◌<◌, ◌≤◌, length, OnOk, vec_items};
 ghost use Rattle.std.specs.List.{insert as insert_at};
 ghost use Rattle.wasmi_collections.specs.IndexBlocks.{IsBlocks, entries_in, places_in, room_in};
