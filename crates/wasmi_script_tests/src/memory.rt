@@ -149,6 +149,17 @@ fn what_is_there_needs_no_memory(rt: HostRuntime) -> Result<(), Fail> {
     Ok(())
 }
 
+// Nothing is made before a line asks for it.
+#[test]
+fn a_script_without_lines_needs_no_memory(rt: HostRuntime) -> Result<(), Fail> {
+    let log = Log::new();
+    let heap = Observed::new(rt.alloc(), &log);
+    log.refuse_from(1);
+    assert_equal!(rt; answer(&heap, "")?.as_str(), "");
+    Ok(())
+}
+
+// One request for each text, each copy, each container and its growths, and for the replies as they grow.
 #[test]
 fn a_script_that_is_refused_memory_fails(rt: HostRuntime) -> Result<(), Fail> {
     let mut refused = 0u64;
@@ -169,7 +180,7 @@ fn a_script_that_is_refused_memory_fails(rt: HostRuntime) -> Result<(), Fail> {
         }
         assert_equal!(rt; (log.returned(), log.misplaced()), (log.given(), 0));
     }
-    assert_equal!(rt; refused, requests);
+    assert_equal!(rt; (refused, requests), (33, 33));
     Ok(())
 }
 
