@@ -1,3 +1,4 @@
 mod Gone
 mod Ended
 mod HeldMemory
+mod SameInOrder

@@ -1,6 +1,7 @@
 //! Maps and sets whose keys are kept in order.
 #![tactic(auto)]
 
+pub mod laws;
 pub mod map;
 pub mod set;
 
