@@ -8,3 +8,12 @@ pub mod script;
 pub mod tables;
 pub mod theirs;
 pub mod timing;
+
+// With `--cfg shifted` 16 bytes stand before the code of both sides, so that each loop lies elsewhere.
+#[cfg(shifted)]
+std::arch::global_asm!(
+    ".pushsection .text.hot.shifted, \"axR\", @progbits",
+    ".p2align 4",
+    ".fill 16, 1, 0x90",
+    ".popsection",
+);

@@ -1,7 +1,10 @@
 //! Times a row on its sides, which take turns.
 
 use crate::rows::{Round, Row};
+use std::fmt::{self, Display, Formatter};
 use std::hint::black_box;
+use std::num::ParseFloatError;
+use std::str::FromStr;
 use std::time::Instant;
 
 // How often each side is timed. The least time counts.
@@ -28,6 +31,39 @@ impl Times {
 
     pub fn to_kit(&self) -> Option<f64> {
         self.kit.map(|kit| self.ours / kit)
+    }
+
+    /// The lesser time of each side, by two builds.
+    pub fn least(&self, other: Times) -> Times {
+        Times {
+            ours: self.ours.min(other.ours),
+            theirs: self.theirs.min(other.theirs),
+            plain: self.plain.min(other.plain),
+            kit: self.kit.zip(other.kit).map(|(one, two)| one.min(two)),
+        }
+    }
+}
+
+/// The times, with a space between.
+impl Display for Times {
+    fn fmt(&self, f: &mut Formatter<'_>) -> fmt::Result {
+        write!(f, "{} {} {}", self.ours, self.theirs, self.plain)?;
+        self.kit.map_or(Ok(()), |kit| write!(f, " {kit}"))
+    }
+}
+
+impl FromStr for Times {
+    type Err = ParseFloatError;
+
+    fn from_str(line: &str) -> Result<Times, ParseFloatError> {
+        let mut numbers = line.split(' ');
+        let mut next = || numbers.next().unwrap_or_default().parse();
+        Ok(Times {
+            ours: next()?,
+            theirs: next()?,
+            plain: next()?,
+            kit: next().ok(),
+        })
     }
 }
 

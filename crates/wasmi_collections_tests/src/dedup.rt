@@ -6,8 +6,6 @@ use std::test::Fail;
 use wasmi_arena::ArenaKey;
 use wasmi_collections::StringInterner;
 use wasmi_collections::arena::{Arena, ArenaError, DedupArena};
-use wasmi_collections::hash::FixedState;
-use wasmi_collections::hashed::Map;
 use wasmi_collections::run::{DedupCommand, DedupReply, run_dedup};
 use wasmi_vectors::assert_equal;
 use wasmi_vectors::observed::{Log, Observed};
@@ -482,112 +480,6 @@ fn what_is_refused_is_dropped(rt: HostRuntime) -> Result<(), Fail> {
             assert_equal!(rt; refused, Some(ArenaError::KeyOutOfBounds));
         }
         assert_equal!(rt; (log.returned(), log.misplaced()), (log.given(), 0), "at {nth}");
-    }
-    Ok(())
-}
-
-// From empty on, past the growths of each part.
-#[test]
-fn many_values_and_texts(rt: HostRuntime) -> Result<(), Fail> {
-    let mut numbers: DedupArena<usize, u32> = DedupArena::new(rt.alloc());
-    let mut texts: DedupArena<usize, String> = DedupArena::new(rt.alloc());
-    let mut interner = StringInterner::new(rt.alloc());
-    let mut long = String::new(rt.alloc());
-    for _ in 0..7_000 {
-        long.push_str("0123456789")?;
-    }
-    for number in 0..5_000u32 {
-        let short = format!(in rt.alloc(); "{number}")?;
-        let text = if number == 4_500 {
-            long.as_str()
-        } else {
-            short.as_str()
-        };
-        assert_equal!(rt; numbers.alloc_ref(&number), Ok(number as usize));
-        assert_equal!(rt; texts.alloc_str(rt.alloc(), text), Ok(number as usize));
-        assert_equal!(rt; interner.extend([text]), Ok(()));
-    }
-    assert_equal!(rt; (numbers.len(), texts.len(), interner.len()), (5_000, 5_000, 5_000));
-    assert_equal!(rt; (texts.key_of_str(long.as_str()), texts.key_of_str("4500")), (Some(4_500), None));
-    let symbol = interner.get(long.as_str()).map(|symbol| symbol.into_u32());
-    assert_equal!(rt; symbol, Some(4_500));
-    Ok(())
-}
-
-// Adds a number, puts another in its place, and then that one again, by both calls.
-fn add_number(
-    arena: &mut DedupArena<usize, u32, &Observed<'_>>,
-    number: u32,
-) -> Result<(), ArenaError> {
-    let next = number.wrapping_add(10_000);
-    let key = if number % 2 == 0 {
-        arena.alloc(number)?
-    } else {
-        arena.alloc_ref(&number)?
-    };
-    arena.replace(key, next)?;
-    arena.replace(key, next)?;
-    arena.alloc_ref(&next)?;
-    Ok(())
-}
-
-// The same of the items and the index by themselves.
-fn add_apart(
-    items: &mut Arena<usize, u32, &Observed<'_>>,
-    index: &mut Map<u32, usize, FixedState, &Observed<'_>>,
-    number: u32,
-) -> Result<(), ArenaError> {
-    let key = items.alloc(number)?;
-    index.insert(number, key)?;
-    index.insert(number.wrapping_add(10_000), key)?;
-    index.remove(&number);
-    Ok(())
-}
-
-// Whichever call adds a value, and for nothing where the value is there.
-#[test]
-fn a_value_asks_for_its_places_alone(rt: HostRuntime) -> Result<(), Fail> {
-    let (log, apart) = (Log::new(), Log::new());
-    let heap = Observed::new(rt.alloc(), &log);
-    let other = Observed::new(rt.alloc(), &apart);
-    let mut arena = DedupArena::new(&heap);
-    let mut items = Arena::new(&other);
-    let mut index = Map::new(&other);
-    for number in 0..5_000u32 {
-        add_number(&mut arena, number)?;
-        add_apart(&mut items, &mut index, number)?;
-        assert_equal!(rt; (log.requests(), log.bytes()), (apart.requests(), apart.bytes()), "of {number}");
-    }
-    Ok(())
-}
-
-type Texts<'a, 'l> = DedupArena<usize, String<&'a Observed<'l>>, &'a Observed<'l>>;
-
-// What a text asks for that is new, or is there.
-fn asked_for_text<'a, 'l>(
-    arena: &mut Texts<'a, 'l>,
-    heap: &'a Observed<'l>,
-    log: &Log,
-    text: &str,
-) -> Result<(u64, u64), ArenaError> {
-    let (requests, bytes) = (log.requests(), log.bytes());
-    arena.alloc_str(heap, text)?;
-    Ok((
-        log.requests().wrapping_sub(requests),
-        log.bytes().wrapping_sub(bytes),
-    ))
-}
-
-// The two copies of a new one, and a block of the items and of the index at the most. The last fills the items.
-#[test]
-fn a_text_asks_for_its_places_alone(rt: HostRuntime) -> Result<(), Fail> {
-    let log = Log::new();
-    let heap = Observed::new(rt.alloc(), &log);
-    let mut arena: Texts<'_, '_> = DedupArena::new(&heap);
-    for text in ["a", "b", "c", "d"] {
-        let (requests, bytes) = asked_for_text(&mut arena, &heap, &log, text)?;
-        assert!(rt; requests < 8 && bytes < 1_200, "of {text}");
-        assert_equal!(rt; asked_for_text(&mut arena, &heap, &log, text)?, (0, 0), "of {text}");
     }
     Ok(())
 }
