@@ -1,5 +1,4 @@
 //! Many values and texts, and the places that they ask for.
-use std::fmt::Write;
 use std::test::Fail;
 use wasmi_collections::StringInterner;
 use wasmi_collections::arena::{Arena, ArenaError, DedupArena};
