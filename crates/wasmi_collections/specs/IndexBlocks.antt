@@ -5,7 +5,7 @@ use Rattle.wasmi_collections.specs.declared.string_interner.entry.Entry.{Entry}
 
 -- how many entries a full block has
 abbrev pub width : ℕ
-width = 256
+width = 512
 
 -- the entries of a block, and how many it has memory for
 pub record BlockState : Type 0 where

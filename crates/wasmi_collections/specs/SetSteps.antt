@@ -36,6 +36,10 @@ module _ {T : Type 0} (eq : T → T → Bool) where
   abbrev pub SameElements : List T → List T → Type 0
   SameElements a b = ((q : T) → is_member eq a q ≡ is_member eq b q) × (length a ≡ length b)
 
+  -- the third set has an element exactly where `op` says so of whether the first has it, and the second
+  abbrev pub IsCombined : (Bool → Bool → Bool) → List T → List T → List T → Type 0
+  IsCombined op xs ys zs = (q : T) → is_member eq zs q ≡ op (is_member eq xs q) (is_member eq ys q)
+
 -- the reply doesn't say that the command was refused
 abbrev pub AcceptsSetCommand : SetReply → Type 0
 AcceptsSetCommand (Flag flag) = Unit {0}

@@ -1,14 +1,15 @@
 //! Laws: what the definitions of `specs/` tell, and what `==` does, as contracts of functions.
-ghost use Rattle.std.specs.Prelude.{◌≡◌, ◌↔◌, ℕ, ◌<◌, ◌≤◌, [], ◌∷◌, ◌++◌, List, length, position, IsTrue, Some, false};
+ghost use Rattle.std.specs.Prelude.{◌≡◌, ◌↔◌, ℕ, ◌<◌, ◌≤◌, [], ◌∷◌, ◌++◌, List, length, position, IsTrue, Some, Bool, false, cond, not, ◌&&◌, ◌||◌};
 ghost use Rattle.std.specs.Ordering.{ordering_then, eq_by_cmp};
 ghost use Rattle.std.specs.Cmp.Lexicographic.{slice_cmp};
 ghost use Rattle.std.specs.List.{AllByRecursion, IsDistinct};
+ghost use Rattle.std.specs.Set.{is_member, IsUnion, IsIntersection, IsDifference, IsSymmetricDifference};
 ghost use Rattle.wasmi_collections.specs.Dedup.{DedupState, AllocatesValue, ReplacesValue};
 ghost use Rattle.wasmi_collections.specs.DedupSteps.{DedupStep, HasKey, NoneClears};
 ghost use Rattle.wasmi_collections.specs.HeadVec.{head_cmp};
 ghost use Rattle.wasmi_collections.specs.MapSteps.{MapStep, SameEntries, AcceptsMapCommand};
 ghost use Rattle.wasmi_collections.specs.Runs.{IsRun};
-ghost use Rattle.wasmi_collections.specs.SetSteps.{SetStep, SameElements, AcceptsSetCommand};
+ghost use Rattle.wasmi_collections.specs.SetSteps.{SetStep, SameElements, IsCombined, AcceptsSetCommand};
 ghost use Rattle.wasmi_collections.specs.declared.run.dedup.DedupCommand.{DedupCommand};
 ghost use Rattle.wasmi_collections.specs.declared.run.dedup.DedupReply.{DedupReply};
 ghost use Rattle.wasmi_collections.specs.declared.run.map.MapCommand.{MapCommand};
@@ -70,7 +71,24 @@ pub fn sets_answer_alike<T, S: AnySet<T>, U: AnySet<T>>()
         → (one ≡ other) × SameElements S.eq (S.elements c) (U.elements d) }
 {}
 
-/// An order and an equality of one type say the same of equal keys, so that the two laws above hold of an
+/// The four set operators tell of each element from whether the two sets have it. So what they make of equal
+/// sets is equal, of one type or two, if both types say of the same elements that they are equal.
+pub fn operators_answer_alike<T, S: AnySet<T>, U: AnySet<T>>()
+    ensures union { (xs ys zs : List T) → IsUnion S.eq xs ys zs
+        → IsCombined S.eq (λ first second. first || second) xs ys zs }
+    ensures intersection { (xs ys zs : List T) → IsIntersection S.eq xs ys zs
+        → IsCombined S.eq (λ first second. first && second) xs ys zs }
+    ensures difference { (xs ys zs : List T) → IsDifference S.eq xs ys zs
+        → IsCombined S.eq (λ first second. first && not second) xs ys zs }
+    ensures symmetric_difference { (xs ys zs : List T) → IsSymmetricDifference S.eq xs ys zs
+        → IsCombined S.eq (λ first second. cond first (not second) second) xs ys zs }
+    ensures alike { ((x y : T) → S.eq x y ≡ U.eq x y) → (op : Bool → Bool → Bool)
+        → (xs ys zs us vs ws : List T) → ((q : T) → is_member S.eq xs q ≡ is_member U.eq us q)
+        → ((q : T) → is_member S.eq ys q ≡ is_member U.eq vs q) → IsCombined S.eq op xs ys zs
+        → IsCombined U.eq op us vs ws → (q : T) → is_member S.eq zs q ≡ is_member U.eq ws q }
+{}
+
+/// An order and an equality of one type say the same of equal keys, so that the three laws above hold of an
 /// ordered and a hashed map, and of an ordered and a hashed set.
 pub fn equal_keys_of_both<K: Ord>()
     ensures { (x y : K) → eq_by_cmp K.cmp x y ≡ K.eq x y }

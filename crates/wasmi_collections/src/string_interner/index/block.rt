@@ -9,7 +9,7 @@ use std::marker::Model;
 use std::mem;
 
 // How many entries a full block has.
-pub(super) const WIDTH: usize = 256;
+pub(super) const WIDTH: usize = 512;
 
 // Entries in a ring.
 #[derive(Drop)]

@@ -14,7 +14,7 @@ returns-then-self-eq0 g c =
     let full : length ring ≡ width = omega (arith, seen, straight, length-append ring []) in
     ap (λ k. from_first (vec_items c.exchange.new.ring) k ++ out ∷ []) c.if-self-eq0.true
     ∙ (ap (λ ys. from_first ys 0 ++ out ∷ []) c.exchange.ensures.items
-    ∙ (put_straight ring 255 out entry (omega (arith, full)) c.exchange.ensures.taken place (omega (arith, full)) (omega (arith, c.requires.within))
+    ∙ (put_straight ring (width - 1) out entry (omega (arith, full)) c.exchange.ensures.taken place (omega (arith, full)) (omega (arith, c.requires.within))
     ∙ (ap (λ k. insert (from_first ring k) place entry) (sym c.if-self-eq0.true)
     ∙ ap (λ (s : BlockState). insert s.entries place entry) c.self.view_is)))
 
