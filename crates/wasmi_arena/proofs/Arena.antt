@@ -29,9 +29,9 @@ module _ {K T V : Type 0} (keys : Keys K) (limit : ℕ) (state : V → ArenaStat
   room_of_step old (Alloc item) commands (Key key) next step = let left = step.room_left in omega arith
   room_of_step old (Alloc item) commands (Refused error) next step = let left = step.1.1 in omega arith
   room_of_step old (Has key) commands (HasReply found) next step = let left = step.1.1 in omega arith
-  room_of_step old (Put key item) commands (Old there) next step = let left = step.room_left in omega arith
+  room_of_step old (Put key item) commands (Old there) next step = let left = step.room_is in omega arith
   room_of_step old (Put key item) commands (Refused error) next step = let left = step.2.1 in omega arith
-  room_of_step old (Swap first second) commands Done next step = let left = step.room_left in omega arith
+  room_of_step old (Swap first second) commands Done next step = let left = step.room_is in omega arith
   room_of_step old (Swap first second) commands (Refused error) next step = let left = step.1.1 in omega arith
   room_of_step old command commands reply next step = absurd step
 

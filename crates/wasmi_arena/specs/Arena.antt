@@ -28,9 +28,9 @@ stable_limit keys = arena_limit keys true
 abbrev pub stable_state : {T : Type 0} → List T → ArenaState T
 stable_state items = record { items = items; room = room (length items) }
 
--- the same items, and no less room
+-- the same items, and the same room
 abbrev pub ArenaUnchanged : {T : Type 0} → ArenaState T → ArenaState T → Type 0
-ArenaUnchanged old new = (new.items ≡ old.items) × (old.room ≤ new.room)
+ArenaUnchanged old new = (new.items ≡ old.items) × (new.room ≡ old.room)
 
 -- how many of these commands put an item at the end
 abbrev pub allocs_in : {K T : Type 0} → List (ArenaCommand K T) → ℕ
@@ -78,21 +78,21 @@ module _ {K T : Type 0} (keys : Keys K) (limit : ℕ) where
   RefusesItem old AliasingPairAccess = ⊥
   RefusesItem old DuplicateItem = ⊥
 
-  -- an item makes way for another, and is handed back
+  -- an item makes way for another, and is handed back; the room stays
   pub record PutsItem (old : ArenaState T) (key : K) (item there : T) (new : ArenaState T)
       : Type 0 where
     pub there_is : slice_get old.items (keys.number key) ≡ Some there
     pub items_are : new.items ≡ slice_set old.items (keys.number key) item
-    pub room_left : old.room ≤ new.room
+    pub room_is : new.room ≡ old.room
 
-  -- two items change places
+  -- two items change places; the room stays
   pub record SwapsItems (old : ArenaState T) (first second : K) (new : ArenaState T)
       : Type 0 where
     pub apart : keys.number first ≢ keys.number second
     pub first_reads : keys.number first < length old.items
     pub second_reads : keys.number second < length old.items
     pub items_are : new.items ≡ swap old.items (keys.number first) (keys.number second)
-    pub room_left : old.room ≤ new.room
+    pub room_is : new.room ≡ old.room
 
   -- why two items don't change places: the keys are one, or one of them reads nothing. One key twice
   -- that reads nothing may be refused for either.

@@ -29,7 +29,7 @@ pub trait AnyArena<Key: ArenaKey, T> {
     /// Puts an item at the end, and returns its key.
     ///
     /// Fails with `NotEnoughKeys` if the arena is full, and else only where there is no room, with
-    /// `OutOfSystemMemory`. After an error the items are as before, and the item is dropped.
+    /// `OutOfSystemMemory`. After an error the items and the room are as before, and the item is dropped.
     fn alloc(&mut self, item: T) -> Result<Key, ArenaError>
         ensures ok { IfOk result (λ key. AllocatesItem Key.keys (arena_limit Key.keys BOUNDED)
             (state self.old) item key (state self.new)) }
@@ -41,7 +41,7 @@ pub trait AnyArena<Key: ArenaKey, T> {
         ensures { IsTrue result ↔ (Key.keys.number key < length (state self.now).items) };
 
     /// Puts an item under a key in place of the one there, which it returns, or drops it and fails with
-    /// `KeyOutOfBounds` if there is none.
+    /// `KeyOutOfBounds` if there is none. The room stays.
     fn put(&mut self, key: Key, item: T) -> Result<T, ArenaError>
         ensures ok { IfOk result (λ there. PutsItem Key.keys (arena_limit Key.keys BOUNDED)
             (state self.old) key item there (state self.new)) }
@@ -49,7 +49,7 @@ pub trait AnyArena<Key: ArenaKey, T> {
             × (length (state self.old).items ≤ Key.keys.number key)
             × ArenaUnchanged (state self.old) (state self.new)) };
 
-    /// Exchanges the items under two keys.
+    /// Exchanges the items under two keys. The room stays.
     ///
     /// Fails with `AliasingPairAccess` if the keys are one, and with `KeyOutOfBounds` if one of them
     /// reads nothing. Where both is so, the type of arenas decides.
