@@ -30,3 +30,4 @@ pub mod PairLoans
 pub mod Refusals
 pub mod Answered
 pub mod WalkedKeys
+pub mod BothEnds

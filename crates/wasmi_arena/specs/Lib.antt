@@ -22,3 +22,4 @@ pub mod Entries
 pub mod Growth
 pub mod Apart
 pub mod Pairs
+pub mod BothEnds

@@ -6,11 +6,17 @@ ghost use Rattle.std.specs.List.{flat_map, range_with_len};
 ghost use Rattle.wasmi_arena.specs.Geometry.{size, start, max_len, IsPlace, IsFewest, fewest, slots, room, bucket_of, slot_of};
 ghost use Rattle.wasmi_arena.specs.StableVec.{bucket_at, filled_parts};
 ghost use Rattle.wasmi_arena.specs.Entries.{entries};
+ghost use Rattle.wasmi_arena.specs.BothEnds.{DrainsFromEnds};
+ghost use Rattle.wasmi_arena.specs.IterMut.{left};
 ghost use Rattle.wasmi_arena.specs.Arena.{arena_limit, stable_limit, allocs_in, ArenaRun, NoneLacksMemory, EqualKeysRead};
 ghost use Rattle.wasmi_arena.specs.declared.run.ArenaCommand.{ArenaCommand};
 
-use crate::{AnyArena, ArenaError, ArenaKey, ArenaReply, StableArena, StableVec};
-use std::alloc::AllocError;
+use crate::{
+    AnyArena, ArenaError, ArenaKey, ArenaKeys, ArenaReply, StableArena, StableArenaIntoIter,
+    StableArenaIter, StableArenaIterMut, StableVec, StableVecIntoIter, StableVecIter,
+    StableVecIterMut,
+};
+use std::alloc::{AllocError, Allocator};
 
 /// The 27 buckets, each with its number of slots and its first index.
 pub fn bucket_table()
@@ -121,6 +127,36 @@ pub fn walked_keys_read<Key: ArenaKey>()
         → start ≡ map Key.keys.key (range_with_len 0 n)
         → Yields (YieldsFirst (λ keys. keys)) start seen now
         → now ≡ key ∷ left → Key.keys.number key < n }
+{}
+
+/// Each iterator over a vector gives each item once: however calls of `next` and `next_back` are mixed,
+/// by the first `None` the items from the front, and then those from the back in reverse, are the ones
+/// that were left, and from then on both ends give `None`.
+pub fn items_from_both_ends<'a, T: Drop + 'a, A: Allocator + 'a>()
+    ensures read { DrainsFromEnds ⟦<StableVecIter<'a, T, A> as Iterator>⟧.next_gives
+        ⟦<StableVecIter<'a, T, A> as DoubleEndedIterator>⟧.next_back_gives
+        (λ item. item.now) (λ items. items) }
+    ensures written { DrainsFromEnds ⟦<StableVecIterMut<'a, T, A> as Iterator>⟧.next_gives
+        ⟦<StableVecIterMut<'a, T, A> as DoubleEndedIterator>⟧.next_back_gives
+        (λ item. item.now) left }
+    ensures taken { DrainsFromEnds ⟦<StableVecIntoIter<T, A> as Iterator>⟧.next_gives
+        ⟦<StableVecIntoIter<T, A> as DoubleEndedIterator>⟧.next_back_gives
+        (λ item. item) (λ items. items) }
+{}
+
+/// Each iterator over an arena gives each entry once, in the same way, and one over keys each key.
+pub fn entries_from_both_ends<'a, Key: ArenaKey, T: Drop + 'a, A: Allocator + 'a>()
+    ensures read { DrainsFromEnds ⟦<StableArenaIter<'a, Key, T, A> as Iterator>⟧.next_gives
+        ⟦<StableArenaIter<'a, Key, T, A> as DoubleEndedIterator>⟧.next_back_gives
+        (λ entry. (entry.0, entry.1.now)) (λ entries. entries) }
+    ensures written { DrainsFromEnds ⟦<StableArenaIterMut<'a, Key, T, A> as Iterator>⟧.next_gives
+        ⟦<StableArenaIterMut<'a, Key, T, A> as DoubleEndedIterator>⟧.next_back_gives
+        (λ entry. (entry.0, entry.1.now)) left }
+    ensures taken { DrainsFromEnds ⟦<StableArenaIntoIter<Key, T, A> as Iterator>⟧.next_gives
+        ⟦<StableArenaIntoIter<Key, T, A> as DoubleEndedIterator>⟧.next_back_gives
+        (λ entry. entry) (λ entries. entries) }
+    ensures keys { DrainsFromEnds ⟦<ArenaKeys<Key> as Iterator>⟧.next_gives
+        ⟦<ArenaKeys<Key> as DoubleEndedIterator>⟧.next_back_gives (λ key. key) (λ keys. keys) }
 {}
 
 /// An arena with room r refuses none of the first r `Alloc` commands of a run for memory.
