@@ -1,5 +1,6 @@
 pub mod ArenaLoans
 pub mod ArenaPairs
+pub mod ArenaGrowth
 pub mod PairLoans
 mod Components
 pub mod ComponentEntries

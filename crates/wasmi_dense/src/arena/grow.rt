@@ -1,10 +1,10 @@
 //! Calls that add several items to an arena in one vector, or make one of them.
-ghost use Rattle.std.specs.Prelude.{◌≡◌, ◌+◌, ◌<◌, ◌≤◌, ◌↔◌, ◌⊎◌, List, [], length, IsOk, IfOk, OnOk, IfErr, OnErr, IsErrOf, IsOkUnless};
+ghost use Rattle.std.specs.Prelude.{◌≡◌, ℕ, ◌+◌, ◌<◌, ◌≤◌, ◌↔◌, ◌⊎◌, List, [], ◌∷◌, ◌++◌, length, IsOk, IfOk, OnOk, IfErr, OnErr, IsErrOf, IsOkUnless};
 ghost use Rattle.std.specs.List.{All, AllZip};
 ghost use Rattle.std.specs.Iterator.{IsFiniteIterable};
 ghost use Rattle.wasmi_arena.specs.Growth.{TakesAll, AppendsMany};
 ghost use Rattle.wasmi_dense.specs.Arena.{state_of};
-ghost use Rattle.wasmi_dense.specs.ArenaGrowth.{TakesUntilRefused};
+ghost use Rattle.wasmi_dense.specs.ArenaGrowth.{FillsBlock, TakesUntilRefused};
 
 use super::Arena;
 use core::mem;
@@ -44,7 +44,40 @@ fn push_defaults<T: Default, A: Allocator>(
     Ok(())
 }
 
+// Makes room for one more item where there is none: the block then holds twice as many, and 4 at least.
+fn double<T, A: Allocator>(items: &mut Vec<T, A>) -> Result<(), AllocError>
+    ensures items { (state_of items.new).items ≡ (state_of items.old).items }
+    ensures ok { OnOk result (0 < (state_of items.new).room) }
+    ensures block { FillsBlock (length (state_of items.old).items + (state_of items.old).room)
+        → FillsBlock (length (state_of items.new).items + (state_of items.new).room) }
+    ensures memory { OnErr result ((state_of items.old).room ≡ 0) }
+    ensures err { OnErr result (state_of items.new ≡ state_of items.old) }
+{
+    let len = items.len();
+    if len == items.capacity() {
+        items.reserve_exact(len.max(4))?;
+    }
+    Ok(())
+}
+
 impl<Key: ArenaKey, T: Drop, A: Allocator> Arena<Key, T, A> {
+    // Puts an item at the end, as `alloc` does, in a block that grows by `double`.
+    fn add(&mut self, item: T) -> Result<(), ArenaError>
+        ensures ok { OnOk result (self.new.items ≡ self.old.items ++ item ∷ []) }
+        ensures block { OnOk result (FillsBlock (length self.old.items + self.old.room)
+            → FillsBlock (length self.new.items + self.new.room)) }
+        ensures no_key { IsErrOf result ArenaError.NotEnoughKeys
+            ↔ (Key.keys.count ≤ length self.old.items) }
+        ensures memory { IsErrOf result ArenaError.OutOfSystemMemory → self.old.room ≡ 0 }
+        ensures errors { IfErr result (λ error. (error ≡ ArenaError.NotEnoughKeys)
+            ⊎ (error ≡ ArenaError.OutOfSystemMemory)) }
+    {
+        self.next_key()?;
+        double(&mut self.items)?;
+        self.items.push_reserved(item);
+        Ok(())
+    }
+
     /// Puts `amount` values of `T::default()` at the end, and returns their keys: those from the old
     /// length to before the new one. Linear in `amount`, and in the length where the vector must grow.
     ///
@@ -78,7 +111,8 @@ impl<Key: ArenaKey, T: Drop, A: Allocator> Arena<Key, T, A> {
 
     /// The items, put one by one into an empty arena. Linear.
     ///
-    /// Fails as the first [`alloc`](Arena::alloc) that fails, and then drops all items.
+    /// Fails as the first [`alloc`](Arena::alloc) that fails, and then drops all items. It asks for
+    /// memory where the items fill their block, which holds 4 of them, then 8, 16 and so on.
     pub fn from_iter<U: IntoIterator<Item = T>>(alloc: A, iter: U) -> Result<Self, ArenaError>
         requires { IsFiniteIterable U.into_iter_gives U.IntoIter.can_next U.IntoIter.remaining iter }
         ensures ok { IfOk result (λ arena. TakesAll U.into_iter_gives U.IntoIter.next_gives iter [] arena.items) }
@@ -87,7 +121,7 @@ impl<Key: ArenaKey, T: Drop, A: Allocator> Arena<Key, T, A> {
     {
         let mut arena = Arena::new(alloc);
         for item in iter {
-            arena.alloc(item)?;
+            arena.add(item)?;
         }
         Ok(arena)
     }
