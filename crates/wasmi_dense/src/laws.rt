@@ -1,8 +1,13 @@
 //! Laws: what the definitions of `specs/` tell, as contracts of functions.
 ghost use Rattle.std.specs.Prelude.{◌≡◌, ◌↔◌, ℕ, List, Option, IsTrue};
+ghost use Rattle.wasmi_arena.specs.BothEnds.{DrainsFromEnds};
+ghost use Rattle.wasmi_dense.specs.ArenaLoan.{left_entries};
+ghost use Rattle.wasmi_dense.specs.ComponentLoan.{left_components};
 ghost use Rattle.wasmi_dense.specs.Components.{component_at, extent};
 
-use crate::{Arena, ComponentVec};
+use crate::arena::{IntoIter, Iter, IterMut};
+use crate::{Arena, ComponentVec, ComponentVecIter, ComponentVecIterMut};
+use std::alloc::Allocator;
 use wasmi_arena::ArenaKey;
 
 /// Two component vectors of one extent, with the same components, are the same.
@@ -31,3 +36,28 @@ pub fn equal_arenas<Key: ArenaKey, T: PartialEq>(a: &Arena<Key, T>, b: &Arena<Ke
 {
     a == b
 }
+
+/// Each iterator over an arena gives each entry once: however calls of `next` and `next_back` are mixed,
+/// by the first `None` the entries from the front, and then those from the back in reverse, are the ones
+/// that were left, and from then on both ends give `None`.
+pub fn entries_from_both_ends<'a, Key: ArenaKey, T: Drop + 'a, A: Allocator>()
+    ensures read { DrainsFromEnds ⟦<Iter<'a, Key, T> as Iterator>⟧.next_gives
+        ⟦<Iter<'a, Key, T> as DoubleEndedIterator>⟧.next_back_gives
+        (λ entry. (entry.0, entry.1.now)) (λ entries. entries) }
+    ensures written { DrainsFromEnds ⟦<IterMut<'a, Key, T> as Iterator>⟧.next_gives
+        ⟦<IterMut<'a, Key, T> as DoubleEndedIterator>⟧.next_back_gives
+        (λ entry. (entry.0, entry.1.now)) (left_entries Key.keys) }
+    ensures taken { DrainsFromEnds ⟦<IntoIter<Key, T, A> as Iterator>⟧.next_gives
+        ⟦<IntoIter<Key, T, A> as DoubleEndedIterator>⟧.next_back_gives
+        (λ entry. entry) (λ entries. entries) }
+{}
+
+/// Each iterator over the components of a component vector gives each of them once, in the same way.
+pub fn components_from_both_ends<'a, Key: ArenaKey, T: 'a>()
+    ensures read { DrainsFromEnds ⟦<ComponentVecIter<'a, Key, T> as Iterator>⟧.next_gives
+        ⟦<ComponentVecIter<'a, Key, T> as DoubleEndedIterator>⟧.next_back_gives
+        (λ entry. (entry.0, entry.1.now)) (λ entries. entries) }
+    ensures written { DrainsFromEnds ⟦<ComponentVecIterMut<'a, Key, T> as Iterator>⟧.next_gives
+        ⟦<ComponentVecIterMut<'a, Key, T> as DoubleEndedIterator>⟧.next_back_gives
+        (λ entry. (entry.0, entry.1.now)) (left_components Key.keys) }
+{}
