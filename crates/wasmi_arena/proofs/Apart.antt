@@ -1,13 +1,13 @@
 -- Facts on a table of buckets apart from a vector's own.
-use Rattle.std.proofs.Common.{◌≡◌, ◌≢◌, ℕ, ◌+◌, ◌<◌, ◌≤◌, List, [], ◌∷◌, ◌++◌, length, get_or, set, Option, Some, None, ◌∙◌, ap, inl, inr, refl, sym, arith}
-use Rattle.std.proofs.lemmas.Bool.{cases_eq}
+use Rattle.std.proofs.Common.{◌≡◌, ◌≢◌, ℕ, suc, ◌+◌, ◌-◌, ◌<◌, ◌≤◌, List, [], ◌++◌, length, get_or, set, Option, Some, None, ◌∙◌, ap, subst, inl, inr, refl, sym, add-one, arith}
+use Rattle.std.proofs.lemmas.Bool.{cases_eq, cases_lt}
 use Rattle.std.proofs.lemmas.List.{get_or-set_same, get_or-set_other, length-set}
 use Rattle.wasmi_arena.specs.Bucket.{Bucket, bucket}
-use Rattle.wasmi_arena.specs.Geometry.{size, start, max_len, fewest, room}
-use Rattle.wasmi_arena.specs.Table.{items_of, IsLaidOut}
+use Rattle.wasmi_arena.specs.Geometry.{size, start, max_len, IsPlace, IsFewest, fewest, room}
+use Rattle.wasmi_arena.specs.Table.{items_of, bucket_filled, IsLaidOut}
 use Rattle.wasmi_arena.specs.Apart.{AreOpenApart}
-use Rattle.wasmi_arena.proofs.Geometry.{fewest_is, fewest_is_least, fewest-le, fewest_of_place, place-next}
-use Rattle.wasmi_arena.proofs.LaidOut.{place-full, items_of-open_next, IsLaidOut-open_next}
+use Rattle.wasmi_arena.proofs.Geometry.{size_pos, start_mono, start_below, fewest_is, fewest_is_least, fewest_of_place, place-next}
+use Rattle.wasmi_arena.proofs.LaidOut.{place-full, items_of-open_next_with, IsLaidOut-open_next_with}
 
 some_is : {A : Type 0} (a b : A) → Some a ≡ Some b → a ≡ b
 some_is a b same = cc
@@ -18,18 +18,44 @@ fewest_mono n m more small =
     let few = fewest_is_least n (omega arith) in let enough = (fewest_is_least m small).enough in
     few.least (fewest m) (omega arith)
 
--- items for which there is room need no more
-pub fewest_within : (n more : ℕ) → n + more ≤ max_len → more ≤ room n → fewest (n + more) ≤ fewest n
-fewest_within n more small within =
-    let enough = (fewest_is_least n (omega arith)).enough in (fewest_is_least (n + more) small).least (fewest n) (omega arith)
+-- with no room, items that fill at most one bucket need one more
+module _ (n more : ℕ) (below : n < max_len) (none : room n ≡ 0) (some : 0 < more) (fits : more ≤ size (fewest n)) where
+  first_place : IsPlace n (fewest n) 0
+  first_place = place-next n (fewest n) (omega arith) refl below (omega arith)
 
--- with no room, one more item needs one more bucket
-pub fewest_next : (n : ℕ) → n < max_len → room n ≡ 0 → fewest (n + 1) ≡ fewest n + 1
-fewest_next n below none = fewest_is (omega arith) (fewest_of_place (place-next n (fewest n) (omega arith) refl below (omega arith)))
+  last_place : IsPlace (n + more - 1) (fewest n) (more - 1)
+  last_place = record { bucket_exists = first_place.bucket_exists; slot_exists = omega arith; index_is = omega (arith, first_place.index_is) }
+
+  pub fewest_next : fewest (n + more) ≡ fewest n + 1
+  fewest_next =
+      let last : n + more - 1 + 1 ≡ n + more = omega arith in
+      fewest_is (omega (arith, start_below (fewest n) 27 first_place.bucket_exists, first_place.index_is)) (subst (λ (m : ℕ). IsFewest m (fewest n + 1)) last (fewest_of_place last_place))
+
+  -- and leave no room in it where they fill it
+  pub room_next : more ≡ size (fewest n) → room (n + more) ≡ 0
+  room_next full = let end : start (fewest (n + more)) ≡ start (suc (fewest n)) = ap start (fewest_next ∙ add-one (fewest n)) in omega (arith, first_place.index_is, full)
 
 -- so there is one
 pub next_below : (n : ℕ) → n < max_len → room n ≡ 0 → fewest n < 27
-next_below n below none = omega (arith, fewest_next n below none, fewest-le (n + 1) (omega arith))
+next_below n below none = (first_place n 1 below none (omega arith) (omega (arith, size_pos (fewest n)))).bucket_exists
+
+-- the buckets up to one are the fewest for their slots
+pub fewest_start : (b : ℕ) → b ≤ 27 → fewest (start b) ≡ b
+fewest_start b small = fewest_is (start_mono b 27 small) (record {
+  enough = omega arith;
+  least = λ c room. elim (cases_lt c b) [
+    | inl less ↦ absurd (omega (arith, start_below c b less, size_pos c))
+    | inr more ↦ more
+  ];
+})
+
+-- so once each free slot is filled there is no room
+pub room_filled : (n filled : ℕ) → n ≤ max_len → filled ≡ room n → room (n + filled) ≡ 0
+room_filled n filled small all =
+    let few = fewest_is_least n small in let enough = few.enough in
+    let whole : n + filled ≡ start (fewest n) = omega arith in
+    let end : start (fewest (n + filled)) ≡ start (fewest n) = ap start (ap fewest whole ∙ fewest_start (fewest n) (few.least 27 small)) in
+    omega arith
 
 module _ {T : Type 0} (buckets : List (Option (Bucket T))) where
   pub apart_none : (first : ℕ) → length buckets ≡ 27 → AreOpenApart buckets first first
@@ -56,27 +82,25 @@ module _ {T : Type 0} (buckets : List (Option (Bucket T))) where
   pub apart_part : (first last later sooner : ℕ) → AreOpenApart buckets first last → first ≤ later → sooner ≤ last → AreOpenApart buckets later sooner
   apart_part first last later sooner all low high = record { buckets_counted = all.buckets_counted; empty = λ b from to. all.empty b (omega arith) (omega arith) }
 
-  -- the buckets between those for n items and those for m, where n have no room
-  module _ (n m : ℕ) (all : AreOpenApart buckets (fewest n) (fewest m)) (more : n < m) (few : m ≤ max_len) where
-    pub apart_same : AreOpenApart buckets (fewest (n + 1)) (fewest m)
-    apart_same = apart_part (fewest n) (fewest m) (fewest (n + 1)) (fewest m) all (fewest_mono n (n + 1) (omega arith) (omega arith)) (omega arith)
+  -- the buckets between those for n items and those for m
+  module _ (n m : ℕ) (all : AreOpenApart buckets (fewest n) (fewest m)) (few : m ≤ max_len) where
+    pub apart_later : (later : ℕ) → n ≤ later → later ≤ m → AreOpenApart buckets (fewest later) (fewest m)
+    apart_later later more within = apart_part (fewest n) (fewest m) (fewest later) (fewest m) all (fewest_mono n later more (omega arith)) (omega arith)
 
-    module _ (none : room n ≡ 0) where
-      next_one : fewest (n + 1) ≡ fewest n + 1
-      next_one = fewest_next n (omega arith) none
-
+    -- where n have no room
+    module _ (more : n < m) (none : room n ≡ 0) where
       pub apart_below : fewest n < length buckets
       apart_below = rw all.buckets_counted (next_below n (omega arith) none)
 
       -- the first of them
       pub apart_first : get_or buckets (fewest n) None ≡ Some (bucket [] (size (fewest n)))
-      apart_first = all.empty (fewest n) (omega arith) (omega (arith, next_one, fewest_mono (n + 1) m (omega arith) few))
+      apart_first = all.empty (fewest n) (omega arith) (omega (arith, fewest_next n 1 (omega arith) none (omega arith) (omega (arith, size_pos (fewest n))), fewest_mono (n + 1) m (omega arith) few))
 
       pub apart_taken : (b : ℕ) (taken : Bucket T) → b ≡ fewest n → get_or buckets b None ≡ Some taken → taken ≡ bucket [] (size (fewest n))
       apart_taken b taken is read = some_is taken (bucket [] (size (fewest n))) (sym read ∙ (ap (λ i. get_or buckets i None) is ∙ apart_first))
 
-      pub apart_rest : AreOpenApart (set buckets (fewest n) None) (fewest (n + 1)) (fewest m)
-      apart_rest = rw next_one (apart_moved (fewest n) (fewest m) all)
+      pub apart_rest : (filled : ℕ) → 0 < filled → filled ≤ size (fewest n) → AreOpenApart (set buckets (fewest n) None) (fewest (n + filled)) (fewest m)
+      apart_rest filled some fits = rw (fewest_next n filled (omega arith) none some fits) (apart_moved (fewest n) (fewest m) all)
 
   module _ (open_buckets slots len : ℕ) (v : IsLaidOut buckets open_buckets slots len) (items : List T) (are : items_of buckets ≡ items) where
     pub len_is : len ≡ length items
@@ -96,12 +120,20 @@ module _ {T : Type 0} (buckets : List (Option (Bucket T))) where
       pub next_exists : open_buckets < 27
       next_exists = (place-full buckets open_buckets slots len v full other).bucket_exists
 
-      -- which is moved in with its first item
-      abbrev next_with : T → List (Option (Bucket T))
-      next_with item = set buckets open_buckets (Some (bucket (item ∷ []) (size (fewest (length items)))))
+      -- which is moved in with its first items
+      module _ (next : Bucket T) (some : 0 < length next.items) (fits : length next.items ≤ size (fewest (length items))) (capacity : next.capacity ≡ size (fewest (length items))) where
+        next_is : Some next ≡ bucket_filled (size open_buckets) None next.items
+        next_is = ap (λ n. Some (bucket next.items n)) (capacity ∙ ap size (sym open_is))
 
-      pub items_of-next : (item : T) → items_of (next_with item) ≡ items ++ item ∷ []
-      items_of-next item = rw (← open_is, ← are) (items_of-open_next buckets open_buckets slots len v full other item)
+        next_fits : length next.items ≤ size open_buckets
+        next_fits = rw open_is fits
 
-      pub IsLaidOut-next : (item : T) → IsLaidOut (next_with item) (open_buckets + 1) (start (open_buckets + 1)) (len + 1)
-      IsLaidOut-next item = rw (← open_is) (IsLaidOut-open_next buckets open_buckets slots len v full other item)
+        pub items_of-next : items_of (set buckets open_buckets (Some next)) ≡ items ++ next.items
+        items_of-next =
+            ap (λ (b : Option (Bucket T)). items_of (set buckets open_buckets b)) next_is
+            ∙ (items_of-open_next_with buckets open_buckets slots len v full other next.items some next_fits ∙ ap (λ (xs : List T). xs ++ next.items) are)
+
+        pub IsLaidOut-next : IsLaidOut (set buckets open_buckets (Some next)) (open_buckets + 1) (start (open_buckets + 1)) (len + length next.items)
+        IsLaidOut-next =
+            subst (λ (b : Option (Bucket T)). IsLaidOut (set buckets open_buckets b) (open_buckets + 1) (start (open_buckets + 1)) (len + length next.items)) (sym next_is)
+            (IsLaidOut-open_next_with buckets open_buckets slots len v full other next.items some next_fits)

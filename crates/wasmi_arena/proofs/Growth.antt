@@ -48,6 +48,22 @@ module _ {T : Type 0} (P : T → Type 0) where
     All-append P so_far.0 (x ∷ []) so_far.3 (All-cons P x [] holds (All-nil P)),
   )
 
+  -- and so many more do
+  pub many_more : (amount more : ℕ) (old mid new : List T) → AppendsMany P amount old mid → AppendsMany P more mid new → AppendsMany P (amount + more) old new
+  many_more amount more old mid new so_far then = (
+    so_far.0 ++ then.0,
+    then.1 ∙ (ap (λ (xs : List T). xs ++ then.0) so_far.1 ∙ append_assoc old so_far.0 then.0),
+    omega (arith, so_far.2, then.2, length-append so_far.0 then.0),
+    All-append P so_far.0 then.0 so_far.3 then.3,
+  )
+
+  pub many_length : (amount : ℕ) (old new : List T) → AppendsMany P amount old new → length new ≡ length old + amount
+  many_length amount old new all = omega (arith, ap length all.1, all.2, length-append old all.0)
+
+  -- what went into an empty list goes behind another
+  pub many_moved : (amount : ℕ) (part old new : List T) → new ≡ old ++ part → AppendsMany P amount [] part → AppendsMany P amount old new
+  many_moved amount part old new is all = (all.0, is ∙ ap (λ (xs : List T). old ++ xs) all.1, all.2, all.3)
+
   -- as long as fewer than wanted are in
   pub many_below : (amount wanted : ℕ) (old new : List T) → AppendsMany P amount old new → amount < wanted → length new < length old + wanted
   many_below amount wanted old new so_far fewer = omega (arith, ap length so_far.1, so_far.2, length-append old so_far.0)

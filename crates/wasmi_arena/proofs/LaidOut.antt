@@ -1,5 +1,5 @@
 -- What the fields of a stable vector tell, once they agree.
-use Rattle.std.proofs.Common.{◌≡◌, ◌≢◌, ℕ, suc, ◌+◌, ◌-◌, ◌*◌, ◌^◌, ◌<◌, ◌≤◌, List, [], ◌∷◌, ◌++◌, length, take, drop, get_or, set, Option, Some, None, cond, refl, sym, ◌∙◌, ap, subst, inl, inr, arith, lit<, length-append, append-nil, length-drop, slice_get, IsSome, IsSomeAnd}
+use Rattle.std.proofs.Common.{◌≡◌, ◌≢◌, ℕ, suc, ◌+◌, ◌-◌, ◌*◌, ◌^◌, ◌<◌, ◌≤◌, List, [], ◌∷◌, ◌++◌, length, take, drop, get_or, set, Option, Some, None, cond, refl, sym, ◌∙◌, ap, subst, inl, inr, add-one, arith, lit<, length-append, append-nil, length-drop, slice_get, IsSome, IsSomeAnd}
 use Rattle.std.proofs.lemmas.Bool.{cases_lt, lt-ltb, le-ltb}
 use Rattle.std.proofs.Math.Nat.{lt_of_lt_of_le}
 use Rattle.std.proofs.Math.ListN.{length-set, drop_of_length-le}
@@ -11,8 +11,8 @@ use Rattle.std.specs.List.{swap}
 use Rattle.wasmi_arena.specs.Geometry.{size, start, max_len, IsPlace, IsFewest, fewest, room}
 use Rattle.wasmi_arena.specs.Bucket.{Bucket}
 use Rattle.wasmi_arena.specs.StableVec.{bucket_at}
-use Rattle.wasmi_arena.specs.Table.{items_of, items_in, bucket_with, bucket_cut, with_item, write, bucket_from, IsTable, AreFilled, IsLaidOut, IsAhead}
-use Rattle.wasmi_arena.proofs.Geometry.{start-size, size-suc, start_mono, start_below, fewest_is, fewest_is_least, fewest_of_none, fewest_of_place, below_of_start, place-next}
+use Rattle.wasmi_arena.specs.Table.{items_of, items_in, bucket_filled, bucket_with, bucket_cut, with_item, write, bucket_from, IsTable, AreFilled, IsLaidOut, IsAhead}
+use Rattle.wasmi_arena.proofs.Geometry.{start-size, size-suc, size_pos, start_mono, start_below, fewest_is, fewest_is_least, fewest_of_none, fewest_of_place, below_of_start, place-next}
 use Rattle.wasmi_arena.proofs.Table.{get_or-IsTable, items_of-IsTable, IsTable-set, IsTable-write, IsTable-cut, IsTable-take, AreFilled-take, IsTable-none}
 
 module _ {T : Type 0} where
@@ -90,6 +90,9 @@ module _ {T : Type 0} where
     -- the open buckets have a slot for each item
     pub length-le_slots : length (items_of buckets) ≤ start (fewest len)
     length-le_slots = rw (← v.items_counted) IsFewest-len.enough
+
+    pub len-le_slots : len ≤ slots
+    len-le_slots = rw (v.slots_counted, v.fewest_open) IsFewest-len.enough
 
     pub slots-le_max : slots ≤ max_len
     slots-le_max = rw v.slots_counted (start_mono open_buckets 27 open-le_27)
@@ -183,27 +186,42 @@ module _ {T : Type 0} where
       pub slice_get-slot : slice_get (items_in (get_or buckets b None)) s ≡ slice_get (items_of buckets) i
       slice_get-slot = rw items_in-place (slice_get-take_drop (items_of buckets) (start b) (size b) s i place.slot_exists place.index_is (rw (← v.items_counted) below))
 
-    -- one more item goes to its slot
-    module _ (b s : ℕ) (place : IsPlace len b s) where
-      IsTable-push : (item : T) → IsTable 32 (items_of buckets ++ item ∷ []) (set buckets b (bucket_with (size b) (get_or buckets b None) item))
-      IsTable-push item = IsTable-set 32 b (items_of buckets) buckets item (lit< tt) v.table (rw v.buckets_counted place.bucket_exists)
-          (omega (arith, start-size b, v.items_counted, place.index_is)) (omega (arith, start-size b, size-suc b, v.items_counted, place.index_is, place.slot_exists))
+    -- more items go to the slots of a bucket, from a place on
+    module _ (b s : ℕ) (place : IsPlace len b s) (more : List T) (some : 0 < length more) (fits : s + length more ≤ size b) where
+      IsTable-append : IsTable 32 (items_of buckets ++ more) (set buckets b (bucket_filled (size b) (get_or buckets b None) more))
+      IsTable-append = IsTable-set 32 b (items_of buckets) buckets more (lit< tt) some v.table (rw v.buckets_counted place.bucket_exists)
+          (omega (arith, start-size b, v.items_counted, place.index_is)) (omega (arith, start-size b, size-suc b, v.items_counted, place.index_is, fits))
 
-      pub items_of-push : (item : T) → items_of (set buckets b (bucket_with (size b) (get_or buckets b None) item)) ≡ items_of buckets ++ item ∷ []
-      items_of-push item = items_of-IsTable 32 (items_of buckets ++ item ∷ []) (set buckets b (bucket_with (size b) (get_or buckets b None) item)) (IsTable-push item)
+      pub items_of-append : items_of (set buckets b (bucket_filled (size b) (get_or buckets b None) more)) ≡ items_of buckets ++ more
+      items_of-append = items_of-IsTable 32 (items_of buckets ++ more) (set buckets b (bucket_filled (size b) (get_or buckets b None) more)) IsTable-append
 
-      len-push : len + 1 ≤ max_len
-      len-push = omega (arith, start_below b 27 place.bucket_exists, place.index_is, place.slot_exists)
+      len-append : len + length more ≤ max_len
+      len-append = omega (arith, start_below b 27 place.bucket_exists, place.index_is, fits)
 
-      pub IsLaidOut-push : (item : T) → IsLaidOut (set buckets b (bucket_with (size b) (get_or buckets b None) item)) (b + 1) (start (b + 1)) (len + 1)
-      IsLaidOut-push item = record {
-        buckets_counted = length-set buckets b (bucket_with (size b) (get_or buckets b None) item) ∙ v.buckets_counted;
-        table = rw (items_of-push item) (IsTable-push item);
-        items_counted = rw (items_of-push item) (omega (arith, length-append (items_of buckets) (item ∷ []), v.items_counted));
-        few_items = len-push;
-        fewest_open = sym (fewest_is len-push (fewest_of_place place));
+      -- the last of them is in that bucket too
+      fewest-append : fewest (len + length more) ≡ b + 1
+      fewest-append =
+          let last : IsPlace (len + length more - 1) b (s + length more - 1) = record { bucket_exists = place.bucket_exists; slot_exists = omega (arith, some, fits); index_is = omega (arith, some, place.index_is) } in
+          let end : len + length more - 1 + 1 ≡ len + length more = omega (arith, some) in
+          fewest_is len-append (subst (λ (n : ℕ). IsFewest n (b + 1)) end (fewest_of_place last))
+
+      pub IsLaidOut-append : IsLaidOut (set buckets b (bucket_filled (size b) (get_or buckets b None) more)) (b + 1) (start (b + 1)) (len + length more)
+      IsLaidOut-append = record {
+        buckets_counted = length-set buckets b (bucket_filled (size b) (get_or buckets b None) more) ∙ v.buckets_counted;
+        table = rw items_of-append IsTable-append;
+        items_counted = rw items_of-append (omega (arith, length-append (items_of buckets) more, v.items_counted));
+        few_items = len-append;
+        fewest_open = sym fewest-append;
         slots_counted = refl;
       }
+
+    -- one more item goes to its slot
+    module _ (b s : ℕ) (place : IsPlace len b s) where
+      pub items_of-push : (item : T) → items_of (set buckets b (bucket_with (size b) (get_or buckets b None) item)) ≡ items_of buckets ++ item ∷ []
+      items_of-push item = items_of-append b s place (item ∷ []) (omega arith) (omega (arith, place.slot_exists))
+
+      pub IsLaidOut-push : (item : T) → IsLaidOut (set buckets b (bucket_with (size b) (get_or buckets b None) item)) (b + 1) (start (b + 1)) (len + 1)
+      IsLaidOut-push item = IsLaidOut-append b s place (item ∷ []) (omega arith) (omega (arith, place.slot_exists))
 
       -- its slot is the first free one of its bucket
       pub first_free : s ≡ length (items_in (get_or buckets b None))
@@ -213,6 +231,21 @@ module _ {T : Type 0} where
       -- and its size, if it is open
       pub open_size : (bucket : Bucket T) → get_or buckets b None ≡ Some bucket → bucket.capacity ≡ size b
       open_size bucket is = bucket_from-capacity (size b) (drop (start b) (items_of buckets)) bucket (sym (get_or-buckets b place.bucket_exists) ∙ is)
+
+      -- in the last of the open buckets, more items go to its free slots
+      module _ (last : b + 1 ≡ open_buckets) where
+        slots-end : slots ≡ start b + size b
+        slots-end = v.slots_counted ∙ ap start (sym last ∙ add-one b)
+
+        pub fits-last : (more : ℕ) → more ≤ slots - len → s + more ≤ size b
+        fits-last more free = omega (arith, slots-end, len-le_slots, place.index_is)
+
+        module _ (more : List T) (some : 0 < length more) (free : length more ≤ slots - len) where
+          pub items_of-fill : items_of (set buckets b (bucket_filled (size b) (get_or buckets b None) more)) ≡ items_of buckets ++ more
+          items_of-fill = items_of-append b s place more some (fits-last (length more) free)
+
+          pub IsLaidOut-fill : IsLaidOut (set buckets b (bucket_filled (size b) (get_or buckets b None) more)) open_buckets slots (len + length more)
+          IsLaidOut-fill = rw (v.slots_counted, ← last) (IsLaidOut-append b s place more some (fits-last (length more) free))
 
       -- among the open buckets, it is open
       pub place-open : b < open_buckets → IsSome (get_or buckets b None)
@@ -273,12 +306,20 @@ module _ {T : Type 0} where
         get_or-full = get_or-buckets open_buckets place-full.bucket_exists
             ∙ ap (bucket_from (size open_buckets)) (drop_of_length-le (items_of buckets) {i = start open_buckets} (rw v.fewest_open length-le_slots))
 
-        -- and is opened for it
+        -- and is opened for them
+        module _ (more : List T) (some : 0 < length more) (fits : length more ≤ size open_buckets) where
+          pub items_of-open_next_with : items_of (set buckets open_buckets (bucket_filled (size open_buckets) None more)) ≡ items_of buckets ++ more
+          items_of-open_next_with = subst (λ (b : Option (Bucket T)). items_of (set buckets open_buckets (bucket_filled (size open_buckets) b more)) ≡ items_of buckets ++ more) get_or-full (items_of-append open_buckets 0 place-full more some (omega (arith, fits)))
+
+          pub IsLaidOut-open_next_with : IsLaidOut (set buckets open_buckets (bucket_filled (size open_buckets) None more)) (open_buckets + 1) (start (open_buckets + 1)) (len + length more)
+          IsLaidOut-open_next_with = subst (λ (b : Option (Bucket T)). IsLaidOut (set buckets open_buckets (bucket_filled (size open_buckets) b more)) (open_buckets + 1) (start (open_buckets + 1)) (len + length more)) get_or-full (IsLaidOut-append open_buckets 0 place-full more some (omega (arith, fits)))
+
+        -- or for one
         pub items_of-open_next : (item : T) → items_of (set buckets open_buckets (bucket_with (size open_buckets) None item)) ≡ items_of buckets ++ item ∷ []
-        items_of-open_next item = subst (λ (b : Option (Bucket T)). items_of (set buckets open_buckets (bucket_with (size open_buckets) b item)) ≡ items_of buckets ++ item ∷ []) get_or-full (items_of-push open_buckets 0 place-full item)
+        items_of-open_next item = items_of-open_next_with (item ∷ []) (omega arith) (omega (arith, size_pos open_buckets))
 
         pub IsLaidOut-open_next : (item : T) → IsLaidOut (set buckets open_buckets (bucket_with (size open_buckets) None item)) (open_buckets + 1) (start (open_buckets + 1)) (len + 1)
-        IsLaidOut-open_next item = subst (λ (b : Option (Bucket T)). IsLaidOut (set buckets open_buckets (bucket_with (size open_buckets) b item)) (open_buckets + 1) (start (open_buckets + 1)) (len + 1)) get_or-full (IsLaidOut-push open_buckets 0 place-full item)
+        IsLaidOut-open_next item = IsLaidOut-open_next_with (item ∷ []) (omega arith) (omega (arith, size_pos open_buckets))
 
   -- which of two items is named first makes no difference to their exchange
   pub swap-comm : (items : List T) (i j : ℕ) → i ≢ j → swap items i j ≡ swap items j i

@@ -10,7 +10,7 @@ use Rattle.std.specs.Borrow.{Bor}
 use Rattle.std.specs.Slice.Iter.{iter_rest, iter_steps, iter_steps_back}
 use Rattle.std.specs.declared.slice.Iter.{Iter}
 use Rattle.wasmi_arena.specs.Bucket.{Bucket}
-use Rattle.wasmi_arena.specs.Table.{items_of, bucket_with, bucket_cut, with_item, write, bucket_from, IsTable, AreFilled, IsAhead}
+use Rattle.wasmi_arena.specs.Table.{items_of, bucket_filled, bucket_cut, with_item, write, bucket_from, IsTable, AreFilled, IsAhead}
 
 -- twice the width before is the width after
 mul-pow_suc : (width b : ℕ) → width * 2 ^ suc b ≡ 2 * width * 2 ^ b
@@ -48,35 +48,37 @@ module _ {T : Type 0} where
   IsTable-none width (bucket ∷ buckets) empty =
       (empty 0 (omega arith), rw (drop-nil {A = T} width) (IsTable-none (2 * width) buckets (λ b below. empty (suc b) (omega arith))))
 
-  -- the bucket that is not full yet takes one more item
-  bucket_from-append_low : (width : ℕ) (items : List T) (item : T) → length items < width → bucket_from width (items ++ item ∷ []) ≡ bucket_with width (bucket_from width items) item
-  bucket_from-append_low width [] item low = ap (λ (xs : List T). Some record { items = xs; capacity = width }) (take_all width (item ∷ []) (omega arith))
-  bucket_from-append_low width (x ∷ xs) item low =
-      let all = take_all width (x ∷ xs ++ item ∷ []) (omega (arith, length-append xs (item ∷ []))) in
+  -- the bucket that is not full yet takes more items
+  bucket_from-append_low : (width : ℕ) (items more : List T) → 0 < length more → length items + length more ≤ width → bucket_from width (items ++ more) ≡ bucket_filled width (bucket_from width items) more
+  bucket_from-append_low width [] [] some low = absurd (omega arith)
+  bucket_from-append_low width [] (y ∷ ys) some low = ap (λ (xs : List T). Some record { items = xs; capacity = width }) (take_all width (y ∷ ys) (omega arith))
+  bucket_from-append_low width (x ∷ xs) more some low =
+      let all = take_all width (x ∷ xs ++ more) (omega (arith, length-append xs more)) in
       let before = take_all width (x ∷ xs) (omega arith) in
-      ap (λ (ys : List T). Some record { items = ys; capacity = width }) (all ∙ ap (λ (ys : List T). ys ++ item ∷ []) (sym before))
+      ap (λ (ys : List T). Some record { items = ys; capacity = width }) (all ∙ ap (λ (ys : List T). ys ++ more) (sym before))
 
   -- a bucket that is full stays as it is
-  bucket_from-append_full : (width : ℕ) (items : List T) (item : T) → 0 < width → width ≤ length items → bucket_from width (items ++ item ∷ []) ≡ bucket_from width items
-  bucket_from-append_full width [] item pos high = absurd (omega arith)
-  bucket_from-append_full width (x ∷ xs) item pos high = ap (λ (ys : List T). Some record { items = ys; capacity = width }) (take-append-le width (x ∷ xs) (item ∷ []) high)
+  bucket_from-append_full : (width : ℕ) (items more : List T) → 0 < width → width ≤ length items → bucket_from width (items ++ more) ≡ bucket_from width items
+  bucket_from-append_full width [] more pos high = absurd (omega arith)
+  bucket_from-append_full width (x ∷ xs) more pos high = ap (λ (ys : List T). Some record { items = ys; capacity = width }) (take-append-le width (x ∷ xs) more high)
 
-  -- one more item goes to the end of the first bucket that is not full
-  pub IsTable-set : (width b : ℕ) (items : List T) (buckets : List (Option (Bucket T))) (item : T) → 0 < width → IsTable width items buckets → b < length buckets → width * 2 ^ b ≤ length items + width → length items + width < width * 2 ^ suc b → IsTable width (items ++ item ∷ []) (set buckets b (bucket_with (width * 2 ^ b) (get_or buckets b None) item))
-  IsTable-set width b items [] item pos table below low high = absurd (omega arith)
-  IsTable-set width zero items (bucket ∷ buckets) item pos table below low high =
+  -- more items, for which there are slots, go to the end of the first bucket that is not full
+  pub IsTable-set : (width b : ℕ) (items : List T) (buckets : List (Option (Bucket T))) (more : List T) → 0 < width → 0 < length more → IsTable width items buckets → b < length buckets → width * 2 ^ b ≤ length items + width
+      → length items + length more + width ≤ width * 2 ^ suc b → IsTable width (items ++ more) (set buckets b (bucket_filled (width * 2 ^ b) (get_or buckets b None) more))
+  IsTable-set width b items [] more pos some table below low high = absurd (omega arith)
+  IsTable-set width zero items (bucket ∷ buckets) more pos some table below low high =
       let one : width * 2 ^ 0 ≡ width = omega arith in
-      let few : length items < width = omega (arith, mul-pow_suc width 0) in
+      let few : length items + length more ≤ width = omega (arith, mul-pow_suc width 0) in
       let rest = table.1 in
       let none = drop_of_length-le items {i = width} (omega arith) in
-      let still = drop_of_length-le (items ++ item ∷ []) {i = width} (omega (arith, length-append items (item ∷ []))) in
-      (rw (one, table.0) (sym (bucket_from-append_low width items item few)), rw (still ∙ sym none) rest)
-  IsTable-set width (suc b) items (bucket ∷ buckets) item pos table below low high =
+      let still = drop_of_length-le (items ++ more) {i = width} (omega (arith, length-append items more)) in
+      (rw (one, table.0) (sym (bucket_from-append_low width items more some few)), rw (still ∙ sym none) rest)
+  IsTable-set width (suc b) items (bucket ∷ buckets) more pos some table below low high =
       let whole : 2 * width * 2 ^ b ≡ width * 2 ^ suc b = sym (mul-pow_suc width b) in
-      let more : width ≤ length items = omega (arith, whole, mul-le-mul_left (2 * width) (pow_pos b)) in
+      let enough : width ≤ length items = omega (arith, whole, mul-le-mul_left (2 * width) (pow_pos b)) in
       let left = length-drop width items in
-      let rest = IsTable-set (2 * width) b (drop width items) buckets item (omega arith) table.1 (omega arith) (omega arith) (omega (arith, mul-pow_suc width (suc b))) in
-      (table.0 ∙ sym (bucket_from-append_full width items item pos more), rw (drop-append-le width items (item ∷ []) more) (rw whole at rest))
+      let rest = IsTable-set (2 * width) b (drop width items) buckets more (omega arith) some table.1 (omega arith) (omega arith) (omega (arith, mul-pow_suc width (suc b))) in
+      (table.0 ∙ sym (bucket_from-append_full width items more pos enough), rw (drop-append-le width items more enough) (rw whole at rest))
 
   -- an item of the bucket is exchanged
   bucket_from-some : (width : ℕ) (items : List T) → 0 < length items → bucket_from width items ≡ Some record { items = take width items; capacity = width }

@@ -1,8 +1,8 @@
 -- How a stable vector lays out its items: in a table of buckets, each open or not. No public clause
 -- cites this module.
 use Rattle.std.specs.Prelude.{◌≡◌, ℕ, zero, suc, ◌+◌, ◌*◌, ◌<◌, ◌≤◌, List, [], ◌∷◌, ◌++◌, length, take, drop, slice_set, slice_index_or, Option, Some, None}
-use Rattle.std.specs.List.{refill}
-use Rattle.wasmi_arena.specs.Geometry.{start, max_len, fewest}
+use Rattle.std.specs.List.{All, refill}
+use Rattle.wasmi_arena.specs.Geometry.{size, start, max_len, fewest}
 use Rattle.wasmi_arena.specs.Bucket.{Bucket}
 
 module _ {T : Type 0} where
@@ -17,10 +17,20 @@ module _ {T : Type 0} where
   items_in None = []
   items_in (Some bucket) = bucket.items
 
+  -- a bucket of so many slots after more items at its end
+  abbrev pub bucket_filled : ℕ → Option (Bucket T) → List T → Option (Bucket T)
+  bucket_filled capacity bucket items =
+      Some record { items = items_in bucket ++ items; capacity = capacity }
+
+  -- so many items went to the end of bucket b, and `P` holds of each
+  abbrev pub FillsBucket : (T → Type 0) → ℕ → ℕ → List (Option (Bucket T)) → List (Option (Bucket T)) → Type 0
+  FillsBucket P amount b old new =
+      (made : List T) × (new ≡ slice_set old b (bucket_filled (size b) (slice_index_or old b None) made))
+      × (length made ≡ amount) × All P made
+
   -- a bucket of so many slots after one more item at its end
   abbrev pub bucket_with : ℕ → Option (Bucket T) → T → Option (Bucket T)
-  bucket_with capacity bucket item =
-      Some record { items = items_in bucket ++ item ∷ []; capacity = capacity }
+  bucket_with capacity bucket item = bucket_filled capacity bucket (item ∷ [])
 
   -- a bucket that keeps the items before a slot, and is closed where there are none
   abbrev pub bucket_cut : Option (Bucket T) → ℕ → Option (Bucket T)

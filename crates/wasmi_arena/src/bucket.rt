@@ -4,6 +4,7 @@ ghost use Rattle.std.specs.Borrow.{sem};
 ghost use Rattle.std.specs.Mem.{type_size};
 ghost use Rattle.wasmi_arena.specs.Bucket.{bucket};
 
+mod fill;
 mod taken;
 
 use crate::block::{BlockPtr, DeallocRight, Slots, allocate, without_block};

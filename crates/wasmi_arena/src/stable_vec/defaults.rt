@@ -1,12 +1,13 @@
 //! Adding many default values to a stable vector, all or none.
-ghost use Rattle.std.specs.Prelude.{◌≡◌, ◌+◌, ◌<◌, ◌≤◌, ℕ, [], ◌∷◌, ◌++◌, length, slice_index_or, slice_set, IsOk, IsSome, OnOk, OnErr, IsOkUnless, Some, None};
+ghost use Rattle.std.specs.Prelude.{◌≡◌, ◌+◌, ◌<◌, ◌≤◌, ℕ, min, ◌++◌, length, slice_index_or, slice_set, IsOk, IsSome, OnOk, OnErr, IsOkUnless, Some, None};
 ghost use Rattle.std.specs.Mem.{type_size};
+ghost use Rattle.std.specs.Option.{ForSome};
 ghost use Rattle.wasmi_arena.specs.Geometry.{size, max_len, fewest, room};
-ghost use Rattle.wasmi_arena.specs.Bucket.{bucket};
 ghost use Rattle.wasmi_arena.specs.Growth.{AppendsMany};
 ghost use Rattle.wasmi_arena.specs.Apart.{AreOpenApart};
+ghost use Rattle.wasmi_arena.specs.Table.{items_in, FillsBucket};
 
-use super::{BUCKETS, start_of};
+use super::{BUCKETS, place_in_last, start_of};
 use crate::{ArenaError, Bucket, BucketTable, StableVec};
 use std::alloc::Allocator;
 use std::array;
@@ -34,7 +35,6 @@ fn open_apart<T: Drop, A: Allocator + Clone>(
     requires exist { last ≤ 27 }
     ensures open { OnOk result (AreOpenApart buckets.new first last) }
     ensures errors { IsOkUnless result ArenaError.OutOfSystemMemory }
-    ensures none { last ≤ first → IsOk result }
     ensures without_size { type_size T.row ≡ 0 → A.is_infallible alloc.now → IsOk result }
 {
     for bucket in first..last {
@@ -57,39 +57,77 @@ fn take_bucket<T, A: Allocator>(buckets: &mut [Option<Bucket<T, A>>], bucket: us
     }
 }
 
+// Fills `amount` slots of an open bucket with values of `T::default()`, from `place` on, which is its first
+// free one.
+fn fill_bucket<T: Default, A: Allocator>(
+    buckets: &mut [Option<Bucket<T, A>>],
+    place: (usize, usize),
+    amount: usize,
+)
+    requires in_table { place.0 < length buckets.old }
+    requires open { IsSome (slice_index_or buckets.old place.0 None) }
+    requires slot { place.1 ≡ length (items_in (slice_index_or buckets.old place.0 None)) }
+    requires free { place.1 + amount ≤ size place.0 }
+    requires capacity { ForSome (slice_index_or buckets.old place.0 None)
+        (λ b. b.capacity ≡ size place.0) }
+    ensures { FillsBucket T.is_default amount place.0 buckets.old buckets.new }
+{
+    match &mut buckets[place.0] {
+        Some(open) => open.push_defaults(place.1, amount),
+        None => unreachable!(),
+    }
+}
+
 impl<T: Drop, A: Allocator + Clone> StableVec<T, A> {
-    // Puts `value` at the end where no slot is free. `next`, the next bucket, is moved in for it.
-    fn push_into(&mut self, mut next: Bucket<T, A>, value: T)
-        requires below { length self.old < max_len }
+    // Puts `next`, which holds `amount` items, behind the other buckets, of which none has a free slot.
+    pub(super) fn append_bucket(&mut self, next: Bucket<T, A>, amount: usize)
         requires full { room (length self.old) ≡ 0 }
-        requires next { next ≡ bucket [] (size (fewest (length self.old))) }
-        ensures { self.new ≡ self.old ++ value ∷ [] }
+        requires below { length self.old + amount ≤ max_len }
+        requires some { 0 < amount }
+        requires fits { amount ≤ size (fewest (length self.old)) }
+        requires items { amount ≡ length next.items }
+        requires capacity { next.capacity ≡ size (fewest (length self.old)) }
+        ensures { self.new ≡ self.old ++ next.items }
     {
-        next.push(0, value);
         let place = self.table.bucket_mut(self.open_buckets);
         *place = Some(next);
         self.open_buckets += 1;
         self.slots = start_of(self.open_buckets);
-        self.len += 1;
+        self.len += amount;
     }
 }
 
 impl<T: Default + Drop, A: Allocator + Clone> StableVec<T, A> {
+    // Fills free slots of the last bucket with values of `T::default()`, at most `amount` of them, and
+    // returns how many.
+    fn fill_last(&mut self, amount: usize) -> usize
+        ensures filled { result ≡ min amount (room (length self.old)) }
+        ensures items { AppendsMany T.is_default result self.old self.new }
+    {
+        let filled = amount.min(self.slots - self.len);
+        if filled == 0 {
+            return 0;
+        }
+        let place = place_in_last(self.len, self.open_buckets, self.slots);
+        fill_bucket(&mut self.table.buckets[..], place, filled);
+        self.len += filled;
+        filled
+    }
+
     // Pushes `amount` values of `T::default()`, with the buckets in `apart`.
     fn fill_from(&mut self, apart: &mut [Option<Bucket<T, A>>], amount: usize)
         requires below { length self.old + amount ≤ max_len }
         requires apart { AreOpenApart apart.old (fewest (length self.old)) (fewest (length self.old + amount)) }
         ensures { AppendsMany T.is_default amount self.old self.new }
     {
-        for _ in 0..amount {
-            let value = T::default();
-            if self.room() > 0 {
-                // A free slot takes no memory.
-                let _pushed = self.push(value);
-                continue;
-            }
-            let next = take_bucket(apart, self.open_buckets());
-            self.push_into(next, value);
+        let mut left = amount - self.fill_last(amount);
+        while left > 0 {
+            // No slot is free.
+            let mut next = take_bucket(apart, self.open_buckets());
+            let filled = left.min(next.capacity());
+            next.push_defaults(0, filled);
+            self.append_bucket(next, filled);
+            left -= filled;
         }
     }
 
@@ -105,6 +143,10 @@ impl<T: Default + Drop, A: Allocator + Clone> StableVec<T, A> {
         ensures without_size { type_size T.row ≡ 0 → ((a : A) → A.is_infallible a) → IsOk result }
         ensures err { OnErr result (self.new ≡ self.old) }
     {
+        if amount <= self.room() {
+            let _filled = self.fill_last(amount);
+            return Ok(());
+        }
         let needed = buckets_for(self.len + amount);
         let mut apart: BucketTable<T, A, BUCKETS> = BucketTable {
             buckets: array::from_fn(|_| None),
