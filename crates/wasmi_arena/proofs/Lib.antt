@@ -14,6 +14,7 @@ pub mod Taken
 pub mod Compared
 pub mod Growth
 pub mod Apart
+pub mod Cloned
 pub mod Passed
 pub mod SlotRuns
 pub mod Frame

@@ -1,10 +1,11 @@
 //! Calls that fill many slots of a bucket. Each is one loop, which has the block's pointer and the slot in
 //! hand; the bucket's length is stored at its end.
-ghost use Rattle.std.specs.Prelude.{◌≡◌, ◌+◌, ◌<◌, ◌≤◌, length};
+ghost use Rattle.std.specs.Prelude.{◌≡◌, ◌+◌, ◌≤◌, [], length, IsOk, OnOk};
+ghost use Rattle.std.specs.List.{All, AllZip};
 ghost use Rattle.wasmi_arena.specs.Growth.{AppendsMany};
 
 use super::Bucket;
-use std::alloc::Allocator;
+use std::alloc::{AllocError, Allocator};
 
 impl<T, A: Allocator> Bucket<T, A> {
     // Puts `amount` values of `T::default()` into the first free slots, from `slot` on. No allocation.
@@ -21,5 +22,29 @@ impl<T, A: Allocator> Bucket<T, A> {
             self.slots.write(ptr, slot + filled, T::default());
         }
         self.len = slot + amount;
+    }
+
+    // Puts clones of these items into the first slots. After a refusal the clones that were made are in.
+    pub(crate) fn push_clones(&mut self, items: &[T]) -> Result<(), AllocError>
+    where
+        T: Clone,
+        requires empty { self.old.items ≡ [] }
+        requires free { length items.now ≤ self.old.capacity }
+        ensures items { OnOk result (AllZip T.is_clone items.now self.new.items) }
+        ensures capacity { self.new.capacity ≡ self.old.capacity }
+        ensures infallible { All T.is_infallible items.now → IsOk result }
+    {
+        let ptr = self.ptr;
+        for (slot, item) in items.iter().enumerate() {
+            match item.clone() {
+                Ok(clone) => self.slots.write(ptr, slot, clone),
+                Err(refused) => {
+                    self.len = slot;
+                    return Err(refused);
+                }
+            }
+        }
+        self.len = items.len();
+        Ok(())
     }
 }

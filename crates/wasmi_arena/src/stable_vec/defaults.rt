@@ -1,5 +1,5 @@
 //! Adding many default values to a stable vector, all or none.
-ghost use Rattle.std.specs.Prelude.{◌≡◌, ◌+◌, ◌<◌, ◌≤◌, ℕ, min, ◌++◌, length, slice_index_or, slice_set, IsOk, IsSome, OnOk, OnErr, IsOkUnless, Some, None};
+ghost use Rattle.std.specs.Prelude.{◌≡◌, ◌+◌, ◌<◌, ◌≤◌, ℕ, min, length, slice_index_or, slice_set, IsOk, IsSome, OnOk, OnErr, IsOkUnless, Some, None};
 ghost use Rattle.std.specs.Mem.{type_size};
 ghost use Rattle.std.specs.Option.{ForSome};
 ghost use Rattle.wasmi_arena.specs.Geometry.{size, max_len, fewest, room};
@@ -7,7 +7,7 @@ ghost use Rattle.wasmi_arena.specs.Growth.{AppendsMany};
 ghost use Rattle.wasmi_arena.specs.Apart.{AreOpenApart};
 ghost use Rattle.wasmi_arena.specs.Table.{items_in, FillsBucket};
 
-use super::{BUCKETS, place_in_last, start_of};
+use super::{BUCKETS, place_in_last};
 use crate::{ArenaError, Bucket, BucketTable, StableVec};
 use std::alloc::Allocator;
 use std::array;
@@ -75,25 +75,6 @@ fn fill_bucket<T: Default, A: Allocator>(
     match &mut buckets[place.0] {
         Some(open) => open.push_defaults(place.1, amount),
         None => unreachable!(),
-    }
-}
-
-impl<T: Drop, A: Allocator + Clone> StableVec<T, A> {
-    // Puts `next`, which holds `amount` items, behind the other buckets, of which none has a free slot.
-    pub(super) fn append_bucket(&mut self, next: Bucket<T, A>, amount: usize)
-        requires full { room (length self.old) ≡ 0 }
-        requires below { length self.old + amount ≤ max_len }
-        requires some { 0 < amount }
-        requires fits { amount ≤ size (fewest (length self.old)) }
-        requires items { amount ≡ length next.items }
-        requires capacity { next.capacity ≡ size (fewest (length self.old)) }
-        ensures { self.new ≡ self.old ++ next.items }
-    {
-        let place = self.table.bucket_mut(self.open_buckets);
-        *place = Some(next);
-        self.open_buckets += 1;
-        self.slots = start_of(self.open_buckets);
-        self.len += amount;
     }
 }
 

@@ -1,12 +1,13 @@
 //! Calls that add several items to a stable vector, or make one of them.
-ghost use Rattle.std.specs.Prelude.{◌≡◌, List, [], IsOk, IfOk, OnOk, IfErr, IsOkUnless};
+ghost use Rattle.std.specs.Prelude.{◌≡◌, ◌+◌, ◌<◌, ◌≤◌, List, [], ◌++◌, length, IsOk, IfOk, OnOk, IfErr, IsOkUnless};
 ghost use Rattle.std.specs.List.{All, AllZip};
 ghost use Rattle.std.specs.Mem.{type_size};
 ghost use Rattle.std.specs.Iterator.{IsFiniteIterable};
-ghost use Rattle.wasmi_arena.specs.Geometry.{max_len};
+ghost use Rattle.wasmi_arena.specs.Geometry.{size, max_len, fewest, room};
 ghost use Rattle.wasmi_arena.specs.Growth.{TakesAll, TakesUntilRefused};
 
-use crate::{ArenaError, StableVec};
+use super::start_of;
+use crate::{ArenaError, Bucket, StableVec};
 use std::alloc::Allocator;
 
 impl<T: Drop, A: Allocator + Clone> StableVec<T, A> {
@@ -45,6 +46,25 @@ impl<T: Drop, A: Allocator + Clone> StableVec<T, A> {
     }
 }
 
+impl<T: Drop, A: Allocator + Clone> StableVec<T, A> {
+    // Puts `next`, which holds `amount` items, behind the other buckets, of which none has a free slot.
+    pub(super) fn append_bucket(&mut self, next: Bucket<T, A>, amount: usize)
+        requires full { room (length self.old) ≡ 0 }
+        requires below { length self.old + amount ≤ max_len }
+        requires some { 0 < amount }
+        requires fits { amount ≤ size (fewest (length self.old)) }
+        requires items { amount ≡ length next.items }
+        requires capacity { next.capacity ≡ size (fewest (length self.old)) }
+        ensures { self.new ≡ self.old ++ next.items }
+    {
+        let place = self.table.bucket_mut(self.open_buckets);
+        *place = Some(next);
+        self.open_buckets += 1;
+        self.slots = start_of(self.open_buckets);
+        self.len += amount;
+    }
+}
+
 impl<T: Clone, A: Allocator> StableVec<T, A> {
     /// A clone of each item, in order, in a vector over a clone of the allocator. Linear.
     ///
@@ -74,8 +94,11 @@ impl<T: Clone, A: Allocator> StableVec<T, A> {
         ensures empty { self.now ≡ [] → IsOk result }
     {
         let mut made = StableVec::new(alloc);
-        for item in self.iter() {
-            made.push(item.clone()?)?;
+        for part in self.slices() {
+            let capacity = StableVec::<T>::size_of_bucket_at(made.open_buckets());
+            let mut next = Bucket::open(made.alloc.clone()?, capacity)?;
+            next.push_clones(part)?;
+            made.append_bucket(next, part.len());
         }
         Ok(made)
     }
