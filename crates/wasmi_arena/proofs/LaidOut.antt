@@ -1,10 +1,10 @@
 -- What the fields of a stable vector tell, once they agree.
-use Rattle.std.proofs.Common.{◌≡◌, ◌≢◌, ℕ, suc, ◌+◌, ◌-◌, ◌*◌, ◌^◌, ◌<◌, ◌≤◌, List, [], ◌∷◌, ◌++◌, length, take, drop, get_or, set, Option, Some, None, cond, refl, sym, ◌∙◌, ap, subst, inl, inr, add-one, arith, lit<, length-append, append-nil, length-drop, slice_get, IsSome, IsSomeAnd}
+use Rattle.std.proofs.Common.{◌≡◌, ◌≢◌, ℕ, suc, ◌+◌, ◌-◌, ◌*◌, ◌^◌, ◌<◌, ◌≤◌, List, [], ◌∷◌, ◌++◌, length, take, drop, get_or, set, Option, Some, None, cond, refl, sym, ◌∙◌, ap, subst, inl, inr, add-one, add-zero, arith, lit<, length-append, append-nil, length-drop, slice_get, IsSome, IsSomeAnd}
 use Rattle.std.proofs.lemmas.Bool.{cases_lt, lt-ltb, le-ltb}
 use Rattle.std.proofs.Math.Nat.{lt_of_lt_of_le}
 use Rattle.std.proofs.Math.ListN.{length-set, drop_of_length-le}
 use Rattle.std.proofs.Math.Seq.{take-suc}
-use Rattle.std.proofs.lemmas.List.{set_comm, get_or_default, take_all, length-take, get_or-take, get_or-drop}
+use Rattle.std.proofs.lemmas.List.{set_comm, set-get_or, get_or_default, take_all, length-take, get_or-take, get_or-drop}
 use Rattle.std.proofs.lemmas.Option.{slice_get-get_or, slice_get_cases, get_or_from_slice_get}
 use Rattle.std.proofs.lemmas.List.Edits.{swap_is}
 use Rattle.std.specs.List.{swap}
@@ -240,12 +240,27 @@ module _ {T : Type 0} where
         pub fits-last : (more : ℕ) → more ≤ slots - len → s + more ≤ size b
         fits-last more free = omega (arith, slots-end, len-le_slots, place.index_is)
 
-        module _ (more : List T) (some : 0 < length more) (free : length more ≤ slots - len) where
-          pub items_of-fill : items_of (set buckets b (bucket_filled (size b) (get_or buckets b None) more)) ≡ items_of buckets ++ more
-          items_of-fill = items_of-append b s place more some (fits-last (length more) free)
+        pub free-last : (more : ℕ) → s + more ≤ size b → more ≤ slots - len
+        free-last more fits = omega (arith, slots-end, place.index_is)
 
-          pub IsLaidOut-fill : IsLaidOut (set buckets b (bucket_filled (size b) (get_or buckets b None) more)) open_buckets slots (len + length more)
-          IsLaidOut-fill = rw (v.slots_counted, ← last) (IsLaidOut-append b s place more some (fits-last (length more) free))
+        -- none leave it as it is
+        fill_none : set buckets b (bucket_filled (size b) (get_or buckets b None) []) ≡ buckets
+        fill_none =
+            let read : get_or buckets b None ≡ Some record { items = take (size b) (drop (start b) (items_of buckets)); capacity = size b } = elim (cases_lt (start b) len) [
+              | inl early ↦ get_or-open b place.bucket_exists early
+              | inr late ↦ absurd (let few = IsFewest-len.least b late in let is = v.fewest_open in omega arith)
+            ] in
+            let same : bucket_filled (size b) (get_or buckets b None) [] ≡ get_or buckets b None =
+                (rw read (ap (λ (xs : List T). Some record { items = xs; capacity = size b }) (append-nil (take (size b) (drop (start b) (items_of buckets)))))) in
+            ap (set buckets b) same ∙ set-get_or buckets b None
+
+        pub items_of-fill : (more : List T) → length more ≤ slots - len → items_of (set buckets b (bucket_filled (size b) (get_or buckets b None) more)) ≡ items_of buckets ++ more
+        items_of-fill [] free = ap items_of fill_none ∙ sym (append-nil (items_of buckets))
+        items_of-fill (x ∷ more) free = items_of-append b s place (x ∷ more) (omega arith) (fits-last (length (x ∷ more)) free)
+
+        pub IsLaidOut-fill : (more : List T) → length more ≤ slots - len → IsLaidOut (set buckets b (bucket_filled (size b) (get_or buckets b None) more)) open_buckets slots (len + length more)
+        IsLaidOut-fill [] free = rw (fill_none, add-zero) v
+        IsLaidOut-fill (x ∷ more) free = rw (v.slots_counted, ← last) (IsLaidOut-append b s place (x ∷ more) (omega arith) (fits-last (length (x ∷ more)) free))
 
       -- among the open buckets, it is open
       pub place-open : b < open_buckets → IsSome (get_or buckets b None)

@@ -15,6 +15,7 @@ pub mod Compared
 pub mod Growth
 pub mod Apart
 pub mod Cloned
+pub mod Yielded
 pub mod Passed
 pub mod SlotRuns
 pub mod Frame

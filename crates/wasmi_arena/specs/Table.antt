@@ -1,7 +1,7 @@
 -- How a stable vector lays out its items: in a table of buckets, each open or not. No public clause
 -- cites this module.
 use Rattle.std.specs.Prelude.{◌≡◌, ℕ, zero, suc, ◌+◌, ◌*◌, ◌<◌, ◌≤◌, List, [], ◌∷◌, ◌++◌, length, take, drop, slice_set, slice_index_or, Option, Some, None}
-use Rattle.std.specs.List.{All, refill}
+use Rattle.std.specs.List.{refill}
 use Rattle.wasmi_arena.specs.Geometry.{size, start, max_len, fewest}
 use Rattle.wasmi_arena.specs.Bucket.{Bucket}
 
@@ -22,11 +22,11 @@ module _ {T : Type 0} where
   bucket_filled capacity bucket items =
       Some record { items = items_in bucket ++ items; capacity = capacity }
 
-  -- so many items went to the end of bucket b, and `P` holds of each
-  abbrev pub FillsBucket : (T → Type 0) → ℕ → ℕ → List (Option (Bucket T)) → List (Option (Bucket T)) → Type 0
+  -- so many items went to the end of bucket b, of which `P` holds
+  abbrev pub FillsBucket : (List T → Type 0) → ℕ → ℕ → List (Option (Bucket T)) → List (Option (Bucket T)) → Type 0
   FillsBucket P amount b old new =
-      (made : List T) × (new ≡ slice_set old b (bucket_filled (size b) (slice_index_or old b None) made))
-      × (length made ≡ amount) × All P made
+      (more : List T) × (new ≡ slice_set old b (bucket_filled (size b) (slice_index_or old b None) more))
+      × (length more ≡ amount) × P more
 
   -- a bucket of so many slots after one more item at its end
   abbrev pub bucket_with : ℕ → Option (Bucket T) → T → Option (Bucket T)

@@ -1,8 +1,9 @@
 //! Calls that fill many slots of a bucket. Each is one loop, which has the block's pointer and the slot in
 //! hand; the bucket's length is stored at its end.
-ghost use Rattle.std.specs.Prelude.{◌≡◌, ◌+◌, ◌≤◌, [], length, IsOk, OnOk};
+ghost use Rattle.std.specs.Prelude.{◌≡◌, ◌+◌, ◌≤◌, [], length, IsOk, OnOk, IfSome};
+ghost use Rattle.std.specs.Iterator.{IsFinite, UpTo, size as count};
 ghost use Rattle.std.specs.List.{All, AllZip};
-ghost use Rattle.wasmi_arena.specs.Growth.{AppendsMany};
+ghost use Rattle.wasmi_arena.specs.Growth.{AppendsMany, TakesSome};
 
 use super::Bucket;
 use std::alloc::{AllocError, Allocator};
@@ -46,5 +47,35 @@ impl<T, A: Allocator> Bucket<T, A> {
         }
         self.len = items.len();
         Ok(())
+    }
+
+    // Moves items into the free slots, from `slot` on, until none is free or none comes. Returns how many
+    // went in, and the iterator if it may have more.
+    pub(crate) fn push_from<I: Iterator<Item = T>>(
+        &mut self,
+        slot: usize,
+        mut items: I,
+    ) -> (usize, Option<I>)
+        requires slot { slot ≡ length self.old.items }
+        requires can { I.can_next items × IsFinite (I.remaining items) }
+        ensures items { TakesSome I.next_gives items result.1 self.old.items self.new.items }
+        ensures filled { length self.old.items + result.0 ≡ length self.new.items }
+        ensures fits { length self.new.items ≤ self.old.capacity }
+        ensures capacity { self.new.capacity ≡ self.old.capacity }
+        ensures goes { IfSome result.1 (λ rest.
+            I.can_next rest × UpTo (I.remaining rest) (count (I.remaining items))) }
+    {
+        let (ptr, free) = (self.ptr, self.capacity - slot);
+        for filled in 0..free {
+            match items.next() {
+                Some(item) => self.slots.write(ptr, slot + filled, item),
+                None => {
+                    self.len = slot + filled;
+                    return (filled, None);
+                }
+            }
+        }
+        self.len = slot + free;
+        (free, Some(items))
     }
 }

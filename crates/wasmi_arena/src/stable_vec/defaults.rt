@@ -1,5 +1,6 @@
 //! Adding many default values to a stable vector, all or none.
 ghost use Rattle.std.specs.Prelude.{◌≡◌, ◌+◌, ◌<◌, ◌≤◌, ℕ, min, length, slice_index_or, slice_set, IsOk, IsSome, OnOk, OnErr, IsOkUnless, Some, None};
+ghost use Rattle.std.specs.List.{All};
 ghost use Rattle.std.specs.Mem.{type_size};
 ghost use Rattle.std.specs.Option.{ForSome};
 ghost use Rattle.wasmi_arena.specs.Geometry.{size, max_len, fewest, room};
@@ -70,7 +71,7 @@ fn fill_bucket<T: Default, A: Allocator>(
     requires free { place.1 + amount ≤ size place.0 }
     requires capacity { ForSome (slice_index_or buckets.old place.0 None)
         (λ b. b.capacity ≡ size place.0) }
-    ensures { FillsBucket T.is_default amount place.0 buckets.old buckets.new }
+    ensures { FillsBucket (All T.is_default) amount place.0 buckets.old buckets.new }
 {
     match &mut buckets[place.0] {
         Some(open) => open.push_defaults(place.1, amount),

@@ -1,16 +1,60 @@
 //! Calls that add several items to a stable vector, or make one of them.
-ghost use Rattle.std.specs.Prelude.{◌≡◌, ◌+◌, ◌<◌, ◌≤◌, List, [], ◌++◌, length, IsOk, IfOk, OnOk, IfErr, IsOkUnless};
+ghost use Rattle.std.specs.Prelude.{◌≡◌, ◌+◌, ◌<◌, ◌≤◌, List, [], ◌++◌, length, slice_index_or, IsSome, None, IfSome, IsOk, IfOk, OnOk, IfErr, IsOkUnless};
 ghost use Rattle.std.specs.List.{All, AllZip};
 ghost use Rattle.std.specs.Mem.{type_size};
-ghost use Rattle.std.specs.Iterator.{IsFiniteIterable};
-ghost use Rattle.wasmi_arena.specs.Geometry.{size, max_len, fewest, room};
-ghost use Rattle.wasmi_arena.specs.Growth.{TakesAll, TakesUntilRefused};
+ghost use Rattle.std.specs.Iterator.{IsFinite, IsFiniteIterable, UpTo, size as count};
+ghost use Rattle.std.specs.Option.{ForSome};
+ghost use Rattle.wasmi_arena.specs.Geometry.{size, max_len, fewest, slots, room};
+ghost use Rattle.wasmi_arena.specs.Growth.{Came, TakesAll, TakesSome, TakesUntilRefused};
+ghost use Rattle.wasmi_arena.specs.Table.{items_in, FillsBucket};
 
-use super::start_of;
+use super::{place_in_last, start_of};
 use crate::{ArenaError, Bucket, StableVec};
 use std::alloc::Allocator;
 
+// Moves items into the free slots of an open bucket, from `place` on, which is its first free one. Returns
+// how many went in, and the iterator if it may have more.
+fn fill_bucket_from<T, A: Allocator, I: Iterator<Item = T>>(
+    buckets: &mut [Option<Bucket<T, A>>],
+    place: (usize, usize),
+    items: I,
+) -> (usize, Option<I>)
+    requires in_table { place.0 < length buckets.old }
+    requires open { IsSome (slice_index_or buckets.old place.0 None) }
+    requires slot { place.1 ≡ length (items_in (slice_index_or buckets.old place.0 None)) }
+    requires capacity { ForSome (slice_index_or buckets.old place.0 None)
+        (λ b. b.capacity ≡ size place.0) }
+    requires can { I.can_next items × IsFinite (I.remaining items) }
+    ensures items { FillsBucket (Came I.next_gives items result.1) result.0 place.0 buckets.old buckets.new }
+    ensures fits { place.1 + result.0 ≤ size place.0 }
+    ensures goes { IfSome result.1 (λ rest.
+        I.can_next rest × UpTo (I.remaining rest) (count (I.remaining items))) }
+{
+    match &mut buckets[place.0] {
+        Some(open) => open.push_from(place.1, items),
+        None => unreachable!(),
+    }
+}
+
 impl<T: Drop, A: Allocator + Clone> StableVec<T, A> {
+    // Moves items into the free slots of the last bucket, until none is free or none comes, and returns the
+    // iterator if it may have more.
+    pub(crate) fn fill_last_from<I: Iterator<Item = T>>(&mut self, items: I) -> Option<I>
+        requires can { I.can_next items × IsFinite (I.remaining items) }
+        ensures items { TakesSome I.next_gives items result self.old self.new }
+        ensures within { length self.new ≤ slots (length self.old) }
+        ensures goes { IfSome result (λ rest.
+            I.can_next rest × UpTo (I.remaining rest) (count (I.remaining items))) }
+    {
+        if self.len == self.slots {
+            return Some(items);
+        }
+        let place = place_in_last(self.len, self.open_buckets, self.slots);
+        let (filled, rest) = fill_bucket_from(&mut self.table.buckets[..], place, items);
+        self.len += filled;
+        rest
+    }
+
     /// Pushes the items, one by one.
     ///
     /// Fails as the first [`push`](StableVec::push) that fails: the items before that one are in, and it
@@ -23,8 +67,13 @@ impl<T: Drop, A: Allocator + Clone> StableVec<T, A> {
         ensures without_size { type_size T.row ≡ 0 → ((a : A) → A.is_infallible a)
             → IsOkUnless result ArenaError.NotEnoughKeys }
     {
-        for item in iter {
+        let mut items = iter.into_iter();
+        while let Some(item) = items.next() {
             self.push(item)?;
+            match self.fill_last_from(items) {
+                Some(rest) => items = rest,
+                None => return Ok(()),
+            }
         }
         Ok(())
     }

@@ -27,16 +27,14 @@ fill_bucket-requires-clause-capacity g c = open_size _ _ _ _ c.self.invariant _ 
 pub invariant_of-self : goal.invariant_of-self
 invariant_of-self g c =
     let filled = c.fill_bucket.ensures in
-    rw (filled.1, ← filled.2) (IsLaidOut-fill _ _ _ _ c.self.invariant _ _ c.place_in_last-place.ensures.place c.place_in_last-place.ensures.last filled.0
-    (let some = c.if-filled-eq0.false in omega (arith, filled.2)) (omega (arith, filled.2, c.min-filled.ensures)))
+    rw (filled.1, ← filled.2) (IsLaidOut-fill _ _ _ _ c.self.invariant _ _ c.place_in_last-place.ensures.place c.place_in_last-place.ensures.last filled.0 (omega (arith, filled.2, c.min-filled.ensures)))
 
 pub returns-clause-items : goal.returns-clause-items
 returns-clause-items g c =
     let filled = c.fill_bucket.ensures in (
       filled.0,
       ap items_of filled.1
-      ∙ (items_of-fill _ _ _ _ c.self.invariant _ _ c.place_in_last-place.ensures.place c.place_in_last-place.ensures.last filled.0
-      (let some = c.if-filled-eq0.false in omega (arith, filled.2)) (omega (arith, filled.2, c.min-filled.ensures))
+      ∙ (items_of-fill _ _ _ _ c.self.invariant _ _ c.place_in_last-place.ensures.place c.place_in_last-place.ensures.last filled.0 (omega (arith, filled.2, c.min-filled.ensures))
       ∙ ap (λ xs. xs ++ filled.0) c.self.view_is),
       filled.2,
       filled.3,
