@@ -1,11 +1,11 @@
 //! Calls that add several items to a stable arena, or make one of them.
-ghost use Rattle.std.specs.Prelude.{◌≡◌, ◌+◌, ◌<◌, ◌≤◌, ◌↔◌, ◌⊎◌, List, [], length, IsOk, IfOk, OnOk, IfErr, OnErr, IsErrOf, IsOkUnless};
+ghost use Rattle.std.specs.Prelude.{◌≡◌, ◌+◌, ◌<◌, ◌≤◌, ◌↔◌, ◌⊎◌, List, [], length, IfSome, IsOk, IfOk, OnOk, IfErr, OnErr, IsErrOf, IsOkUnless};
 ghost use Rattle.std.specs.List.{All, AllZip};
 ghost use Rattle.std.specs.Mem.{type_size};
-ghost use Rattle.std.specs.Iterator.{IsFiniteIterable};
+ghost use Rattle.std.specs.Iterator.{IsFinite, IsFiniteIterable, UpTo, size as count};
 ghost use Rattle.wasmi_arena.specs.Geometry.{max_len, room};
 ghost use Rattle.wasmi_arena.specs.Arena.{stable_limit};
-ghost use Rattle.wasmi_arena.specs.Growth.{TakesAll, TakesUntilRefused, AppendsMany};
+ghost use Rattle.wasmi_arena.specs.Growth.{TakesAll, TakesSome, TakesUntilRefused, AppendsMany};
 
 use crate::{ArenaError, ArenaKey, MAX_LEN, StableArena};
 use std::alloc::Allocator;
@@ -48,6 +48,21 @@ impl<Key: ArenaKey, T: Drop, A: Allocator + Clone> StableArena<Key, T, A> {
         Ok(start..end)
     }
 
+    // Moves items into the free slots of the last bucket, until none is free or none comes, and returns the
+    // iterator if it may have more. Where not each of these slots has a key, none is moved.
+    fn fill_last_from<I: Iterator<Item = T>>(&mut self, items: I) -> Option<I>
+        requires can { I.can_next items × IsFinite (I.remaining items) }
+        ensures items { TakesSome I.next_gives items result self.old self.new }
+        ensures goes { IfSome result (λ rest.
+            I.can_next rest × UpTo (I.remaining rest) (count (I.remaining items))) }
+    {
+        let slots = self.items.slots();
+        if slots == 0 || Key::from_usize(slots - 1).is_none() {
+            return Some(items);
+        }
+        self.items.fill_last_from(items)
+    }
+
     /// The items, put one by one into an empty arena. Linear.
     ///
     /// Fails as the first [`alloc`](StableArena::alloc) that fails, and then drops all items.
@@ -60,8 +75,13 @@ impl<Key: ArenaKey, T: Drop, A: Allocator + Clone> StableArena<Key, T, A> {
             → IsOkUnless result ArenaError.NotEnoughKeys }
     {
         let mut arena = StableArena::new(alloc);
-        for item in iter {
+        let mut items = iter.into_iter();
+        while let Some(item) = items.next() {
             arena.alloc(item)?;
+            match arena.fill_last_from(items) {
+                Some(rest) => items = rest,
+                None => return Ok(arena),
+            }
         }
         Ok(arena)
     }

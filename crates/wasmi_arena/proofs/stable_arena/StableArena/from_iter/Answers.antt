@@ -1,9 +1,15 @@
-use Rattle.std.proofs.Common.{length, inl, inr}
+use Rattle.std.proofs.Common.{arith, length, [], inl, inr}
 use Rattle.std.proofs.lemmas.Bool.{cases_lt}
 use Rattle.std.proofs.lemmas.Result.{err_from_is_err_and}
 use Rattle.wasmi_arena.specs.Arena.{stable_limit}
 use Rattle.wasmi_arena.proofs.Growth.{refuses_one_more}
+use Rattle.wasmi_arena.proofs.Yielded.{taken_none, taken_up_to, taken_more, taken_last, taken_all}
 use Rattle.wasmi_arena.proofs.stable_arena.StableArena.from_iter.Goals as goal
+
+pub loop-item-init : goal.loop-item-init
+loop-item-init g c =
+    let made = c.into_iter-items.ensures.into_iter_gives in let goes = c.requires c.into_iter-items.result made in
+    rw c.new-arena.ensures (taken_none g.U.IntoIterator.into_iter_gives g.U.IntoIter.Iterator.next_gives g.U.IntoIter.Iterator.can_next g.U.IntoIter.Iterator.remaining _ _ [] made goes.0 goes.1)
 
 pub returns-in_err-alloc-clause-err : goal.returns-in_err-alloc-clause-err
 returns-in_err-alloc-clause-err g c =
@@ -11,15 +17,7 @@ returns-in_err-alloc-clause-err g c =
     rw (failed.1, failed.2) (
       c.loop-item.arena,
       (
-        (
-          c.into_iter-item-iterator.result,
-          c.loop-item.yielded,
-          c.in-Some.item,
-          c.next.new.self,
-          c.into_iter-item-iterator.ensures.into_iter_gives,
-          (c.loop-item.item-iterator, c.loop-item.yielded_by, c.in-Some.ensures.steps),
-          c.loop-item.invariant.2,
-        ),
+        taken_up_to g.U.IntoIterator.into_iter_gives g.U.IntoIter.Iterator.next_gives g.U.IntoIter.Iterator.can_next g.U.IntoIter.Iterator.remaining _ _ _ _ c.loop-item.invariant _ _ c.in-Some.ensures.steps,
         refuses_one_more (stable_limit g.Key.ArenaKey.keys) (length c.loop-item.arena) c.in_err-alloc.field-0.0 refused.errors refused.no_key refused.memory,
       ),
     )
@@ -31,3 +29,21 @@ returns-in_err-alloc-clause-without_size g c = λ none infallible.
       | inl below ↦ let never = c.in_err-alloc.ensures.without_size below none infallible in cc
       | inr above ↦ let is = c.in_err-alloc.ensures.no_key.1 above in rw (failed.1, failed.2) cc
     ]
+
+pub loop-item-preserved : goal.loop-item-preserved
+loop-item-preserved g c =
+    let more = c.in-Some-fill_last_from.ensures in
+    taken_more g.U.IntoIterator.into_iter_gives g.U.IntoIter.Iterator.next_gives g.U.IntoIter.Iterator.can_next g.U.IntoIter.Iterator.remaining _ _ _ _ c.loop-item.invariant _ _ c.in-Some.ensures.steps _ _ c.in_ok-alloc.ensures.ok
+    c.in-Some-fill_last_from.rest more.items more.goes.0 more.goes.1.0
+
+pub loop-item-smaller : goal.loop-item-smaller
+loop-item-smaller g c =
+    let on = c.in-Some.ensures.goes.on c.loop-item.invariant.finite in let fewer = on.2 in let most = c.in-Some-fill_last_from.ensures.goes.1.1 in omega arith
+
+pub returns-clause-ok : goal.returns-clause-ok
+returns-clause-ok g c =
+    taken_all g.U.IntoIterator.into_iter_gives g.U.IntoIter.Iterator.next_gives g.U.IntoIter.Iterator.can_next g.U.IntoIter.Iterator.remaining _ _ _ _ c.loop-item.invariant _ c.in_default.ensures.steps
+
+pub returns-in-None-clause-ok : goal.returns-in-None-clause-ok
+returns-in-None-clause-ok g c =
+    taken_last g.U.IntoIterator.into_iter_gives g.U.IntoIter.Iterator.next_gives g.U.IntoIter.Iterator.can_next g.U.IntoIter.Iterator.remaining _ _ _ _ c.loop-item.invariant _ _ c.in-Some.ensures.steps _ _ c.in_ok-alloc.ensures.ok c.in-None.ensures.items
