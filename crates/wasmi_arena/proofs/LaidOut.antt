@@ -251,7 +251,7 @@ module _ {T : Type 0} where
               | inr late ↦ absurd (let few = IsFewest-len.least b late in let is = v.fewest_open in omega arith)
             ] in
             let same : bucket_filled (size b) (get_or buckets b None) [] ≡ get_or buckets b None =
-                (rw read (ap (λ (xs : List T). Some record { items = xs; capacity = size b }) (append-nil (take (size b) (drop (start b) (items_of buckets)))))) in
+            (rw read (ap (λ (xs : List T). Some record { items = xs; capacity = size b }) (append-nil (take (size b) (drop (start b) (items_of buckets)))))) in
             ap (set buckets b) same ∙ set-get_or buckets b None
 
         pub items_of-fill : (more : List T) → length more ≤ slots - len → items_of (set buckets b (bucket_filled (size b) (get_or buckets b None) more)) ≡ items_of buckets ++ more

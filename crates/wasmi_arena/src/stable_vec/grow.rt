@@ -37,6 +37,23 @@ fn fill_bucket_from<T, A: Allocator, I: Iterator<Item = T>>(
 }
 
 impl<T: Drop, A: Allocator + Clone> StableVec<T, A> {
+    // Puts `next`, which holds `amount` items, behind the other buckets, of which none has a free slot.
+    pub(super) fn append_bucket(&mut self, next: Bucket<T, A>, amount: usize)
+        requires full { room (length self.old) ≡ 0 }
+        requires below { length self.old + amount ≤ max_len }
+        requires some { 0 < amount }
+        requires fits { amount ≤ size (fewest (length self.old)) }
+        requires items { amount ≡ length next.items }
+        requires capacity { next.capacity ≡ size (fewest (length self.old)) }
+        ensures { self.new ≡ self.old ++ next.items }
+    {
+        let place = self.table.bucket_mut(self.open_buckets);
+        *place = Some(next);
+        self.open_buckets += 1;
+        self.slots = start_of(self.open_buckets);
+        self.len += amount;
+    }
+
     // Moves items into the free slots of the last bucket, until none is free or none comes, and returns the
     // iterator if it may have more.
     pub(crate) fn fill_last_from<I: Iterator<Item = T>>(&mut self, items: I) -> Option<I>
@@ -92,25 +109,6 @@ impl<T: Drop, A: Allocator + Clone> StableVec<T, A> {
         let mut vec = StableVec::new(alloc);
         vec.extend(iter)?;
         Ok(vec)
-    }
-}
-
-impl<T: Drop, A: Allocator + Clone> StableVec<T, A> {
-    // Puts `next`, which holds `amount` items, behind the other buckets, of which none has a free slot.
-    pub(super) fn append_bucket(&mut self, next: Bucket<T, A>, amount: usize)
-        requires full { room (length self.old) ≡ 0 }
-        requires below { length self.old + amount ≤ max_len }
-        requires some { 0 < amount }
-        requires fits { amount ≤ size (fewest (length self.old)) }
-        requires items { amount ≡ length next.items }
-        requires capacity { next.capacity ≡ size (fewest (length self.old)) }
-        ensures { self.new ≡ self.old ++ next.items }
-    {
-        let place = self.table.bucket_mut(self.open_buckets);
-        *place = Some(next);
-        self.open_buckets += 1;
-        self.slots = start_of(self.open_buckets);
-        self.len += amount;
     }
 }
 

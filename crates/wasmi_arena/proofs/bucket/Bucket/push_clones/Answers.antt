@@ -7,7 +7,7 @@ pub loop-slot-preserved : goal.loop-slot-preserved
 loop-slot-preserved g c =
     let inv = c.loop-slot.invariant in let below = c.loop-slot-test.true in let enough = c.requires.free in
     let more : take (c.loop-slot.slot + 1) c.args.items.now ≡ take c.loop-slot.slot c.args.items.now ++ c.index-items-slot.result ∷ [] =
-        (take_more c.args.items.now c.loop-slot.slot c.index-items-slot.result below ∙ ap (λ x. take c.loop-slot.slot c.args.items.now ++ x ∷ []) (sym c.index-items-slot.is)) in
+    (take_more c.args.items.now c.loop-slot.slot c.index-items-slot.result below ∙ ap (λ x. take c.loop-slot.slot c.args.items.now ++ x ∷ []) (sym c.index-items-slot.is)) in
     record {
       one = search rules;
       pointer = inv.pointer;

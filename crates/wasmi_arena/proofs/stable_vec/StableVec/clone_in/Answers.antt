@@ -38,10 +38,22 @@ append_bucket-requires g c =
     let so_far = rw c.in-Some.ensures.steps at c.loop-part.invariant in let few = c.slices-part-items.ensures.bound in
     let capacity = c.in_ok-push_clones.ensures.capacity ∙ (ap (λ (b : Bucket _). b.capacity) c.in_ok-next.ensures.items ∙ (c.size_of_bucket_at-capacity.ensures ∙ ap size c.open_buckets.ensures)) in (
       search rules,
-      (part_no_room g.T.Clone.is_clone _ _ _ _ so_far few, (part_within g.T.Clone.is_clone _ _ _ _ so_far few, (part_some g.T.Clone.is_clone _ _ _ _ so_far few, (part_fits g.T.Clone.is_clone _ _ _ _ so_far few, (
-        length_all_zip g.T.Clone.is_clone _ _ c.in_ok-push_clones.ensures.items,
-        capacity,
-      ))))),
+      (
+        part_no_room g.T.Clone.is_clone _ _ _ _ so_far few,
+        (
+          part_within g.T.Clone.is_clone _ _ _ _ so_far few,
+          (
+            part_some g.T.Clone.is_clone _ _ _ _ so_far few,
+            (
+              part_fits g.T.Clone.is_clone _ _ _ _ so_far few,
+              (
+                length_all_zip g.T.Clone.is_clone _ _ c.in_ok-push_clones.ensures.items,
+                capacity,
+              ),
+            ),
+          ),
+        ),
+      ),
     )
 
 pub loop-part-preserved : goal.loop-part-preserved

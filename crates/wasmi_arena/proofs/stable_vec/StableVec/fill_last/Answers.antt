@@ -34,8 +34,8 @@ returns-clause-items g c =
     let filled = c.fill_bucket.ensures in (
       filled.0,
       ap items_of filled.1
-      ∙ (items_of-fill _ _ _ _ c.self.invariant _ _ c.place_in_last-place.ensures.place c.place_in_last-place.ensures.last filled.0 (omega (arith, filled.2, c.min-filled.ensures))
-      ∙ ap (λ xs. xs ++ filled.0) c.self.view_is),
+          ∙ (items_of-fill _ _ _ _ c.self.invariant _ _ c.place_in_last-place.ensures.place c.place_in_last-place.ensures.last filled.0 (omega (arith, filled.2, c.min-filled.ensures))
+          ∙ ap (λ xs. xs ++ filled.0) c.self.view_is),
       filled.2,
       filled.3,
     )

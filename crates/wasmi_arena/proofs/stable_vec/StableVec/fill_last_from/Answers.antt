@@ -36,7 +36,7 @@ returns-clause-items g c =
     let free = free-last _ _ _ _ c.self.invariant _ _ c.place_in_last-place.ensures.place c.place_in_last-place.ensures.last _ filled.fits in (
       filled.items.0,
       ap items_of filled.items.1
-      ∙ (items_of-fill _ _ _ _ c.self.invariant _ _ c.place_in_last-place.ensures.place c.place_in_last-place.ensures.last filled.items.0 (rw filled.items.2 free) ∙ ap (λ xs. xs ++ filled.items.0) c.self.view_is),
+          ∙ (items_of-fill _ _ _ _ c.self.invariant _ _ c.place_in_last-place.ensures.place c.place_in_last-place.ensures.last filled.items.0 (rw filled.items.2 free) ∙ ap (λ xs. xs ++ filled.items.0) c.self.view_is),
       filled.items.3,
     )
 

@@ -11,7 +11,7 @@ returns-clause-items g c =
     let read : get_or buckets b None ≡ Some c.in-Some.open = sym (get_or_default buckets b c.index-buckets-place.result None c.requires.in_table) ∙ c.in-Some.is in
     let capacity = c.push_from.ensures.capacity ∙ c.requires.capacity c.in-Some.open read in
     let filled : Some c.push_from.new.self ≡ bucket_filled (size b) (get_or buckets b None) came.0 =
-        (rw read (ap (λ xs. Some (bucket xs c.push_from.new.self.capacity)) came.1 ∙ ap (λ n. Some (bucket (c.in-Some.open.items ++ came.0) n)) capacity)) in (
+    (rw read (ap (λ xs. Some (bucket xs c.push_from.new.self.capacity)) came.1 ∙ ap (λ n. Some (bucket (c.in-Some.open.items ++ came.0) n)) capacity)) in (
       came.0,
       ap (λ x. slice_set buckets b x) filled,
       omega (arith, c.push_from.ensures.filled, ap length came.1, length-append c.in-Some.open.items came.0),
