@@ -1,5 +1,4 @@
 pub mod ArenaLoans
-pub mod ArenaPairs
 pub mod ArenaGrowth
 pub mod PairLoans
 mod Components

@@ -2,71 +2,55 @@
 --     follows_through      what follows a part follows the two that the part is cut into, where it is cut
 --     good      what is owned of the result is a machine value of its type
 --     Told      what the result says of the list and of two positions.        told_outside, told_alike, told_lent      of each result
---     ToldKeys, told_keys      the same of two keys.        ends_both      the two writes under them
+--     ToldKeys, told_keys      the same of two keys
 use mathlib.Core.Path.{◌≡◌, refl, sym, ap, subst}
 use mathlib.Core.List.{List, [], ◌∷◌}
 use mathlib.Core.Option as maybe
 use mathlib.Core.Logic.{◌↔◌, ◌⊎◌, inl, inr}
 use seplogic.Ra.Ura.{Ura}
-use base.Fml.{GName, Lft, fres, fsep}
+use base.Fml.{GName, Lft}
 use lib.Dec.{T}
 use mir.Syntax.{named}
-use base.Logic.{ent, sep, wand}
+use base.Logic.{ent, sep}
 use mir.Val.{Val, has_ty, WT}
-use types.Follow.{followed₂}
-use types.Kit.{‵, ◌$◌, ◌∵◌, !, qed, by, move, use2, each, assume}
 use types.Logic.{Logic, sem}
 use denote.Enum.Declared.{shape}
 use denote.Enum.Enum.{Enum-Lawful}
-use denote.Follow.{follows, followed, both_by, follows_both, both_if_by, follows_both_if}
-use denote.Memory.{mem}
+use denote.Follow.{follows, followed, both_if_by, follows_both_if}
 use denote.RattleType.{RattleType}
 use denote.Laws.{Is, Lawful}
 use denote.Param.{layout}
 use denote.Ref.{MutBor, MutRef, mut_Lawful}
 use denote.Struct.Declared as Declared
 use denote.Struct.Struct.{Struct-Lawful}
-use denote.Struct.Tuple.{Tuple, tuple_type}
+use denote.Struct.Tuple.{tuple_type}
 use Prim.Native.Nat.{ℕ}
-use Rattle.std.proofs.Common.{suc, ◌<◌, lit<, arith, slice_set}
+use Rattle.std.proofs.Common.{◌<◌, lit<, arith}
 use Rattle.std.specs.Prelude.{◌≢◌, ◌≤◌, length, Result, Ok, Err, Some, IfOk, IfErr, IsErrOf, slice_get}
 use Rattle.std.specs.contracts.result.Result as Res
 use Rattle.wasmi_arena.specs.contracts.error.ArenaError as Error
 use Rattle.wasmi_arena.specs.declared.error.ArenaError.{ArenaError}
-use Rattle.wasmi_arena.specs.Arena.{ArenaState}
 use Rattle.wasmi_arena.specs.Keys.{Keys}
-use Rattle.wasmi_arena.proofs.Refusals.{place_of}
-use Rattle.wasmi_dense.specs.ArenaPair.{with_both}
+use Rattle.wasmi_arena.specs.Pairs.{AreNumbers}
+use Rattle.wasmi_arena.proofs.PairLoans.{follows_both_then}
+use Rattle.wasmi_arena.proofs.Refusals.{Pair, PairOr, place_of}
 
 module _ {M : Type 1} {𝓤 : Ura M} (𝓛 : Logic 𝓤) (R S T U : RattleType) (F : S.Denot → R.Denot) (G : T.Denot → U.Denot → S.Denot) (γ γ' : GName) where
-  open 𝓛 use {A}
-
-  follows_both_through : (γ₁ γ₂ : GName) → ent 𝓤 (sep 𝓤 (sem 𝓛 (follows R S γ γ' F)) (sem 𝓛 (follows_both S T U γ' γ₁ γ₂ G))) (sem 𝓛 (follows_both R T U γ γ₁ γ₂ (λ x y. F (G x y))))
-  unfolding both_by
-  follows_both_through γ₁ γ₂ =
-      qed 𝓛 (‵ (follows R S γ γ' F) ∷ ‵ (follows_both S T U γ' γ₁ γ₂ G) ∷ []) ∵
-      each ! (λ (w : T.Denot × U.Denot). wand 𝓤 (sep 𝓤 (A.res γ₁ (T.coded.code w.0)) (A.res γ₂ (U.coded.code w.1))) (A.res γ (R.coded.code (F (G w.0 w.1))))) (λ w.
-      assume ! (‵ (fsep (fres γ₁ (T.coded.code w.0)) (fres γ₂ (U.coded.code w.1)))) $ move ! (0 ∷ 2 ∷ []) $
-      use2 𝓛 (‵ (fres γ' (S.coded.code (G w.0 w.1)))) (followed₂ 𝓛 (mem S) (mem T) (mem U) G γ' γ₁ γ₂ w.0 w.1) $ move ! (1 ∷ 0 ∷ []) $ by ! (followed 𝓛 R S F γ γ' (G w.0 w.1)))
-
   pub follows_through : (m : maybe.Option (GName × GName)) (v : S.Denot)
       → ent 𝓤 (sep 𝓤 (sem 𝓛 (follows R S γ γ' F)) (sem 𝓛 (follows_both_if S T U γ' m G v))) (sem 𝓛 (follows_both_if R T U γ m (λ x y. F (G x y)) (F v)))
   unfolding both_if_by
   follows_through maybe.none v = followed 𝓛 R S F γ γ' v
-  follows_through (maybe.some γs) v = follows_both_through γs.0 γs.1
+  follows_through (maybe.some γs) v = follows_both_then 𝓛 R S T U F G γ γ' γs.0 γs.1
 
 module _ {M : Type 1} {𝓤 : Ura M} (𝓛 : Logic 𝓤) (κ : Lft) (Z : RattleType) where
-  abbrev pub Pair : RattleType
-  Pair = Tuple (MutRef (named 0) κ Z ∷ MutRef (named 0) κ Z ∷ [])
-
-  pair_lawful : Lawful 𝓛 Pair
+  pair_lawful : Lawful 𝓛 (Pair κ Z)
   pair_lawful = record { typed = λ pair vs p. (Struct-Lawful 𝓛 (Declared.shape (tuple_type (MutRef (named 0) κ Z ∷ MutRef (named 0) κ Z ∷ []))) (mut_Lawful 𝓛 (named 0) κ Z, (mut_Lawful 𝓛 (named 0) κ Z, tt))).typed (pair.0, (pair.1, tt)) vs p }
 
   error_lawful : Lawful 𝓛 Error.the_row
   error_lawful = record { typed = λ e vs p. (Enum-Lawful 𝓛 (shape Error.the_type) tt (tt, (tt, (tt, (tt, (tt, tt)))))).typed ((Error.the_type).to e) vs p }
 
-  pub good : (r : (Res.the_row Pair Error.the_row).Denot) (v : Val) → Is (Res.the_row Pair Error.the_row) r (v ∷ []) → T (has_ty (layout (Res.the_row Pair Error.the_row)) v) × WT v
-  good r v is = ((Enum-Lawful 𝓛 (shape (Res.the_type Pair Error.the_row)) tt ((pair_lawful, tt), ((error_lawful, tt), tt))).typed ((Res.the_type Pair Error.the_row).to r) (v ∷ []) is).0
+  pub good : (r : (PairOr κ Z).Denot) (v : Val) → Is (PairOr κ Z) r (v ∷ []) → T (has_ty (layout (PairOr κ Z)) v) × WT v
+  good r v is = ((Enum-Lawful 𝓛 (shape (Res.the_type (Pair κ Z) Error.the_row)) tt ((pair_lawful, tt), ((error_lawful, tt), tt))).typed ((Res.the_type (Pair κ Z) Error.the_row).to r) (v ∷ []) is).0
 
 one_is_three : (n m : ℕ) → n ≡ 1 → m ≡ 3 → n ≡ m → ⊥
 one_is_three n m one three e = omega (arith, one, three, e)
@@ -114,26 +98,6 @@ module _ {Y : Type 0} (items : List Y) (one other : ℕ) where
   told_lent one_in other_in apart pair first second =
       ((first, second), ((λ e. absurd (zero_is_more _ _ refl (lit< tt) (ap numbered e))), λ far. absurd (is_not_outside (length items) one other one_in other_in far)), ((λ e. absurd (zero_is_more _ _ refl (lit< tt) (ap numbered e))), λ both. absurd (apart both.1)), tt)
 
-none_is_two : (n : ℕ) → n ≡ 0 → n ≡ 2 → ⊥
-none_is_two n e two = omega (arith, e, two)
-
-one_is_two : (n : ℕ) → n ≡ 1 → n ≡ 2 → ⊥
-one_is_two n e two = omega (arith, e, two)
-
-more_is_two : (n : ℕ) → suc (suc (suc n)) ≡ 2 → ⊥
-more_is_two n two = omega (arith, two)
-
--- the keys of two numbers
-abbrev pub AreKeys : {K : Type 0} → Keys K → List K → ℕ × ℕ → Type 0
-AreKeys {K} keys both n = (one other : K) → both ≡ one ∷ other ∷ [] → (n.0 ≡ keys.number one) × (n.1 ≡ keys.number other)
-
-pub ends_both : {K Y : Type 0} (keys : Keys K) (arena : ArenaState Y) (both : List K) (n : ℕ × ℕ) → AreKeys keys both n → length both ≡ 2 → (x y : Y)
-    → record arena { items = slice_set (slice_set arena.items n.0 x) n.1 y } ≡ with_both keys arena both x y
-ends_both keys arena [] n are two x y = absurd (none_is_two _ refl two)
-ends_both keys arena (one ∷ []) n are two x y = absurd (one_is_two _ refl two)
-ends_both keys arena (one ∷ other ∷ []) n are two x y = let e = are one other refl in λ i. record arena { items = slice_set (slice_set arena.items (e.0 i) x) (e.1 i) y }
-ends_both keys arena (one ∷ other ∷ more ∷ rest) n are two x y = absurd (more_is_two (length rest) two)
-
 module _ {K Y : Type 0} (keys : Keys K) (items : List Y) (both : List K) where
   abbrev pub ReadsKeys : Result (MutBor Y × MutBor Y) ArenaError → Type 0
   ReadsKeys r = (one other : K) → both ≡ one ∷ other ∷ [] → Reads items (keys.number one) (keys.number other) r
@@ -147,7 +111,7 @@ module _ {K Y : Type 0} (keys : Keys K) (items : List Y) (both : List K) where
   abbrev pub ToldKeys : Result (MutBor Y × MutBor Y) ArenaError → Type 0
   ToldKeys r = ReadsKeys r × OutsideKeys r × AlikeKeys r
 
-  pub told_keys : (n : ℕ × ℕ) → AreKeys keys both n → (r : Result (MutBor Y × MutBor Y) ArenaError) → Told items n.0 n.1 r → ToldKeys r
+  pub told_keys : (n : ℕ × ℕ) → AreNumbers keys.number both n.0 n.1 → (r : Result (MutBor Y × MutBor Y) ArenaError) → Told items n.0 n.1 r → ToldKeys r
   told_keys n are r told =
       let at : (one other : K) → both ≡ one ∷ other ∷ [] → n ≡ (keys.number one, keys.number other) = λ one other e. let m = are one other e in λ i. (m.0 i, m.1 i) in (
         λ one other e. subst (λ (m : ℕ × ℕ). Reads items m.0 m.1 r) (at one other e) told.0,

@@ -1,43 +1,14 @@
 //! Two items of an arena in one vector at once.
 ghost use Rattle.std.specs.Prelude.{◌≡◌, ◌≢◌, ◌<◌, ◌≤◌, ◌↔◌, ◌⊎◌, [], ◌∷◌, length, IfOk, IfErr, IsErrOf, slice_get, slice_set, Some};
-ghost use Rattle.std.specs.Borrow.{sem, LendsBoth, Array};
+ghost use Rattle.std.specs.Borrow.{sem, Array};
+ghost use Rattle.wasmi_arena.specs.Pairs.{AreNumbers, LendsBothIfOk};
 ghost use Rattle.wasmi_dense.specs.ArenaLend.{lends_all};
-ghost use Rattle.wasmi_dense.specs.ArenaPair.{LendsBothIfOk, lends_both};
+ghost use Rattle.wasmi_dense.specs.ArenaPair.{lends_both};
 
 use super::Arena;
 use std::alloc::Allocator;
+use wasmi_arena::slice_pair::pair_within;
 use wasmi_arena::{ArenaError, ArenaKey};
-
-// Two items of a slice, of which the first lies before the second.
-fn pair_in_order<T>(items: &mut [T], low: usize, high: usize) -> (&mut T, &mut T)
-    requires order { low < high }
-    requires in_bounds { high < length items.old }
-    ensures* writes_back { sem 𝓛 (LendsBoth (Array T.row 0) T.row T.row items.entry result
-        (λ x y. slice_set (slice_set items.old low x) high y)) }
-    ensures first { slice_get items.old low ≡ Some result.0.now }
-    ensures second { slice_get items.old high ≡ Some result.1.now }
-{
-    let (front, back) = items.split_at_mut(high);
-    (&mut front[low], &mut back[0])
-}
-
-// Two items of a slice.
-fn pair<T>(items: &mut [T], one: usize, other: usize) -> (&mut T, &mut T)
-    requires one { one < length items.old }
-    requires other { other < length items.old }
-    requires apart { one ≢ other }
-    ensures* writes_back { sem 𝓛 (LendsBoth (Array T.row 0) T.row T.row items.entry result
-        (λ x y. slice_set (slice_set items.old one x) other y)) }
-    ensures first { slice_get items.old one ≡ Some result.0.now }
-    ensures second { slice_get items.old other ≡ Some result.1.now }
-{
-    if one < other {
-        pair_in_order(items, one, other)
-    } else {
-        let (low, high) = pair_in_order(items, other, one);
-        (high, low)
-    }
-}
 
 // Two items of a slice, or why it has no two such items.
 fn checked_pair<T>(
@@ -45,8 +16,8 @@ fn checked_pair<T>(
     one: usize,
     other: usize,
 ) -> Result<(&mut T, &mut T), ArenaError>
-    ensures* writes_back { sem 𝓛 (LendsBothIfOk (Array T.row 0) T.row T.row items.entry result
-        (λ x y. slice_set (slice_set items.old one x) other y) items.old) }
+    ensures* writes_back { sem 𝓛 (LendsBothIfOk (Array T.row 0) T.row items.entry result
+        (λ x y. slice_set (slice_set items.old one x) other y)) }
     ensures items { IfOk result (λ pair. (slice_get items.old one ≡ Some pair.0.now)
         × (slice_get items.old other ≡ Some pair.1.now)) }
     ensures out_of_bounds { IsErrOf result ArenaError.KeyOutOfBounds
@@ -66,13 +37,12 @@ fn checked_pair<T>(
     if one == other {
         return Err(ArenaError::AliasingPairAccess);
     }
-    Ok(pair(items, one, other))
+    Ok(pair_within(items, one, other))
 }
 
 // The numbers of two keys.
 fn asked<Key: ArenaKey>(keys: [Key; 2]) -> (usize, usize)
-    ensures { (first second : Key) → keys ≡ first ∷ second ∷ []
-        → (result.0 ≡ Key.keys.number first) × (result.1 ≡ Key.keys.number second) }
+    ensures { AreNumbers Key.keys.number keys result.0 result.1 }
 {
     let [first, second] = keys;
     (first.into_usize(), second.into_usize())

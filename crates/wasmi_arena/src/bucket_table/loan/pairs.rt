@@ -1,12 +1,13 @@
 //! Two items of a loan at once.
-ghost use Rattle.std.specs.Prelude.{◌≡◌, ◌≢◌, ◌<◌, ◌≤◌, length, slice_get, slice_set, slice_index_or, Some, None};
-ghost use Rattle.std.specs.Borrow.{sem, LendsBoth, Array};
+ghost use Rattle.std.specs.Prelude.{◌≡◌, ◌≢◌, ◌<◌, ◌≤◌, length, slice_get, slice_index_or, Some, None};
+ghost use Rattle.std.specs.Borrow.{sem};
 ghost use Rattle.wasmi_arena.specs.Geometry.{IsPlace, max_len};
 ghost use Rattle.wasmi_arena.specs.LoanLend.{lends_slots, lends_pair};
 ghost use Rattle.wasmi_arena.specs.Table.{items_in, items_of, HasBuckets};
 
 use super::ItemsLoan;
 use crate::StableVec;
+use crate::slice_pair::pair_within;
 use crate::stable_vec::slot_mut;
 use std::alloc::Allocator;
 
@@ -20,37 +21,6 @@ fn places(first: usize, second: usize) -> (usize, usize, usize, usize)
     let (bucket, slot) = StableVec::<()>::place(first);
     let (other_bucket, other_slot) = StableVec::<()>::place(second);
     (bucket, slot, other_bucket, other_slot)
-}
-
-// Two items of a slice, of which the first lies before the second.
-fn pair_in_order<T>(items: &mut [T], low: usize, high: usize) -> (&mut T, &mut T)
-    requires order { low < high }
-    requires in_bounds { high < length items.old }
-    ensures* writes_back { sem 𝓛 (LendsBoth (Array T.row 0) T.row T.row items.entry result
-        (λ x y. slice_set (slice_set items.old low x) high y)) }
-    ensures first { slice_get items.old low ≡ Some result.0.now }
-    ensures second { slice_get items.old high ≡ Some result.1.now }
-{
-    let (front, back) = items.split_at_mut(high);
-    (&mut front[low], &mut back[0])
-}
-
-// Two items of a slice.
-fn pair_within<T>(items: &mut [T], slot: usize, other_slot: usize) -> (&mut T, &mut T)
-    requires apart { slot ≢ other_slot }
-    requires first { slot < length items.old }
-    requires second { other_slot < length items.old }
-    ensures* writes_back { sem 𝓛 (LendsBoth (Array T.row 0) T.row T.row items.entry result
-        (λ x y. slice_set (slice_set items.old slot x) other_slot y)) }
-    ensures first { slice_get items.old slot ≡ Some result.0.now }
-    ensures second { slice_get items.old other_slot ≡ Some result.1.now }
-{
-    if slot < other_slot {
-        pair_in_order(items, slot, other_slot)
-    } else {
-        let (low, high) = pair_in_order(items, other_slot, slot);
-        (high, low)
-    }
 }
 
 impl<'a, T, A: Allocator> ItemsLoan<'a, T, A> {

@@ -37,12 +37,12 @@ use denote.Triple.Clauses.{lasts}
 use denote.Triple.Spec.{triple_of}
 use denote.Triple.Table.{framed}
 use denote.Triple.Walked.{Stays, walk_of, stay_dropped, Goes-dropped, Goes-spent_ref, ends_at}
-use Rattle.std.specs.contracts.result.Result as Res
 use Rattle.wasmi_arena.specs.Arena.{ArenaState}
-use Rattle.wasmi_arena.specs.contracts.error.ArenaError as Error
+use Rattle.wasmi_arena.proofs.Answered.{asked-writes}
 use Rattle.wasmi_arena.proofs.Frame.{let_go, gone}
+use Rattle.wasmi_arena.proofs.Refusals.{PairOr}
 use Rattle.wasmi_dense.specs.ArenaLoan.{written}
-use Rattle.wasmi_dense.specs.ArenaPair.{names_if_ok, with_both}
+use Rattle.wasmi_arena.specs.Pairs.{AreNumbers, names_if_ok, with_both}
 use Rattle.wasmi_dense.specs.contracts.arena.Arena.{the_row}
 use Rattle.wasmi_dense.specs.contracts.arena.Arena.get_disjoint_mut as F
 use Rattle.wasmi_dense.specs.contracts.arena.Arena.items_mut as All
@@ -53,8 +53,8 @@ use Rattle.wasmi_dense.proofs.arena.pairs.asked.Met as Numbered
 use Rattle.wasmi_dense.proofs.arena.pairs.checked_pair.Met as LendsTwo
 use Rattle.wasmi_dense.proofs.arena.Arena.get_disjoint_mut.Statement.{statement}
 use Rattle.wasmi_dense.proofs.arena.Arena.get_disjoint_mut.Code as code
-use Rattle.wasmi_dense.proofs.ArenaPairs.{written-two, written-same}
-use Rattle.wasmi_dense.proofs.PairLoans.{follows_through, Pair, good, Reads, Outside, Alike, Errors, Told, AreKeys, ends_both, ReadsKeys, OutsideKeys, AlikeKeys, told_keys}
+use Rattle.wasmi_dense.proofs.ArenaLoans.{written-two, written-same}
+use Rattle.wasmi_dense.proofs.PairLoans.{follows_through, good, Reads, Outside, Alike, Errors, Told, ReadsKeys, OutsideKeys, AlikeKeys, told_keys}
 
 pub get_disjoint_mut_spec : {M : Type 1} → statement M
 get_disjoint_mut_spec 𝓤 𝓛 𝓜 𝓡 wired K X Y LK LX LY copy gk dk gc dc g d dd metk metc met md =
@@ -73,7 +73,7 @@ get_disjoint_mut_spec 𝓤 𝓛 𝓜 𝓡 wired K X Y LK LX LY copy gk dk gc dc 
     let y : W.Ghost = ((κs, qs, bounds, a, (vs, (w ∷ [], tt))), tt) in
     let alive = ‵ (flft κ q) ⊛ ‵ (flft κs.1.0 qs.1.0) ⊛ ‵ (flft κs.1.1.0 qs.1.1.0) ⊛ ‵ (flft κs.1.1.1.0 qs.1.1.1.0) ⊛ ‵ ftrue in
     let kept = (MutRef (named 0) κ Self).own_val a.0 vs in
-    let Lent : RattleType = record Item { written = wrote (layout X) } in let Answer = Res.the_row (Pair 𝓛 κ Lent) Error.the_row in
+    let Lent : RattleType = record Item { written = wrote (layout X) } in let Answer = PairOr κ Lent in
     let typed = (((array_laws (copied 0 K) (copied_laws 0 K LK) 2).lawful 𝓛).typed keys (w ∷ []) are.1.0).0 in
     qed 𝓛 ((alive ⊛ ‵ kept ⊛ ‵ (Keys.own_val keys (w ∷ [])) ⊛ ‵ ftrue)
     ∷ (raw (fact 𝓤 (κs.1.0 ⊑ K.lives)) ⊛ raw (fact 𝓤 (κs.1.1.0 ⊑ X.lives)) ⊛ raw (fact 𝓤 (κs.1.1.1.0 ⊑ Y.lives)) ⊛ raw (fact 𝓤 (size (layout Keys) < 2 ^ 63)) ⊛ ‵ ftrue) ∷ []) ∵
@@ -91,7 +91,7 @@ get_disjoint_mut_spec 𝓤 𝓛 𝓜 𝓡 wired K X Y LK LX LY copy gk dk gc dc 
     calls_at ! (framed 𝓤 𝓛.H 𝓜 𝓣) G₁ (Numbered.met 𝓤 𝓛 𝓜 𝓡 (code.calls-wasmi_dense::arena::pairs::asked 𝓡.env wired) K LK copy gk dk gc dc metk metc) z₁
     (and_then ! (get ! refl) (no_more !)) (λ v₁.
     use1 𝓛 (later (some (λ (n : ℕ × ℕ). ((‵ (flft κs.1.0 qs.1.0) ⊛ ‵ ftrue) ⊛ ‵ (Both.own_val n (v₁ ∷ []))) ⊛
-    some (λ (ws : Unit {0} × Unit {0}). ‵ (lasts (Numbers.ended K gk dk gc dc) κs₁ (keys, tt) ws) ⊛ raw (fact 𝓤 (AreKeys gk.keys keys n)))))) (id⊢ 𝓤 _) $
+    some (λ (ws : Unit {0} × Unit {0}). ‵ (lasts (Numbers.ended K gk dk gc dc) κs₁ (keys, tt) ws) ⊛ raw (fact 𝓤 (AreNumbers gk.keys.number keys n.0 n.1)))))) (id⊢ 𝓤 _) $
     await ! tt $ pick ! (λ n. split ! $ split ! $ move ! (2 ∷ []) $ pick ! (λ ws. split ! $ drop ! $ heard ! _ (λ numbered. move ! (1 ∷ []) $ facts ! Both _ (shows 𝓛 Both) n (v₁ ∷ []) (λ seen₁.
     let one = n.0 in let other = n.1 in let fits₁ = seen₁.1.1.0.1 in let fits₂ = seen₁.1.1.1.0.1 in let pair = vstruct (vcons (vint w64 one) (vcons (vint w64 other) vnil)) in
     let e₁ : v₁ ≡ pair = ap only (Struct-Tells (Declared.shape (tuple_type (usize ∷ usize ∷ []))) (uint_vals w64, (uint_vals w64, tt)) (uint_Tells w64, (uint_Tells w64, tt)) (one, (other, tt)) (v₁ ∷ []) seen₁) in
@@ -137,13 +137,15 @@ get_disjoint_mut_spec 𝓤 𝓛 𝓜 𝓡 wired K X Y LK LX LY copy gk dk gc dc 
     peeks ! Answer _ (shows 𝓛 Answer) r (v₃ ∷ []) (λ seen₃. lands_as ! refl refl (good 𝓛 κ Lent r v₃ seen₃) $ returns ! (look_at ! 0 refl) $ free_all ! refl $
     -- [the result; what the slice is afterwards; the tokens of the borrow and T, in one; those of A and Key; what the arena is afterwards]
     let With = λ (l : List X.Denot). record arena { items = written arena.items l } in
-    let ends : (λ x y. With (Ends x y)) ≡ with_both gk.keys arena keys =
-    λ i x y. (ap (λ l. With (slice_set (slice_set l one x) other y)) value ∙ (ap (λ l. record arena { items = l }) (written-two arena.items one other x y) ∙ ends_both gk.keys arena keys n numbered are.1.0.1.0.1 x y)) i in
+    let Both = λ (x y : X.Denot). record arena { items = with_both gk.keys.number arena.items keys x y } in
+    let ends : (λ x y. With (Ends x y)) ≡ Both =
+    λ i x y. (ap (λ l. With (slice_set (slice_set l one x) other y)) value
+    ∙ ap (λ l. record arena { items = l }) (written-two arena.items one other x y ∙ asked-writes gk.keys.number arena.items keys one other numbered are.1.0.1.0.1 x y)) i in
     let same : With u.now ≡ arena = ap With value ∙ ap (λ l. record arena { items = l }) (written-same arena.items) in
     let of_keys = told_keys gk.keys arena.items keys n numbered r (subst (λ (l : List X.Denot). Told l one other r) value (reads, outside, alike, errors)) in
     move ! (5 ∷ 1 ∷ []) $ use2 𝓛 (‵ (follows_both_if Self Item Item γ (names_if_ok r) (λ x y. With (Ends x y)) (With u.now))) (follows_through 𝓛 Self Items Item Item With Ends γ u.ghost_name (names_if_ok r) u.now) $
     rewrite ! 0 (λ (f : X.Denot → X.Denot → ArenaState X.Denot). ‵ (follows_both_if Self Item Item γ (names_if_ok r) f (With u.now))) ends refl $
-    rewrite ! 0 (λ (s : ArenaState X.Denot). ‵ (follows_both_if Self Item Item γ (names_if_ok r) (with_both gk.keys arena keys) s)) same refl $
+    rewrite ! 0 (λ (s : ArenaState X.Denot). ‵ (follows_both_if Self Item Item γ (names_if_ok r) Both s)) same refl $
     move ! (2 ∷ []) $ split3 ! $ move ! (5 ∷ 2 ∷ []) $ join ! $ move ! (2 ∷ 0 ∷ []) $ join ! $ move ! (4 ∷ 0 ∷ []) $ join ! $ move ! (1 ∷ 0 ∷ []) $ join ! $
     -- [the tokens; what the arena is afterwards; the result]
     suffices ! _ (ends_at 𝓛 call stayed c y v₃ r (tt, (tt, tt)) (tt, (tt, tt))) $

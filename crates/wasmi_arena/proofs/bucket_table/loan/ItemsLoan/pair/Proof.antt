@@ -44,11 +44,11 @@ use Rattle.wasmi_arena.specs.Table.{items_of, items_in, write, write_all, HasBuc
 use Rattle.wasmi_arena.specs.contracts.bucket_table.loan.ItemsLoan.pair as F
 use Rattle.wasmi_arena.specs.contracts.bucket_table.loan.ItemsLoan.bucket as One
 use Rattle.wasmi_arena.specs.contracts.bucket_table.loan.ItemsLoan.pair_across as Across
-use Rattle.wasmi_arena.specs.contracts.bucket_table.loan.pairs.pair_within as Within
+use Rattle.wasmi_arena.specs.contracts.slice_pair.pair_within as Within
 use Rattle.wasmi_arena.specs.contracts.bucket_table.loan.pairs.places as Places
 use Rattle.wasmi_arena.proofs.bucket_table.loan.ItemsLoan.bucket.Met as LendsOne
 use Rattle.wasmi_arena.proofs.bucket_table.loan.ItemsLoan.pair_across.Met as LendsAcross
-use Rattle.wasmi_arena.proofs.bucket_table.loan.pairs.pair_within.Met as LendsWithin
+use Rattle.wasmi_arena.proofs.slice_pair.pair_within.Met as LendsWithin
 use Rattle.wasmi_arena.proofs.bucket_table.loan.pairs.places.Met as Placed
 use Rattle.wasmi_arena.proofs.bucket_table.loan.ItemsLoan.pair.Statement.{statement}
 use Rattle.wasmi_arena.proofs.bucket_table.loan.ItemsLoan.pair.Code as code
@@ -143,7 +143,7 @@ pair_spec 𝓤 𝓛 𝓜 𝓡 wired X Y LX LY g d dd met md =
     use0 𝓛 (raw (fact 𝓤 (s ≢ t))) (fact_i 𝓤 _ (emp 𝓤) distinct) $ join ! $ use0 𝓛 (raw (fact 𝓤 (κs.1.0 ⊑ X.lives))) (fact_i 𝓤 _ (emp 𝓤) in_T) $ join ! $
     move ! (1 ∷ 0 ∷ []) $ use2 𝓛 (raw (G₃.pre z₃)) (id⊢ 𝓤 _) $
     -- [what the call asks; the other tokens; what the loan is afterwards]
-    calls_at_last ! (framed 𝓤 𝓛.H 𝓜 𝓣) G₃ (LendsWithin.met 𝓤 𝓛 𝓜 𝓡 (code.calls-wasmi_arena::bucket_table::loan::pairs::pair_within 𝓡.env wired) X LX) z₃
+    calls_at_last ! (framed 𝓤 𝓛.H 𝓜 𝓣) G₃ (LendsWithin.met 𝓤 𝓛 𝓜 𝓡 (code.calls-wasmi_arena::slice_pair::pair_within 𝓡.env wired) X LX) z₃
     (and_then ! (get ! refl) (and_then ! (get ! refl) (and_then ! (get ! refl) (no_more !)))) (λ v₃.
     let Ends = λ (x y : X.Denot). set (set u.now s x) t y in
     use1 𝓛 (later (some (λ (r : Two). ((‵ (flft κ q) ⊛ ‵ (flft κs.1.0 qs.1.0) ⊛ ‵ ftrue) ⊛ ‵ ((Pair κ T).own_val r (v₃ ∷ []))) ⊛
