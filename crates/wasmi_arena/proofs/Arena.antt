@@ -1,10 +1,11 @@
 -- Facts on the steps and runs of an arena.
-use Rattle.std.proofs.Common.{◌≡◌, ◌≢◌, zero, suc, take, Some, slice_get, arith, ℕ, ◌+◌, ◌<◌, ◌≤◌, List, [], ◌∷◌, ◌++◌, length, refl, subst, length-append}
+use Rattle.std.proofs.Common.{◌≡◌, ◌≢◌, zero, suc, take, Some, slice_get, arith, ℕ, ◌+◌, ◌<◌, ◌≤◌, List, [], ◌∷◌, ◌++◌, length, inl, inr, refl, subst, length-append}
+use Rattle.std.proofs.lemmas.Bool.{cases_lt}
 use Rattle.std.proofs.lemmas.Option.{get_or_from_slice_get}
 use Rattle.wasmi_arena.specs.Geometry.{max_len, room}
 use Rattle.wasmi_arena.specs.Keys.{Keys}
 use Rattle.wasmi_arena.specs.Arena.{ArenaState, ArenaStep, ArenaRun, allocs_in}
-use Rattle.wasmi_arena.proofs.Geometry.{room-add-one}
+use Rattle.wasmi_arena.proofs.Geometry.{room-falls}
 use Rattle.wasmi_arena.specs.declared.run.ArenaCommand.{ArenaCommand}
 use Rattle.wasmi_arena.specs.declared.run.ArenaReply.{ArenaReply}
 use Rattle.wasmi_arena.specs.declared.run.ArenaCommand.TheVariants.{Alloc, Has, Put, Swap}
@@ -26,7 +27,8 @@ module _ {K T V : Type 0} (keys : Keys K) (limit : ℕ) (state : V → ArenaStat
   -- a step lowers the room by one at the most, and only where an item goes to the end
   room_of_step : (old : ArenaState T) (command : ArenaCommand K T) (commands : List (ArenaCommand K T)) (reply : ArenaReply K T) (next : ArenaState T) → ArenaStep keys limit old command reply next
       → old.room + allocs_in commands ≤ next.room + allocs_in (command ∷ commands)
-  room_of_step old (Alloc item) commands (Key key) next step = let left = step.room_left in omega arith
+  room_of_step old (Alloc item) commands (Key key) next step =
+      elim (cases_lt 0 old.room) [ inl some ↦ let left = step.room_left some in omega arith | inr none ↦ omega arith ]
   room_of_step old (Alloc item) commands (Refused error) next step = let left = step.1.1 in omega arith
   room_of_step old (Has key) commands (HasReply found) next step = let left = step.1.1 in omega arith
   room_of_step old (Put key item) commands (Old there) next step = let left = step.room_is in omega arith
@@ -53,6 +55,6 @@ module _ {K T V : Type 0} (keys : Keys K) (limit : ℕ) (state : V → ArenaStat
   room_of_run old [] (r ∷ rs) new run i few = absurd run
   room_of_run old (c ∷ cs) [] new run i few = absurd run
 
--- an item that goes to the end lowers the room by one at the most
-pub room_of_append : {T : Type 0} (old new : List T) (item : T) → new ≡ old ++ item ∷ [] → length old < max_len → room (length old) ≤ room (length new) + 1
-room_of_append old new item after below = rw (after, length-append old (item ∷ [])) (room-add-one (length old) below)
+-- an item that goes to the end lowers the room by one, where there is any
+pub room_of_append : {T : Type 0} (old new : List T) (item : T) → new ≡ old ++ item ∷ [] → length old < max_len → 0 < room (length old) → room (length old) ≡ room (length new) + 1
+room_of_append old new item after below some = rw (after, length-append old (item ∷ [])) (room-falls (length old) below some)

@@ -128,6 +128,13 @@ room-add-one n below =
     let no_fewer : fewest n ≤ fewest (n + 1) = here.least (fewest (n + 1)) (let enough = next.enough in omega arith) in
     omega (arith, start_mono (fewest n) (fewest (n + 1)) no_fewer)
 
+-- and by one, where there is any
+pub room-falls : (n : ℕ) → n < max_len → 0 < room n → room n ≡ room (n + 1) + 1
+room-falls n below some =
+    let here = fewest_is_least n (omega arith) in
+    let same : fewest (n + 1) ≡ fewest n = fewest_is (omega arith) (record { enough = omega arith; least = λ c fits. here.least c (omega arith) }) in
+    omega (arith, ap start same)
+
 -- each index below `max_len` has a place
 pub place_of : (i : ℕ) → i < max_len → IsPlace i (bucket_of i) (slot_of i)
 place_of i below =

@@ -62,13 +62,13 @@ EqualKeysRead {K} keys n commands replies =
 
 -- An arena has one type of keys, and holds at most `limit` items.
 module _ {K T : Type 0} (keys : Keys K) (limit : ℕ) where
-  -- an item goes to the end, under the key of its position, and the room falls by one at the most
+  -- an item goes to the end, under the key of its position. Where there is room, it falls by one
   pub record AllocatesItem (old : ArenaState T) (item : T) (key : K) (new : ArenaState T)
       : Type 0 where
     pub has_key : length old.items < limit
     pub key_is : key ≡ keys.key (length old.items)
     pub items_are : new.items ≡ old.items ++ item ∷ []
-    pub room_left : old.room ≤ new.room + 1
+    pub room_left : 0 < old.room → old.room ≡ new.room + 1
 
   -- why an item is refused: the arena is full, or it isn't but has no room and got no memory
   abbrev pub RefusesItem : ArenaState T → ArenaError → Type 0

@@ -26,7 +26,7 @@ pub trait AnyArena<Key: ArenaKey, T> {
     fn room(&self) -> usize
         ensures { result ≡ (state self.now).room };
 
-    /// Puts an item at the end, and returns its key.
+    /// Puts an item at the end, and returns its key. Where there is room, it falls by one.
     ///
     /// Fails with `NotEnoughKeys` if the arena is full, and else only where there is no room, with
     /// `OutOfSystemMemory`. After an error the items and the room are as before, and the item is dropped.

@@ -115,10 +115,13 @@ impl<Key: ArenaKey, T, A: Allocator> Arena<Key, T, A> {
         ensures ok { OnOk result (additional ≤ self.new.room) }
         ensures room { self.old.room ≤ self.new.room }
         ensures with_room { additional ≤ self.old.room → IsOk result }
+        ensures kept { additional ≤ self.old.room → self.new ≡ self.old }
         ensures errors { IsOkUnless result ArenaError.OutOfSystemMemory }
         ensures err { OnErr result (self.new ≡ self.old) }
     {
-        self.items.reserve(additional)?;
+        if self.room() < additional {
+            self.items.reserve(additional)?;
+        }
         Ok(())
     }
 
@@ -148,6 +151,7 @@ impl<Key: ArenaKey, T, A: Allocator> Arena<Key, T, A> {
         ensures key { IfOk result (λ key. key ≡ Key.keys.key (length self.old.items)) }
         ensures ok { OnOk result (self.new.items ≡ self.old.items ++ item ∷ []) }
         ensures room { OnOk result (self.old.room ≤ self.new.room + 1) }
+        ensures kept { 0 < self.old.room → OnOk result (self.old.room ≡ self.new.room + 1) }
         ensures has_key { OnOk result (length self.old.items < Key.keys.count) }
         ensures no_key { IsErrOf result ArenaError.NotEnoughKeys
             ↔ (Key.keys.count ≤ length self.old.items) }
@@ -158,7 +162,9 @@ impl<Key: ArenaKey, T, A: Allocator> Arena<Key, T, A> {
         ensures err { OnErr result (self.new ≡ self.old) }
     {
         let key = self.next_key()?;
-        self.items.reserve(1)?;
+        if self.items.len() == self.items.capacity() {
+            self.items.reserve(1)?;
+        }
         self.items.push_reserved(item);
         Ok(key)
     }

@@ -36,10 +36,14 @@ fn push_defaults<T: Default, A: Allocator>(
     ensures ok { OnOk result
         (AppendsMany T.is_default amount (state_of items.old).items (state_of items.new).items) }
     ensures room { OnOk result ((state_of items.old).room ≤ (state_of items.new).room + amount) }
+    ensures kept { amount ≤ (state_of items.old).room
+        → OnOk result ((state_of items.old).room ≡ (state_of items.new).room + amount) }
     ensures memory { OnErr result ((state_of items.old).room < amount) }
     ensures err { OnErr result (state_of items.new ≡ state_of items.old) }
 {
-    items.reserve(amount)?;
+    if items.capacity() - items.len() < amount {
+        items.reserve(amount)?;
+    }
     mem::replace_with(items, amount, with_defaults);
     Ok(())
 }
@@ -92,6 +96,7 @@ impl<Key: ArenaKey, T: Drop, A: Allocator> Arena<Key, T, A> {
             × (keys.end ≡ Key.keys.key (length self.old.items + amount))) }
         ensures ok { OnOk result (AppendsMany T.is_default amount self.old.items self.new.items) }
         ensures room { OnOk result (self.old.room ≤ self.new.room + amount) }
+        ensures kept { amount ≤ self.old.room → OnOk result (self.old.room ≡ self.new.room + amount) }
         ensures no_key { IsErrOf result ArenaError.NotEnoughKeys
             ↔ (Key.keys.count ≤ length self.old.items + amount) }
         ensures memory { IsErrOf result ArenaError.OutOfSystemMemory → self.old.room < amount }
