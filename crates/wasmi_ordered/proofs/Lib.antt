@@ -1,4 +1,8 @@
 mod Gone
+mod Closing
 mod Ended
 mod HeldMemory
+mod MapMemory
+mod Renamed
 mod SameInOrder
+mod Values

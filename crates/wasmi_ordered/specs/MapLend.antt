@@ -1,7 +1,8 @@
 -- What an ordered map is once a `&mut` to a value of it has ended.
 use Rattle.std.specs.Prelude.{◌≡◌, ℕ, List, Option, Some, String, Vec, vec_items}
-use Rattle.std.specs.Borrow.{Fml, RattleType, MutBor, LendsSo}
-use Rattle.std.specs.Map.{set_value}
+use Rattle.std.specs.Borrow.{Fml, GName, RattleType, MutBor, LendsSo, follows}
+use Rattle.wasmi_map_specs.specs.Values.{with_values}
+use Rattle.std.specs.Map.{set_value, values_of}
 use Rattle.std.specs.Cmp.Lexicographic.{pointwise, slice_cmp, slice_partial_cmp}
 use Rattle.std.specs.Hash as fed
 use Rattle.std.specs.Ordering.{eq_by_cmp, nat_cmp}
@@ -20,6 +21,12 @@ module _ (K V A : RattleType) (h : hash.Ghosts K.Denot) (g : OrdMembers K.Denot)
   abbrev pub lends_get : MutBor (List (K.Denot × V.Denot)) → K.Denot → Option (MutBor V.Denot) → Fml
   lends_get map key value = LendsSo (the_row K V A h (record { eq = g.eq }) (record { cmp = g.cmp }) (record { partial_cmp = g.partial_cmp }) heap) V map value
       (λ new last. new ≡ set_value (eq_by_cmp g.cmp key) map.now last) (λ new. new ≡ map.now)
+
+  -- the values are those of a tree at which the loan of this name ends, and no key changes
+  abbrev pub lends_values : MutBor (List (K.Denot × V.Denot)) → GName → Fml
+  lends_values map name = follows (the_row K V A h (record { eq = g.eq }) (record { cmp = g.cmp }) (record { partial_cmp = g.partial_cmp }) heap)
+      (the_row K V A h (record { eq = g.eq }) (record { cmp = g.cmp }) (record { partial_cmp = g.partial_cmp }) heap) map.ghost_name name
+      (λ last. with_values map.now (values_of last))
 
 module _ (B V A : RattleType) (heap_of_text : alloc.Ghosts B.Denot) (heap : alloc.Ghosts A.Denot) where
   -- the row of a map with `String` keys

@@ -1,7 +1,7 @@
 //! A map that keeps its keys in order.
 ghost use Rattle.std.specs.Prelude.{◌≡◌, ◌==◌, ◌<◌, ◌^◌, ◌+◌, [], length, IfNone, IfOk, OnOk, OnErr, IsOk, IsOkUnless, IsSome, Some, None, is_some, option_map, option_copied, if◌then◌else◌};
 ghost use Rattle.std.specs.BTreeMap.{insert_entry};
-ghost use Rattle.std.specs.BTreeMap.IterMut.{iter_mut_rest, values_mut_rest, IterMutCanStep};
+ghost use Rattle.std.specs.BTreeMap.IterMut.{iter_mut_rest, values_mut_rest, values_mut_name, IterMutCanStep};
 ghost use Rattle.std.specs.List.Sorted.{IsStrictlySortedBy};
 ghost use Rattle.std.specs.Map.{keys_of, values_of, lookup_key, remove_entry};
 ghost use Rattle.std.specs.Map.Calls.{CalledAtPair, TakesPair, CallableOnEachPair, RetainsPairs};
@@ -9,6 +9,7 @@ ghost use Rattle.std.specs.Map.Iter.{ShowsInOrder, GivesInOrder, deref, deref_pa
 ghost use Rattle.std.specs.Option.{option_copied_mut};
 ghost use Rattle.std.specs.Ordering.{eq_by_cmp};
 ghost use Rattle.wasmi_map_specs.specs.Maps.{value_at, ChangesAt};
+ghost use Rattle.wasmi_map_specs.specs.Values.{KeepsKeys};
 
 mod by_slice;
 mod by_text;
@@ -54,7 +55,7 @@ impl<K: Hash + Ord, V, A: Allocator> Model for Map<K, V, A> {
 impl<K: Hash + Ord, V, A: Allocator> Map<K, V, A> {
     ghost use Rattle.std.specs.Borrow.{sem};
     ghost use Rattle.wasmi_ordered.specs.MapEntry.{lends_inner};
-    ghost use Rattle.wasmi_ordered.specs.MapLend.{lends_get};
+    ghost use Rattle.wasmi_ordered.specs.MapLend.{lends_get, lends_values};
 
     /// An empty map, which asks `alloc` for memory when an entry comes. Constant time.
     pub fn new(alloc: A) -> Self
@@ -164,6 +165,8 @@ impl<K: Hash + Ord, V, A: Allocator> Map<K, V, A> {
     /// The values to write to, in the order of [`keys`](Map::keys).
     /// Linear to the end, no allocation.
     pub fn values_mut(&mut self) -> ValuesMut<'_, K, V>
+        ensures* writes_back { sem 𝓛 (lends_values K.row V.row A.row (record { hash_input = K.hash_input }) K.Ord A.Allocator self.entry (values_mut_name result)) }
+        ensures keeps { KeepsKeys self.old }
         ensures values { values_mut_rest result ≡ values_of self.old }
         ensures len { length (values_mut_rest result) ≡ length self.old }
         ensures bound { length self.old < 2 ^ 63 }
