@@ -2,6 +2,7 @@ mod Gone
 mod Closing
 mod Ended
 mod HeldMemory
+mod LentTree
 mod MapMemory
 mod Renamed
 mod SameInOrder

@@ -1,7 +1,7 @@
 //! A map that keeps its keys in order.
 ghost use Rattle.std.specs.Prelude.{◌≡◌, ◌==◌, ◌<◌, ◌^◌, ◌+◌, [], length, IfNone, IfOk, OnOk, OnErr, IsOk, IsOkUnless, IsSome, Some, None, is_some, option_map, option_copied, if◌then◌else◌};
 ghost use Rattle.std.specs.BTreeMap.{insert_entry};
-ghost use Rattle.std.specs.BTreeMap.IterMut.{iter_mut_rest, values_mut_rest, values_mut_name, IterMutCanStep};
+ghost use Rattle.std.specs.BTreeMap.IterMut.{iter_mut_rest, iter_mut_name, values_mut_rest, values_mut_name, IterMutCanStep};
 ghost use Rattle.std.specs.List.Sorted.{IsStrictlySortedBy};
 ghost use Rattle.std.specs.Map.{keys_of, values_of, lookup_key, remove_entry};
 ghost use Rattle.std.specs.Map.Calls.{CalledAtPair, TakesPair, CallableOnEachPair, RetainsPairs};
@@ -108,6 +108,8 @@ impl<K: Hash + Ord, V, A: Allocator> Map<K, V, A> {
     /// Each key with its value to write to, in the order of the keys.
     /// Linear to the end, no allocation.
     pub fn iter_mut(&mut self) -> IterMut<'_, K, V>
+        ensures* writes_back { sem 𝓛 (lends_values K.row V.row A.row (record { hash_input = K.hash_input }) K.Ord A.Allocator self.entry (iter_mut_name result)) }
+        ensures keeps { KeepsKeys self.old }
         ensures entries { iter_mut_rest result ≡ self.old }
         ensures ready { IterMutCanStep result }
         ensures ascending { IsStrictlySortedBy K.cmp (keys_of self.old) }
@@ -342,13 +344,20 @@ impl<'a, K: Hash + Ord, V, A: Allocator> IntoIterator for &'a Map<K, V, A> {
 
 /// Each key with its value to write to, as [`iter_mut`](Map::iter_mut).
 impl<'a, K: Hash + Ord, V, A: Allocator> IntoIterator for &'a mut Map<K, V, A> {
+    ghost use Rattle.std.specs.Borrow.{sem};
+    ghost use Rattle.wasmi_ordered.specs.MapLend.{lends_values};
+
     type Item = (&'a K, &'a mut V);
 
     type IntoIter = IterMut<'a, K, V>;
 
     ghost into_iter_gives = { λ map it. (iter_mut_rest it ≡ map.now) × IterMutCanStep it × IsStrictlySortedBy K.cmp (keys_of map.now) × (length map.now < 2 ^ 63) };
 
-    fn into_iter(self) -> IterMut<'a, K, V> {
+    fn into_iter(self) -> IterMut<'a, K, V>
+        ensures* writes_back { sem 𝓛 (lends_values K.row V.row A.row (record { hash_input = K.hash_input }) K.Ord A.Allocator self.entry (iter_mut_name result)) }
+        ensures keeps { KeepsKeys self.old }
+        ensures into_iter_gives { (iter_mut_rest result ≡ self.old) × IterMutCanStep result × IsStrictlySortedBy K.cmp (keys_of self.old) × (length self.old < 2 ^ 63) }
+    {
         self.iter_mut()
     }
 }

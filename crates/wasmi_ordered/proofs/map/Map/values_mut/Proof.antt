@@ -1,5 +1,5 @@
 -- `values_mut` lends the tree to the standard library's call. Assumes `Logic`.
-use Rattle.std.proofs.Common.{◌≡◌, ◌∙◌, ◌<◌, ◌^◌, ℕ, [], ◌∷◌, List, length, refl, ap, sym, subst, MutBor}
+use Rattle.std.proofs.Common.{◌≡◌, ◌∙◌, ◌<◌, ◌^◌, ℕ, [], ◌∷◌, List, length, refl, ap, subst}
 use Rattle.std.proofs.raw_atomic.Walks.{proved}
 use Rattle.std.proofs.collections.BTreeMap.values_mut.Met as Lent
 use Rattle.std.proofs.collections.btree_map.ValuesMut.TheLaws as AnswerLaws
@@ -10,9 +10,8 @@ use Rattle.std.specs.Iterator.Runs.{YieldsMutRefsInOrder, YieldsMutRefsInReverse
 use Rattle.std.specs.Map.{values_of}
 use Rattle.std.specs.contracts.collections.BTreeMap.values_mut as Lends
 use Rattle.std.specs.contracts.collections.btree_map.ValuesMut as AnswerType
-use Rattle.std_collections.specs.Layout.BTreeMapValues.{with_values as tree_with_values}
-use base.Logic.{ent, sep, id⊢, emp}
-use base.Fml.{GName, ftrue, fsep, flft, fobs, fauth, fbor, flent}
+use base.Logic.{id⊢, emp}
+use base.Fml.{GName, ftrue, flft}
 use base.Share
 use contract.BorrowLft.{◌⊑◌}
 use contract.Fact.{fact_i}
@@ -21,7 +20,6 @@ use contract.Running.{tables}
 use denote.Exit.{no}
 use denote.Follow.{follows}
 use denote.Laws.{shows}
-use denote.Memory.{mem}
 use denote.Param.{bounded, param}
 use denote.Param.Laws.{param_laws}
 use denote.Ref.{MutRef, NamedLft, mut_vals, mut_Tells}
@@ -32,27 +30,21 @@ use denote.Triple.Clauses.{lasts, Lasts}
 use denote.Triple.Spec.{triple_of}
 use denote.Triple.Table.{framed}
 use denote.Triple.Walked.{Stays, walk_of, stay_dropped, Goes-spent_ref, ends_at}
-use ghost.Rules.{aged}
 use lib.ListN.{length-map}
 use mir.MapTy.{inst_fn}
 use mir.Syntax.{named, Args, a_type, dcons, dnil}
 use mir.Val.{Val, vptr}
 use types.ByLocal.{alloc_all, pass_all, free_all, look_at, get, through, sets, lands_as}
-use types.Kit.{‵, raw, ◌⊛◌, some, later, ◌$◌, ◌∵◌, !, qed, done, move, drop, join, split, fsplit3, fjoin, fjoin3, feq_i, fpack, keep, use0, use1, use2, pick, await, group, suffices}
-use types.Logic.{sem}
-use types.Late.{deep, ages, bor_new_deep}
-use types.Mut.{open_ref}
+use types.Kit.{‵, raw, ◌⊛◌, some, later, ◌$◌, ◌∵◌, !, qed, done, move, drop, join, split, split3, fsplit3, keep, use0, use1, use2, pick, await, group, suffices}
 use types.Run.{enter, addr, fld, stop, and_then, no_more, returns}
-use types.SemTy.{Body}
-use types.Tokens.{name_new}
 use Rattle.wasmi_arena.proofs.Frame.{let_go, gone}
 use Rattle.wasmi_map_specs.proofs.Values.{keeps_keys}
-use Rattle.wasmi_map_specs.specs.Values.{with_values, KeepsKeys}
+use Rattle.wasmi_map_specs.specs.Values.{KeepsKeys}
 use Rattle.wasmi_ordered.specs.contracts.map.Map.values_mut as F
-use Rattle.wasmi_ordered.proofs.Closing.{closes_by}
-use Rattle.wasmi_ordered.proofs.MapMemory.{Map, Tree, Seen, tree_at, bare, tree_out, tree_back}
+use Rattle.wasmi_ordered.proofs.LentTree as LentTree
+use Rattle.wasmi_ordered.proofs.LentTree.{rewritten, refilled, lends_tree, tree_comes}
+use Rattle.wasmi_ordered.proofs.MapMemory.{Map, Tree}
 use Rattle.wasmi_ordered.proofs.Renamed.{under, values_under}
-use Rattle.wasmi_ordered.proofs.Values.{entries-tree_with_values}
 use Rattle.wasmi_ordered.proofs.map.Map.values_mut.Code as code
 use Rattle.wasmi_ordered.proofs.map.Map.values_mut.Statement.{statement}
 
@@ -70,51 +62,41 @@ values_mut_spec 𝓤 𝓛 𝓜 𝓡 wired X Y Z LX LY LZ h dh e de p dp o dt q d
     (λ κs. (mut_vals, tt)) (λ κs. (mut_Tells (named 0) κs.0 Self, tt))
     (λ κs qs bounds a _ are.
     let ℓ : NamedLft = named_lft 4 0 tt κs in let Answer = AnswerType.the_row ℓ K V in let answer_laws = AnswerLaws.the_row_laws ℓ K V (param_laws 0 X LX) (param_laws 1 Y LY) in
-    let entries = a.0.now in let b = a.0.ref_ptr.0 in let from = a.0.ref_ptr.1 in let κ = κs.0 in let share = qs.0 in let γ = a.0.ghost_name in let at = tree_at X Y Z h p o q g from in
+    let entries = a.0.now in let b = a.0.ref_ptr.0 in let from = a.0.ref_ptr.1 in let κ = κs.0 in let share = qs.0 in let γ = a.0.ghost_name in
     let y : W.Ghost = ((κs, qs, bounds, a, (mut_vals a.0, tt)), tt) in
     let others = ‵ (flft κs.1.0 qs.1.0) ⊛ ‵ (flft κs.1.1.0 qs.1.1.0) ⊛ ‵ (flft κs.1.1.1.0 qs.1.1.1.0) ⊛ ‵ ftrue in
-    let left = Share.left share in let right = Share.right share in
-    let alive = ‵ (flft κ share) ⊛ others in let half_alive = ‵ (flft κ right) ⊛ others in
+    let half = Share.right share in let alive = ‵ (flft κ share) ⊛ others in let half_alive = ‵ (flft κ half) ⊛ others in
+    let Opened = LentTree.Opened X Y Z h p o q g 𝓛 κ share b from γ entries in let there = LentTree.lent X Y Z h p o q g 𝓛 κ share b from γ entries in let Stay = LentTree.Stays X Y Z h p o q g 𝓛 κ share b from γ entries in
     qed 𝓛 ((alive ⊛ ‵ ((MutRef (named 0) κ Self).own_val a.0 (mut_vals a.0)) ⊛ ‵ ftrue)
     ∷ (raw (fact 𝓤 (κs.1.0 ⊑ X.lives)) ⊛ raw (fact 𝓤 (κs.1.1.0 ⊑ Y.lives)) ⊛ raw (fact 𝓤 (κs.1.1.1.0 ⊑ Z.lives)) ⊛ ‵ ftrue) ∷ []) ∵
     move ! (1 ∷ []) $ split ! $ heard ! _ (λ in_K. split ! $ heard ! _ (λ in_V. split ! $ heard ! _ (λ in_A. drop ! $
-    split ! $ split ! $ move ! (2 ∷ []) $ split ! $ fsplit3 ! $ keep ! (4 ∷ 1 ∷ 2 ∷ 5 ∷ []) $
+    split ! $ split ! $ move ! (2 ∷ []) $ split ! $ fsplit3 ! $ keep ! (1 ∷ 2 ∷ 4 ∷ 5 ∷ []) $
     enter ! _ _ _ _ _ $ alloc_all ! (λ l. pass_all ! refl ((tt, tt), tt) $
     sets ! (addr ! (through ! refl (fld ! refl (stop !)))) refl (tt, tt) $
-    use1 𝓛 (‵ (flft κ left) ⊛ ‵ (flft κ right)) (𝓛.lfts.lft_split κ share) $ split ! $ move ! (2 ∷ 3 ∷ 0 ∷ []) $
-    open_ref ! tt (mem Self) {b = b} {o = from} $
-    use1 𝓛 (some (λ (x : Seen X Y Z h p o q g entries). ‵ ((mem Inner).own_at x.0.inner b at) ⊛ raw (bare X Y Z h p o q g 𝓛 b from x.0))) (tree_out X Y Z h p o q g 𝓛 b from LX LY LZ entries) $ pick ! (λ x. split ! $
-    let tree = x.0.inner in let Rest = bare X Y Z h p o q g 𝓛 b from x.0 in
-    let as_map : tree.entries ≡ entries = x.1.0 in
-    let written = λ (last : Inner.Denot). tree_with_values tree 0 (values last) in let kept = λ (last : Self.Denot). with_values entries (values_of last) in
-    let back = λ (last : Inner.Denot). subst (λ (es : Self.Denot). ent 𝓤 (sep 𝓤 (sem 𝓛 ((mem Inner).own_at (written last) b at)) Rest) (sem 𝓛 ((mem Self).own_at es b from)))
-    (entries-tree_with_values tree entries as_map (values last)) (tree_back X Y Z h p o q g 𝓛 b from x.0 (written last)) in
-    -- [the tree; what is left of the map; the open borrow; the map's name, twice; the tokens]
-    name_new ! tt ((Inner).coded.code tree) (λ δ. move ! (4 ∷ []) $ ages ! (λ n. move ! (3 ∷ 2 ∷ []) $ fjoin ! $
-    fpack ! (Inner).Denot (λ t. fsep ((mem Inner).own_at t b at) (fauth δ ((Inner).coded.code t))) tree $ bor_new_deep ! tt n κ $
-    let there : MutBor (Inner).Denot = record { ref_ptr = (b, at); ghost_name = δ; now = tree } in
-    move ! (3 ∷ 0 ∷ []) $ feq_i ! (List Val) (mut_vals there) (mut_vals there) refl $ fjoin3 ! $
-    -- [the tree, lent; the lender's right; the open borrow; what is left of the map; its name, twice; the tokens]
+    group ! 3 $ use1 𝓛 (later (some (λ (t : Opened). ‵ ((MutRef (named 0) κ Inner).own_val (there t) (mut_vals (there t))) ⊛ ‵ (flft κ half) ⊛ raw (Stay t))))
+    (lends_tree X Y Z h p o q g 𝓛 κ share b from γ entries LX LY LZ) $ await ! tt $ pick ! (λ t. split3 ! $
+    -- [the tree, lent; half of the token; what stays; the other tokens]
+    let tree = (there t).now in let as_map : tree.entries ≡ entries = t.0.1.0 in
     let G = triple_of 𝓛 (Lends.signature X Y Z o dt e de p dp q dq g dg dd) (Lends.spec X Y Z o dt e de p dp q dq g dg dd 𝓛 𝓜.mem 𝓡.returns) in
-    let z : G.Ghost = ((κs, (right, qs.1), bounds, (there, tt), (mut_vals there, tt)), tt) in
-    move ! (6 ∷ 7 ∷ []) $ join ! $ move ! (1 ∷ 0 ∷ []) $ nothing ! $ move ! (1 ∷ 0 ∷ []) $ join ! $ move ! (1 ∷ 0 ∷ []) $ join ! $ nothing ! $
+    let z : G.Ghost = ((κs, (half, qs.1), bounds, (there t, tt), (mut_vals (there t), tt)), tt) in
+    move ! (1 ∷ 3 ∷ []) $ join ! $ move ! (1 ∷ 0 ∷ []) $ nothing ! $ move ! (1 ∷ 0 ∷ []) $ join ! $ move ! (1 ∷ 0 ∷ []) $ join ! $ nothing ! $
     use0 𝓛 (raw (fact 𝓤 (κs.1.1.1.0 ⊑ Z.lives))) (fact_i 𝓤 _ (emp 𝓤) in_A) $ join ! $
     use0 𝓛 (raw (fact 𝓤 (κs.1.1.0 ⊑ Y.lives))) (fact_i 𝓤 _ (emp 𝓤) in_V) $ join ! $ use0 𝓛 (raw (fact 𝓤 (κs.1.0 ⊑ X.lives))) (fact_i 𝓤 _ (emp 𝓤) in_K) $ join ! $ move ! (1 ∷ 0 ∷ []) $ use2 𝓛 (raw (G.pre z)) (id⊢ 𝓤 _) $
     calls_at ! (framed 𝓤 𝓛.H 𝓜 𝓣) G (Lent.met 𝓤 𝓛 𝓜 𝓡 (code.calls-std::collections::BTreeMap::values_mut 𝓡.env wired) X Y Z LX LY LZ o dt e de p dp q dq g dg dd mo me mp mq mg md) z
     (and_then ! (get ! refl) (no_more !)) (λ v.
-    let lent = follows Inner Inner δ in let ended = Lends.ended X Y Z o dt e de p dp q dq g dg dd in
+    let ended = Lends.ended X Y Z o dt e de p dp q dq g dg dd in
     use1 𝓛 (later (some (λ (r : Answer.Denot). (half_alive ⊛ ‵ (Answer.own_val r (v ∷ []))) ⊛
-    some (λ (ws : Lasts ended κs (there, tt)). ‵ (lasts ended κs (there, tt) ws) ⊛ ‵ (lent (values_mut_name r) written)
+    some (λ (ws : Lasts ended κs (there t, tt)). ‵ (lasts ended κs (there t, tt) ws)
+    ⊛ ‵ (follows Inner Inner (there t).ghost_name (values_mut_name r) (rewritten X Y Z h p o q g 𝓛 κ share b from γ entries t))
     ⊛ raw (fact 𝓤 (TreeKeepsKeys tree 0)) ⊛ raw (fact 𝓤 (values_mut_rest r ≡ values tree)) ⊛ raw (fact 𝓤 (length (values_mut_rest r) ≡ btree_map_len tree))
     ⊛ raw (fact 𝓤 (YieldsMutRefsInOrder (values_mut_steps {K = X.Denot} {X = Y.Denot}) values_mut_rest)) ⊛ raw (fact 𝓤 (btree_map_len tree < 2 ^ 63)) ⊛ raw (fact 𝓤 (IsOrdered o.cmp tree))
     ⊛ raw (fact 𝓤 (YieldsMutRefsInReverse (values_mut_steps_back {K = X.Denot} {X = Y.Denot}) values_mut_rest)))))) (id⊢ 𝓤 _) $
     await ! tt $ pick ! (λ r. split ! $ split ! $ move ! (2 ∷ []) $ pick ! (λ ws. split ! $ drop ! $ split ! $ move ! (1 ∷ []) $
     split ! $ drop ! $ split ! $ heard ! _ (λ rest_is. split ! $ drop ! $ split ! $ drop ! $ split ! $ heard ! _ (λ small. drop ! $
-    -- [what the tree follows; the tokens; the iterator; the lender's right; the open borrow; what is left of the map; its name, twice]
-    move ! (4 ∷ 6 ∷ 7 ∷ 3 ∷ 0 ∷ 5 ∷ []) $ group ! 6 $
-    use1 𝓛 (later (some (λ (μ : GName). ‵ (flft κ left) ⊛ ‵ (follows Self Self γ μ kept))))
-    (closes_by 𝓛 (mem Self) (mem Inner) (mem Inner) (mem Self) written (λ last. last.entries) kept κ left b from b at γ δ (values_mut_name r) Rest back n ((Self).coded.code entries) ((Self).coded.code entries) entries) $
-    await ! tt $ pick ! (λ μ. split ! $ move ! (2 ∷ []) $ split ! $ move ! (2 ∷ 0 ∷ []) $ use2 𝓛 (‵ (flft κ share)) (𝓛.lfts.lft_join κ share) $ move ! (0 ∷ 1 ∷ []) $ join ! $
+    -- [what the tree follows; the tokens; the iterator; what stays]
+    move ! (1 ∷ []) $ split ! $ move ! (2 ∷ 0 ∷ 4 ∷ []) $ group ! 3 $
+    use1 𝓛 (later (some (λ (μ : GName). ‵ (flft κ share) ⊛ ‵ (follows Self Self γ μ (refilled X Y Z h p o q g 𝓛 κ share b from γ entries)))))
+    (tree_comes X Y Z h p o q g 𝓛 κ share b from γ entries t (values_mut_name r)) $ await ! tt $ pick ! (λ μ. split ! $ move ! (0 ∷ 2 ∷ []) $ join ! $
     -- [the tokens; what the map follows; the iterator]
     move ! (2 ∷ []) $ use1 𝓛 (‵ (Answer.own_val (under 𝓛 ℓ K V μ r) (v ∷ []))) (values_under 𝓛 ℓ K V μ r (v ∷ [])) $
     let its = under 𝓛 ℓ K V μ r in
@@ -128,4 +110,4 @@ values_mut_spec 𝓤 𝓛 𝓜 𝓡 wired X Y Z LX LY LZ h dh e de p dp o dt q d
     use0 𝓛 (raw (fact 𝓤 (values_mut_rest its ≡ values_of entries))) (fact_i 𝓤 _ (emp 𝓤) is) $
     use0 𝓛 (raw (fact 𝓤 (KeepsKeys entries))) (fact_i 𝓤 _ (emp 𝓤) (keeps_keys entries)) $
     -- [the clauses; the iterator; the tokens; what the map follows]
-    use0 𝓛 (‵ (let_go 1)) (gone 𝓛 1) $ move ! (6 ∷ 0 ∷ 5 ∷ []) $ group ! 3 $ move ! (0 ∷ 5 ∷ []) $ done !)))))))))))))))
+    use0 𝓛 (‵ (let_go 1)) (gone 𝓛 1) $ move ! (6 ∷ 0 ∷ 5 ∷ []) $ group ! 3 $ move ! (0 ∷ 5 ∷ []) $ done !)))))))))))))
