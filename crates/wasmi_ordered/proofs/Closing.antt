@@ -1,6 +1,6 @@
 -- A whole stays open while a part is lent to a call, and its name then follows a new one that knows it by values of its own. Assumes `Logic`.
 use Prim.Native.Nat.{ℕ}
-use mathlib.Core.Path.{◌≡◌, refl}
+use mathlib.Core.Path.{refl}
 use mathlib.Core.List.{[], ◌∷◌}
 use seplogic.Ra.Ura.{Ura}
 use base.Logic.{SProp, ent, sep, wand, all, ex, upd, upd_mono, upd_frame, via, emp, wand_i, snd∗, all_e, apply∗}
@@ -8,7 +8,7 @@ use base.Fml.{Lft, GName, Share, fsep, fwand, fex, fupd, flft, fdead, fobs, faut
 use base.Stored.{Gv}
 use ghost.Rules.{aged}
 use types.Follow.{after, Came, came, follows_anew}
-use types.Kit.{‵, raw, ◌⊛◌, later, ◌$◌, ◌∵◌, !, qed, by, done, move, keep, drop, use0, use1, use2, use3, split, join, group, fsplit, fjoin, fpick, fpack, feq_l, rewrite, assume, updating, await, now, show}
+use types.Kit.{‵, raw, ◌⊛◌, later, ◌$◌, ◌∵◌, !, qed, by, done, move, keep, drop, use0, use1, use2, split, join, group, fsplit, fjoin, fpick, fpack, feq_l, rewrite, assume, updating, await, now, show}
 use types.Late.{deep, close_deep}
 use types.Logic.{Logic, sem}
 use types.SemTy.{SemTy, Body}
@@ -51,7 +51,7 @@ module _ {M : Type 1} {𝓤 : Ura M} (𝓛 : Logic 𝓤) (R T U S : SemTy) (G : 
         rewrite ! 1 (λ (t : T.rep). ‵ (T.own_at t b' o')) is refl $ move ! (1 ∷ 3 ∷ []) $ use2 𝓛 (‵ (R.own_at (F (seen w)) b o)) (back w) $
         move ! (0 ∷ 3 ∷ []) $ join ! $ keep ! (3 ∷ 4 ∷ 0 ∷ []) $
         use2 𝓛 (raw (upd 𝓤 (Set (seen w)))) (𝓛.names.name_set_upd μ x y (code (seen w))) $
-        by ! (via 𝓤 (upd 𝓤 (sep 𝓤 (Set (seen w)) (Kept (seen w)))) (upd_frame 𝓤 (Set (seen w)) (Kept (seen w))) (upd_mono 𝓤 (closed (seen w))))))) 
+        by ! (via 𝓤 (upd 𝓤 (sep 𝓤 (Set (seen w)) (Kept (seen w)))) (upd_frame 𝓤 (Set (seen w)) (Kept (seen w))) (upd_mono 𝓤 (closed (seen w)))))))
 
   abbrev pub Closes : GName → SProp 𝓤
   Closes μ = sep 𝓤 (A.lft κ q) (sem 𝓛 (after R S γ μ F))

@@ -3,7 +3,7 @@
 --     tree_comes      what is left of the map is closed over it, and the map has other values in the end, of a new name
 use Prim.Native.Nat.{ℕ}
 use mathlib.Core.List.{List, [], ◌∷◌}
-use mathlib.Core.Path.{◌≡◌, refl, subst}
+use mathlib.Core.Path.{refl, subst}
 use seplogic.Ra.Ura.{Ura}
 use base.Logic.{SProp, ent, sep, ex}
 use base.Fml.{Lft, GName, Share, fsep, flft, fobs, fauth, fbor, flent}

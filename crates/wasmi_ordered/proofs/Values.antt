@@ -1,7 +1,6 @@
 -- The entries of the standard library's tree with other values are this crate's map with them.
 use Rattle.std.proofs.Common.{◌≡◌, refl, ap, ◌∙◌, List, [], ◌∷◌}
-use Rattle.std.specs.BTreeMap.{BTreeMap, values}
-use Rattle.std.specs.Map.{values_of}
+use Rattle.std.specs.BTreeMap.{BTreeMap}
 use Rattle.std_collections.specs.Btree.LentTree.{refilled}
 use Rattle.std_collections.specs.Layout.BTreeMapValues.{with_values as tree_with_values}
 use Rattle.wasmi_map_specs.specs.Values.{with_values}

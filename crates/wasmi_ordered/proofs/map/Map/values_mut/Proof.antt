@@ -1,5 +1,5 @@
 -- `values_mut` lends the tree to the standard library's call. Assumes `Logic`.
-use Rattle.std.proofs.Common.{◌≡◌, ◌∙◌, ◌<◌, ◌^◌, ℕ, [], ◌∷◌, List, length, refl, ap, subst}
+use Rattle.std.proofs.Common.{◌≡◌, ◌∙◌, ◌<◌, ◌^◌, [], ◌∷◌, List, length, refl, ap, subst}
 use Rattle.std.proofs.raw_atomic.Walks.{proved}
 use Rattle.std.proofs.collections.BTreeMap.values_mut.Met as Lent
 use Rattle.std.proofs.collections.btree_map.ValuesMut.TheLaws as AnswerLaws
@@ -33,7 +33,6 @@ use denote.Triple.Walked.{Stays, walk_of, stay_dropped, Goes-spent_ref, ends_at}
 use lib.ListN.{length-map}
 use mir.MapTy.{inst_fn}
 use mir.Syntax.{named, Args, a_type, dcons, dnil}
-use mir.Val.{Val, vptr}
 use types.ByLocal.{alloc_all, pass_all, free_all, look_at, get, through, sets, lands_as}
 use types.Kit.{‵, raw, ◌⊛◌, some, later, ◌$◌, ◌∵◌, !, qed, done, move, drop, join, split, split3, fsplit3, keep, use0, use1, use2, pick, await, group, suffices}
 use types.Run.{enter, addr, fld, stop, and_then, no_more, returns}
