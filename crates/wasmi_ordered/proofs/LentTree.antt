@@ -5,20 +5,21 @@ use Prim.Native.Nat.{ℕ}
 use mathlib.Core.List.{List, [], ◌∷◌}
 use mathlib.Core.Path.{refl, subst}
 use seplogic.Ra.Ura.{Ura}
-use base.Logic.{SProp, ent, sep, ex}
-use base.Fml.{Lft, GName, Share, fsep, flft, fobs, fauth, fbor, flent}
+use base.Logic.{SProp, ent, sep, wand, all, ex, via, upd, upd_mono, upd_frame, all_e, apply∗}
+use base.Fml.{Fml, Lft, GName, Share, feq, fex, fsep, fseps, fwand, fupd, fdead, flft, fobs, fauth, fbor, flent}
 use base.Share
 use base.Stored.{Gv}
 use ghost.Rules.{aged}
 use mir.Syntax.{named}
 use mir.Val.{Val}
-use types.Kit.{‵, raw, ◌⊛◌, some, later, ◌$◌, ◌∵◌, !, qed, done, move, split, fjoin, fjoin3, feq_i, fpack, use1, use2, pick, await, group, now, show, updating}
-use types.Late.{deep, ages, bor_new_deep}
+use types.Kit.{‵, raw, ◌⊛◌, some, later, ◌$◌, ◌∵◌, !, qed, by, done, move, keep, drop, split, join, fsplit, fjoin, fjoin3, feq_i, feq_l, fpick, fpack, rewrite, use0, use1, use2, pick, await, group, assume, now, show, updating}
+use types.Follow.{follows_anew}
+use types.Late.{deep, ages, bor_new_deep, close_deep}
 use types.Logic.{Logic, sem}
 use types.Mut.{open_ref}
 use types.SemTy.{Body}
 use types.Tokens.{name_new}
-use denote.Follow.{follows}
+use denote.Follow.{follows, came}
 use denote.Memory.{mem}
 use denote.Param.Laws.{Laws}
 use denote.RattleType.{RattleType}
@@ -32,7 +33,6 @@ use Rattle.std.specs.declared.cmp.PartialOrd as partial
 use Rattle.std.specs.declared.hash.Hash as hash
 use Rattle.std_collections.specs.Layout.BTreeMapValues.{with_values as tree_with_values}
 use Rattle.wasmi_map_specs.specs.Values.{with_values}
-use Rattle.wasmi_ordered.proofs.Closing.{closes_by}
 use Rattle.wasmi_ordered.proofs.MapMemory.{Map, Tree, Seen, tree_at, bare, tree_out, tree_back}
 use Rattle.wasmi_ordered.proofs.Values.{entries-tree_with_values}
 
@@ -62,18 +62,30 @@ module _ (X Y Z : RattleType) (h : hash.Ghosts X.Denot) (p : eq.Ghosts X.Denot) 
   abbrev pub lent : Opened → MutBor Inner.Denot
   lent t = record { ref_ptr = (b, at); ghost_name = t.1; now = tree t }
 
+  abbrev Whole : Fml
+  Whole = Body (mem Self) b from γ
+
+  abbrev Part : Opened → Fml
+  Part t = Body (mem Inner) b at t.1
+
+  -- the open borrow, and what is left of the map
+  abbrev Open : Opened → SProp 𝓤
+  Open t = aged 𝓤 H A t.2 κ (Share.left share) Whole
+
+  abbrev Bare : Opened → SProp 𝓤
+  Bare t = bare X Y Z h p o q g 𝓛 b from t.0.0
+
   -- what stays here while the call has the tree
   abbrev pub Stays : Opened → SProp 𝓤
-  Stays t = sep 𝓤 (aged 𝓤 H A t.2 κ (Share.left share) (Body (mem Self) b from γ)) (sep 𝓤 (A.obs γ (code entries)) (sep 𝓤 (A.auth γ (code entries))
-      (sep 𝓤 (A.lent (deep t.2 κ) (Body (mem Inner) b at t.1)) (bare X Y Z h p o q g 𝓛 b from t.0.0))))
+  Stays t = sep 𝓤 (Open t) (sep 𝓤 (A.obs γ (code entries)) (sep 𝓤 (A.auth γ (code entries)) (sep 𝓤 (A.lent (deep t.2 κ) (Part t)) (Bare t))))
 
   abbrev pub Lends : Opened → SProp 𝓤
   Lends t = sep 𝓤 (sem 𝓛 ((MutRef (named 0) κ Inner).own_val (lent t) (mut_vals (lent t)))) (sep 𝓤 (A.lft κ (Share.right share)) (Stays t))
 
   pub lends_tree : (LX : Laws X) (LY : Laws Y) (LZ : Laws Z)
-      → ent 𝓤 (sep 𝓤 (A.obs γ (code entries)) (sep 𝓤 (A.bor κ (Body (mem Self) b from γ)) (A.lft κ share))) (H.⇛ (ex 𝓤 Lends))
+      → ent 𝓤 (sep 𝓤 (A.obs γ (code entries)) (sep 𝓤 (A.bor κ Whole) (A.lft κ share))) (H.⇛ (ex 𝓤 Lends))
   lends_tree LX LY LZ =
-      qed 𝓛 (‵ (fobs γ (code entries)) ∷ ‵ (fbor κ (Body (mem Self) b from γ)) ∷ ‵ (flft κ share) ∷ []) ∵ updating ! $ move ! (2 ∷ []) $
+      qed 𝓛 (‵ (fobs γ (code entries)) ∷ ‵ (fbor κ Whole) ∷ ‵ (flft κ share) ∷ []) ∵ updating ! $ move ! (2 ∷ []) $
       use1 𝓛 (‵ (flft κ (Share.left share)) ⊛ ‵ (flft κ (Share.right share))) (𝓛.lfts.lft_split κ share) $ split ! $ move ! (2 ∷ 3 ∷ 0 ∷ []) $
       open_ref ! tt (mem Self) {b = b} {o = from} $
       use1 𝓛 (some (λ (x : Seen X Y Z h p o q g entries). ‵ ((mem Inner).own_at x.0.inner b at) ⊛ raw (bare X Y Z h p o q g 𝓛 b from x.0))) (tree_out X Y Z h p o q g 𝓛 b from LX LY LZ entries) $ pick ! (λ x. split ! $
@@ -91,18 +103,54 @@ module _ (X Y Z : RattleType) (h : hash.Ghosts X.Denot) (p : eq.Ghosts X.Denot) 
   abbrev pub refilled : Self.Denot → Self.Denot
   refilled last = with_values entries (values_of last)
 
-  back : (t : Opened) (last : Inner.Denot) → ent 𝓤 (sep 𝓤 (sem 𝓛 ((mem Inner).own_at (rewritten t last) b at)) (bare X Y Z h p o q g 𝓛 b from t.0.0)) (sem 𝓛 ((mem Self).own_at (refilled last.entries) b from))
-  back t last = subst (λ (es : Self.Denot). ent 𝓤 (sep 𝓤 (sem 𝓛 ((mem Inner).own_at (rewritten t last) b at)) (bare X Y Z h p o q g 𝓛 b from t.0.0)) (sem 𝓛 ((mem Self).own_at es b from)))
+  -- what the call says of the tree
+  abbrev Said : Opened → GName → SProp 𝓤
+  Said t γ' = sem 𝓛 (follows Inner Inner t.1 γ' (rewritten t))
+
+  -- the map is put together around its tree
+  filled : (t : Opened) (last : Inner.Denot) → ent 𝓤 (sep 𝓤 (sem 𝓛 ((mem Inner).own_at (rewritten t last) b at)) (Bare t)) (sem 𝓛 ((mem Self).own_at (refilled last.entries) b from))
+  filled t last = subst (λ (es : Self.Denot). ent 𝓤 (sep 𝓤 (sem 𝓛 ((mem Inner).own_at (rewritten t last) b at)) (Bare t)) (sem 𝓛 ((mem Self).own_at es b from)))
       (entries-tree_with_values (tree t) entries t.0.1.0 (values last)) (tree_back X Y Z h p o q g 𝓛 b from t.0.0 (rewritten t last))
+
+  -- the map's name under one that knows a map by its last entries
+  module _ (μ : GName) where
+    abbrev Turn : Self.Denot → SProp 𝓤
+    Turn es = wand 𝓤 (A.auth μ (code es)) (A.auth γ (code (refilled es)))
+
+    abbrev Known : Self.Denot → SProp 𝓤
+    Known es = sep 𝓤 (A.obs μ (code es)) (A.auth μ (code es))
+
+    abbrev There : Self.Denot → SProp 𝓤
+    There es = sep 𝓤 (all 𝓤 Turn) (sem 𝓛 ((mem Self).own_at (refilled es) b from))
+
+    there_again : (es : Self.Denot) → ent 𝓤 (sep 𝓤 (Known es) (There es)) (sem 𝓛 Whole)
+    there_again es =
+        qed 𝓛 ((‵ (fobs μ (code es)) ⊛ ‵ (fauth μ (code es))) ∷ raw (all 𝓤 Turn) ∷ ‵ ((mem Self).own_at (refilled es) b from) ∷ []) ∵
+        split ! $ move ! (2 ∷ []) $ use1 𝓛 (raw (Turn es)) (all_e 𝓤 Turn es) $ move ! (2 ∷ 0 ∷ 3 ∷ []) $ use2 𝓛 (‵ (fauth γ (code (refilled es)))) (apply∗ 𝓤 (A.auth μ (code es)) (A.auth γ (code (refilled es)))) $
+        move ! (1 ∷ 0 ∷ []) $ fjoin ! $ fpack ! Self.Denot (λ z. fsep ((mem Self).own_at z b from) (fauth γ (code z))) (refilled es) $ keep ! (0 ∷ []) $ done !
+
+    comes_again : (t : Opened) (γ' : GName) → ent 𝓤 (sep 𝓤 (all 𝓤 Turn) (sep 𝓤 (Known entries) (sep 𝓤 (Said t γ') (Bare t)))) (sem 𝓛 (fwand (fsep (fdead κ) (fseps (Part t ∷ []))) (fupd Whole)))
+    unfolding fseps
+    comes_again t γ' =
+        qed 𝓛 (raw (all 𝓤 Turn) ∷ raw (Known entries) ∷ ‵ (follows Inner Inner t.1 γ' (rewritten t)) ∷ raw (Bare t) ∷ []) ∵ assume ! (‵ (fsep (fdead κ) (fseps (Part t ∷ [])))) $
+        fsplit ! $ drop ! $ fsplit ! $ fpick ! (λ now_is. fsplit ! $ move ! (1 ∷ 5 ∷ []) $
+        -- [the tree's name; what it follows; the tree; nothing; how the names turn; the new name; what is left of the map]
+        use2 𝓛 (‵ (fex Inner.Denot (λ w. fsep (feq Inner.Denot now_is (rewritten t w)) (fauth γ' (Inner.coded.code w))))) (came 𝓛 Inner Inner (rewritten t) t.1 γ' now_is) $ fpick ! (λ last. fsplit ! $ feq_l ! (λ is. drop ! $
+        rewrite ! 0 (λ (w : Inner.Denot). ‵ ((mem Inner).own_at w b at)) is refl $ move ! (0 ∷ 4 ∷ []) $ use2 𝓛 (‵ ((mem Self).own_at (refilled last.entries) b from)) (filled t last) $
+        move ! (2 ∷ 0 ∷ []) $ join ! $ move ! (2 ∷ 0 ∷ []) $ use1 𝓛 (raw (upd 𝓤 (Known last.entries))) (𝓛.names.name_set_upd μ (code entries) (code entries) (code last.entries)) $ keep ! (0 ∷ 1 ∷ []) $
+        by ! (via 𝓤 (upd 𝓤 (sep 𝓤 (Known last.entries) (There last.entries))) (upd_frame 𝓤 (Known last.entries) (There last.entries)) (upd_mono 𝓤 (there_again last.entries))))))
 
   abbrev pub Comes : GName → SProp 𝓤
   Comes μ = sep 𝓤 (A.lft κ share) (sem 𝓛 (follows Self Self γ μ refilled))
 
-  pub tree_comes : (t : Opened) (γ' : GName) → ent 𝓤 (sep 𝓤 (sem 𝓛 (follows Inner Inner t.1 γ' (rewritten t))) (sep 𝓤 (A.lft κ (Share.right share)) (Stays t))) (H.⇛ (ex 𝓤 Comes))
+  pub tree_comes : (t : Opened) (γ' : GName) → ent 𝓤 (sep 𝓤 (Said t γ') (sep 𝓤 (A.lft κ (Share.right share)) (Stays t))) (H.⇛ (ex 𝓤 Comes))
   tree_comes t γ' =
-      let left = Share.left share in let Rest = bare X Y Z h p o q g 𝓛 b from t.0.0 in
-      qed 𝓛 (‵ (follows Inner Inner t.1 γ' (rewritten t)) ∷ ‵ (flft κ (Share.right share)) ∷ raw (aged 𝓤 H A t.2 κ left (Body (mem Self) b from γ)) ∷ ‵ (fobs γ (code entries)) ∷ ‵ (fauth γ (code entries))
-      ∷ ‵ (flent (deep t.2 κ) (Body (mem Inner) b at t.1)) ∷ raw Rest ∷ []) ∵ updating ! $ move ! (2 ∷ 3 ∷ 4 ∷ 5 ∷ 0 ∷ 6 ∷ []) $ group ! 6 $
-      use1 𝓛 (later (some (λ (μ : GName). ‵ (flft κ left) ⊛ ‵ (follows Self Self γ μ refilled))))
-      (closes_by 𝓛 (mem Self) (mem Inner) (mem Inner) (mem Self) (rewritten t) (λ last. last.entries) refilled κ left b from b at γ t.1 γ' Rest (back t) t.2 (code entries) (code entries) entries) $
-      await ! tt $ pick ! (λ μ. split ! $ move ! (0 ∷ 2 ∷ []) $ use2 𝓛 (‵ (flft κ share)) (𝓛.lfts.lft_join κ share) $ now ! $ show ! Comes μ $ done !)
+      let Ends : SProp 𝓤 = wand 𝓤 (A.dead κ) (A.dead κ) in
+      qed 𝓛 (‵ (follows Inner Inner t.1 γ' (rewritten t)) ∷ ‵ (flft κ (Share.right share)) ∷ raw (Open t) ∷ ‵ (fobs γ (code entries)) ∷ ‵ (fauth γ (code entries)) ∷ ‵ (flent (deep t.2 κ) (Part t)) ∷ raw (Bare t) ∷ []) ∵ updating ! $
+      move ! (3 ∷ 4 ∷ []) $ name_new ! tt (code entries) (λ μ. move ! (2 ∷ 3 ∷ 0 ∷ 1 ∷ []) $
+      use2 𝓛 (later (‵ (follows Self Self γ μ refilled) ⊛ raw (all 𝓤 (Turn μ)))) (follows_anew 𝓛 (mem Self) (mem Self) refilled γ μ (code entries) (code entries)) $ await ! tt $ split ! $
+      -- [what the map follows; how the names turn; the new name, twice; what the tree follows; half of the token; the open borrow; the lender's right; what is left of the map]
+      move ! (2 ∷ 3 ∷ []) $ join ! $ move ! (2 ∷ 0 ∷ 3 ∷ 7 ∷ []) $ group ! 4 $ use1 𝓛 (‵ (fwand (fsep (fdead κ) (fseps (Part t ∷ []))) (fupd Whole))) (comes_again μ t γ') $
+      use0 𝓛 (raw Ends) (qed 𝓛 [] ∵ assume ! (‵ (fdead κ)) $ done !) $ move ! (4 ∷ 5 ∷ 1 ∷ 0 ∷ []) $ group ! 4 $
+      use1 𝓛 (later (‵ (flft κ (Share.left share)) ⊛ raw (wand 𝓤 (A.dead κ) (A.bor κ Whole)))) (close_deep 𝓛 t.2 κ κ (Share.left share) Whole (Part t)) $ await ! tt $ split ! $
+      move ! (0 ∷ 3 ∷ 2 ∷ []) $ use2 𝓛 (‵ (flft κ share)) (𝓛.lfts.lft_join κ share) $ keep ! (0 ∷ 1 ∷ []) $ now ! $ show ! Comes μ $ done !)

@@ -1,5 +1,4 @@
 mod Gone
-mod Closing
 mod Ended
 mod HeldMemory
 mod LentTree
