@@ -1,6 +1,6 @@
 //! Tables by key: two that keep the first value of a key, and two that count.
-ghost use Rattle.std.specs.Prelude.{◌≡◌, [], true, false, not, is_some, IfOk, OnErr, IfSome, IfNone, Some};
-ghost use Rattle.std.specs.Map.{set_value};
+ghost use Rattle.std.specs.Prelude.{◌≡◌, [], true, false, not, length, is_some, IfOk, OnErr, IfSome, IfNone, Some};
+ghost use Rattle.std.specs.Map.{keys_of, set_value};
 ghost use Rattle.std.specs.Ordering.{eq_by_cmp};
 ghost use Rattle.wasmi_map_specs.specs.Maps.{value_at, ChangesAt};
 
@@ -64,6 +64,17 @@ pub fn reset<K: Hash + Ord, A: Allocator>(counts: &mut Map<K, u64, A>, key: &K) 
         }
         None => None,
     }
+}
+
+/// Sets each count to 0, and returns how many there are. Each key stays.
+pub fn reset_all<K: Hash + Ord, A: Allocator>(counts: &mut Map<K, u64, A>) -> usize
+    ensures len { result ≡ length counts.old }
+    ensures keys { keys_of counts.new ≡ keys_of counts.old }
+{
+    for count in counts.values_mut() {
+        *count = 0;
+    }
+    counts.len()
 }
 
 /// Takes all counts out of a table, and returns their sum, or `u64::MAX` if that is more. Nothing is left in
