@@ -22,7 +22,8 @@ module _ (K V A : RattleType) (h : hash.Ghosts K.Denot) (g : OrdMembers K.Denot)
   lends_get map key value = LendsSo (the_row K V A h (record { eq = g.eq }) (record { cmp = g.cmp }) (record { partial_cmp = g.partial_cmp }) heap) V map value
       (λ new last. new ≡ set_value (eq_by_cmp g.cmp key) map.now last) (λ new. new ≡ map.now)
 
-  -- the values are those of a tree at which the loan of this name ends, and no key changes
+  -- no key changes; the values are those of the entries at which the loan of this name ends, of which no
+  -- more is known
   abbrev pub lends_values : MutBor (List (K.Denot × V.Denot)) → GName → Fml
   lends_values map name = follows (the_row K V A h (record { eq = g.eq }) (record { cmp = g.cmp }) (record { partial_cmp = g.partial_cmp }) heap)
       (the_row K V A h (record { eq = g.eq }) (record { cmp = g.cmp }) (record { partial_cmp = g.partial_cmp }) heap) map.ghost_name name
