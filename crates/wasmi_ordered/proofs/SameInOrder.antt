@@ -47,6 +47,7 @@ module _ {K V : Type 0} {R : K → K → Ordering} (order : IsTotalOrder R) (F :
     where
       past : (e : K × V) (es : List (K × V)) → IsStrictlySortedBy R (keys_of (e ∷ es)) → eq_by_cmp R q e.0 ≡ true → lookup (eq_by_cmp R q) es ≡ None
       past e es up at = lookup-none (eq_by_cmp R q) es (none_past_head (eq_by_cmp_equiv order) q e es (IsDistinct-from_sorted R (keys_of (e ∷ es)) up) at)
+
       next : (at_x at_y : Bool) → eq_by_cmp R q x.0 ≡ at_x → eq_by_cmp R q y.0 ≡ at_y → eq_by_cmp R q x.0 ≡ eq_by_cmp R q y.0
           → option_eq F (cond at_x (Some x.1) (lookup (eq_by_cmp R q) a)) (cond at_y (Some y.1) (lookup (eq_by_cmp R q) b)) ≡ true → agree a b q ≡ true
       next true true is_x is_y alike whole = λ i. option_eq F (past x a up_a is_x i) (past y b up_b is_y i)
@@ -127,7 +128,8 @@ module _ {K : Type 0} {R : K → K → Ordering} (order : IsTotalOrder R) where
       let equal = equal_in_order order any_two (units a) (units b) (subst (IsStrictlySortedBy R) (sym (keys_of-units a)) up_a) (subst (IsStrictlySortedBy R) (sym (keys_of-units b)) up_b) in
       let of_maps = same_map-decides (eq_by_cmp_equiv order) any_two (units a) (units b) in
       sym (pointwise-units a b) ∙ equal
-      ∙ one_answer _ _
-        (λ same q. sym (is_some-units a q) ∙ (both _ _).0 (of_maps.0 same q) ∙ is_some-units b q,
-        λ each. of_maps.1 (λ q. (both _ _).1 (is_some-units a q ∙ each q ∙ sym (is_some-units b q))))
-        (same_set-decides (eq_by_cmp_equiv order) a b)
+      ∙ one_answer _ _ (
+        λ same q. sym (is_some-units a q) ∙ (both _ _).0 (of_maps.0 same q) ∙ is_some-units b q,
+        λ each. of_maps.1 (λ q. (both _ _).1 (is_some-units a q ∙ each q ∙ sym (is_some-units b q))),
+      )
+      (same_set-decides (eq_by_cmp_equiv order) a b)
