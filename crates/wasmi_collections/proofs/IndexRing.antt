@@ -1,12 +1,12 @@
--- Facts on a ring that is full.
-use Rattle.std.proofs.Common.{◌≡◌, ℕ, suc, ◌+◌, ◌-◌, ◌<◌, ◌≤◌, List, [], ◌∷◌, ◌++◌, length, take, drop, get_or, refl, sym, ap, subst, ◌∙◌, arith}
+-- Facts on a ring, and on the first entries of one.
+use Rattle.std.proofs.Common.{◌≡◌, ℕ, zero, suc, ◌+◌, ◌-◌, ◌<◌, ◌≤◌, List, [], ◌∷◌, ◌++◌, length, take, drop, get_or, set, refl, sym, ap, subst, ◌∙◌, arith}
 use Rattle.std.specs.List.{insert, remove}
-use Rattle.std.proofs.lemmas.List.{append_assoc, append-nil, length-take-le, take_all}
+use Rattle.std.proofs.lemmas.List.{append_assoc, append-nil, drop-set-add, drop-set-lt, length-append, length-drop, length-take-le, set-append_left, set-append_right, take-append-drop, take-append-le, take-set-le, take_all}
 use Rattle.std.proofs.lemmas.List.Edits.{insert-append_left, insert-append_right, length-insert}
 use Rattle.std.proofs.Math.ListN.{drop_of_length-le}
-use Rattle.std.proofs.Math.Seq.{take-suc, take-append_seam, drop-append_seam}
+use Rattle.std.proofs.Math.Seq.{take-suc, take-append_seam, take-set-lt, drop-append_seam}
 use Rattle.wasmi_collections.specs.declared.string_interner.entry.Entry.{Entry}
-use Rattle.wasmi_collections.specs.IndexBlocks.{from_first}
+use Rattle.wasmi_collections.specs.IndexBlocks.{IsRing, from_first, width}
 
 -- two lists in a row, read from where the second begins
 seam : (xs ys : List Entry) (n : ℕ) → length xs ≡ n → from_first (xs ++ ys) n ≡ ys ++ xs
@@ -69,3 +69,43 @@ module _ (ring : List Entry) (f : ℕ) (out x : Entry) (below : f < length ring)
       ∙ (ap (λ ys. ys ++ out ∷ []) moved
       ∙ (sym (insert-append_left (take f ring) (out ∷ []) p x short)
       ∙ (ap (λ ys. insert ys p x) (sym all) ∙ ap (λ ys. insert ys p x) (sym (append-nil ring)))))
+
+-- ---- a ring of any length
+
+pub length-from_first : (ring : List Entry) (first : ℕ) → length (from_first ring first) ≡ length ring
+length-from_first ring first =
+    omega (arith, length-append (drop first ring) (take first ring), length-append (take first ring) (drop first ring), ap length (take-append-drop first ring))
+
+-- one that isn't full begins at 0
+pub at_front : (ring : List Entry) (first : ℕ) → IsRing ring first → length (from_first ring first) < width → first ≡ 0
+at_front ring zero is short = refl
+at_front ring (suc first) is short = absurd (omega (arith, is.turned (omega arith), short, length-from_first ring (suc first)))
+
+-- one is written in the upper part, and in the lower
+pub set_upper : (ring : List Entry) (f p : ℕ) (x : Entry) → f + p < length ring → from_first (set ring (f + p) x) f ≡ set (from_first ring f) p x
+set_upper ring f p x within =
+    (λ i. drop-set-add f ring p x i ++ take-set-le f ring (f + p) x (omega arith) i)
+    ∙ sym (set-append_left (drop f ring) (take f ring) p x (omega (arith, within, length-drop f ring)))
+
+pub set_lower : (ring : List Entry) (f p s : ℕ) (x : Entry) → f ≤ length ring → s < f → p ≡ (length ring - f) + s
+    → from_first (set ring s x) f ≡ set (from_first ring f) p x
+set_lower ring f p s x within below at =
+    let less : p - (length ring - f) ≡ s = omega (arith, at) in
+    (λ i. drop-set-lt f ring s x below i ++ take-set-lt f ring s x below i)
+    ∙ (ap (λ k. drop f ring ++ set (take f ring) k x) (sym less)
+    ∙ sym (set-append_right (drop f ring) (take f ring) (length ring - f) p x (length-drop f ring) (omega (arith, at))))
+
+-- ---- the first entries of a ring
+
+-- one goes in among them, and the last of the others goes out
+pub take-insert_out : (entries now : List Entry) (n p : ℕ) (x out : Entry) → n < length entries → p ≤ n → now ++ out ∷ [] ≡ insert entries p x
+    → take (n + 1) now ≡ insert (take n entries) p x
+take-insert_out entries now n p x out within before is =
+    let first = take n entries in let others = drop n entries in
+    let whole : first ++ others ≡ entries = take-append-drop n entries in
+    let long : length first ≡ n = length-take-le n entries (omega (arith, within)) in
+    let more : length (insert first p x) ≡ n + 1 = omega (arith, length-insert first p x (omega (arith, before, long)), long) in
+    let as_many : n + 1 ≤ length now = omega (arith, within, before, ap length is, length-append now (out ∷ []), length-insert entries p x (omega (arith, within, before))) in
+    sym (take-append-le (n + 1) now (out ∷ []) as_many)
+    ∙ (ap (take (n + 1)) (is ∙ (ap (λ ys. insert ys p x) (sym whole) ∙ insert-append_left first others p x (omega (arith, before, long))))
+    ∙ (ap (λ k. take k (insert first p x ++ others)) (sym more) ∙ take-append_seam (insert first p x) others))

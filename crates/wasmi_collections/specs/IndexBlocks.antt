@@ -5,7 +5,7 @@ use Rattle.wasmi_collections.specs.declared.string_interner.entry.Entry.{Entry}
 
 -- how many entries a full block has
 abbrev pub width : ℕ
-width = 512
+width = 1024
 
 -- the entries of a block, and how many it has memory for
 pub record BlockState : Type 0 where
@@ -21,6 +21,12 @@ pub record IsRing (ring : List Entry) (first : ℕ) : Type 0 where
   pub small : length ring ≤ width
   pub within : first < width
   pub turned : 0 < first → length ring ≡ width
+
+-- the first entries of a ring are a block's, and the others stand for none. A ring that isn't full has no others
+pub record IsBlock (ring : List Entry) (len : ℕ) : Type 0 where
+  pub small : length ring ≤ width
+  pub within : len ≤ length ring
+  pub grows : length ring < width → len ≡ length ring
 
 -- all blocks are full but the last
 abbrev pub IsBlocks : List BlockState → Type 0

@@ -274,7 +274,7 @@ fn with_a_full_block<'a, 'l>(
     alloc: Global,
 ) -> Result<StringInterner<&'a Observed<'l>>, Fail> {
     let mut interner = StringInterner::new(handle);
-    for number in 0..512 {
+    for number in 0..1024 {
         let text = scattered(alloc, number)?;
         let _symbol = interner.get_or_intern(text.as_str())?;
     }
@@ -292,12 +292,12 @@ fn a_refused_block_of_the_index_is_opened_later(rt: HostRuntime) -> Result<(), F
             let mut interner = with_a_full_block(&handle, rt.alloc())?;
             log.refuse_once(nth);
             if interner.get_or_intern("memory").is_err() {
-                assert_equal!(rt; (interner.get("memory"), interner.len()), (None, 512));
+                assert_equal!(rt; (interner.get("memory"), interner.len()), (None, 1024));
                 refusals = refusals.wrapping_add(1);
             }
             let symbol = interner.get_or_intern("memory")?;
-            assert_equal!(rt; symbol.into_u32(), 512);
-            for number in 0..512 {
+            assert_equal!(rt; symbol.into_u32(), 1024);
+            for number in 0..1024 {
                 let text = scattered(rt.alloc(), number)?;
                 let found = interner.get(text.as_str());
                 assert_equal!(rt; found, Some(Sym::from_u32(number)), "at {nth}");

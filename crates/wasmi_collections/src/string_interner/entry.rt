@@ -26,6 +26,15 @@ impl Entry {
         }
     }
 
+    // One that stands for no text.
+    pub(super) fn filler() -> Entry {
+        Entry {
+            head: 0,
+            tail: 0,
+            symbol: Sym::from_u32(0),
+        }
+    }
+
     // The symbol.
     pub(super) fn symbol(&self) -> Sym
         ensures { result ≡ self.now.symbol }

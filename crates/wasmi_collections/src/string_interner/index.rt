@@ -4,9 +4,11 @@ ghost use Rattle.std.specs.List.{insert};
 
 mod block;
 mod blocks;
+mod ring;
 
 use super::entry::Entry;
-use block::{Block, WIDTH};
+use block::Block;
+use ring::WIDTH;
 use std::alloc::Allocator;
 use std::marker::Model;
 use wasmi_arena::ArenaError;

@@ -1,33 +1,30 @@
 //! A block of the index of an interner.
-ghost use Rattle.std.specs.Prelude.{◌≡◌, ◌++◌, ◌<◌, ◌≤◌, [], ◌∷◌, length, OnOk, slice_index_or, vec_items};
-ghost use Rattle.std.specs.List.{insert, remove};
-ghost use Rattle.wasmi_collections.specs.IndexBlocks.{width};
+ghost use Rattle.std.specs.Prelude.{◌≡◌, ◌++◌, ◌+◌, ◌<◌, ◌≤◌, [], ◌∷◌, length, take, OnOk, slice_index_or};
+ghost use Rattle.std.specs.List.{insert};
+ghost use Rattle.wasmi_collections.specs.IndexBlocks.{IsBlock, width};
 
+use super::ring::{Ring, WIDTH};
 use crate::string_interner::entry::Entry;
 use std::alloc::{AllocError, Allocator};
 use std::marker::Model;
-use std::mem;
 
-// How many entries a full block has.
-pub(super) const WIDTH: usize = 512;
-
-// Entries in a ring.
+// The first entries of a ring. What a full ring has behind them stands for none, so that an entry goes to the
+// front as to the end, and moves no other.
 #[derive(Drop)]
 pub(super) struct Block<A: Allocator> {
-    ring: Vec<Entry, A>,
-    // Where the first stands: at 0, where the block isn't full.
-    first: usize,
+    ring: Ring<A>,
+    len: usize,
 }
 
 impl<A: Allocator> Model for Block<A> {
-    ghost use Rattle.std.specs.Prelude.{vec_items, vec_capacity};
-    ghost use Rattle.wasmi_collections.specs.IndexBlocks.{BlockState, IsRing, from_first};
+    ghost use Rattle.std.specs.Prelude.{take};
+    ghost use Rattle.wasmi_collections.specs.IndexBlocks.{BlockState, IsBlock};
 
     ghost Value = { BlockState };
 
-    ghost view = { λ block. record { entries = from_first (vec_items block.ring) block.first; capacity = vec_capacity block.ring } };
+    ghost view = { λ block. record { entries = take block.len block.ring.entries; capacity = block.ring.capacity } };
 
-    ghost invariant = { λ block. IsRing (vec_items block.ring) block.first };
+    ghost invariant = { λ block. IsBlock block.ring.entries block.len };
 }
 
 impl<A: Allocator> Block<A> {
@@ -36,8 +33,8 @@ impl<A: Allocator> Block<A> {
         ensures { result.entries ≡ [] }
     {
         Block {
-            ring: Vec::new(alloc),
-            first: 0,
+            ring: Ring::new(alloc),
+            len: 0,
         }
     }
 
@@ -45,7 +42,7 @@ impl<A: Allocator> Block<A> {
     pub(super) fn len(&self) -> usize
         ensures { result ≡ length self.now.entries }
     {
-        self.ring.len()
+        self.len
     }
 
     // The entry at a place.
@@ -53,15 +50,23 @@ impl<A: Allocator> Block<A> {
         requires { place < length self.now.entries }
         ensures { result ≡ slice_index_or self.now.entries place result }
     {
-        self.ring[(self.first + place) % WIDTH]
+        self.ring.at(place)
     }
 
-    // Makes room for one more entry.
-    pub(super) fn reserve(&mut self) -> Result<(), AllocError>
+    // Makes room for one more entry, or at once for all.
+    pub(super) fn reserve(&mut self, all: bool) -> Result<(), AllocError>
+        requires { length self.old.entries < width }
         ensures entries { self.new.entries ≡ self.old.entries }
         ensures ok { OnOk result (length self.new.entries < self.new.capacity) }
     {
-        self.ring.reserve(1)
+        if self.ring.len() == WIDTH {
+            return Ok(());
+        }
+        if all {
+            self.ring.fill()
+        } else {
+            self.ring.reserve()
+        }
     }
 
     // Puts an entry at a place. There is room.
@@ -71,7 +76,8 @@ impl<A: Allocator> Block<A> {
         requires room { length self.old.entries < self.old.capacity }
         ensures { self.new.entries ≡ insert self.old.entries place entry }
     {
-        let _put = self.ring.insert(place, entry);
+        put_among(&mut self.ring, self.len, place, entry);
+        self.len += 1;
     }
 
     // Puts an entry before the first, and takes the last out. The block is full.
@@ -79,9 +85,7 @@ impl<A: Allocator> Block<A> {
         requires { length self.old.entries ≡ width }
         ensures { self.new.entries ++ result ∷ [] ≡ entry ∷ self.old.entries }
     {
-        let last = (self.first + WIDTH - 1) % WIDTH;
-        self.first = last;
-        mem::replace(&mut self.ring[last], entry)
+        self.ring.turn(entry)
     }
 
     // Puts an entry at a place, and takes the last out. The block is full.
@@ -90,40 +94,31 @@ impl<A: Allocator> Block<A> {
         requires within { place < width }
         ensures { self.new.entries ++ result ∷ [] ≡ insert self.old.entries place entry }
     {
-        if self.first == 0 {
-            return exchange(&mut self.ring, WIDTH - 1, place, entry);
-        }
-        let last = self.first - 1;
-        let behind = WIDTH - self.first;
-        if place <= behind {
-            self.first = last;
-            exchange(&mut self.ring, last, last + place, entry)
-        } else {
-            exchange(&mut self.ring, last, place - behind, entry)
-        }
+        self.ring.push_out(place, entry)
     }
 }
 
-// Takes an entry out, and puts another in where what is left has that place.
-fn exchange<A: Allocator>(ring: &mut Vec<Entry, A>, from: usize, to: usize, entry: Entry) -> Entry
-    requires from { from < length (vec_items ring.old) }
-    requires to { to < length (vec_items ring.old) }
-    ensures items { vec_items ring.new ≡ insert (remove (vec_items ring.old) from) to entry }
-    ensures len { length (vec_items ring.new) ≡ length (vec_items ring.old) }
-    ensures taken { result ≡ slice_index_or (vec_items ring.old) from result }
+// Puts an entry among the first ones of a ring, of which there are `len`.
+fn put_among<A: Allocator>(ring: &mut Ring<A>, len: usize, place: usize, entry: Entry)
+    requires within { place ≤ len }
+    requires block { IsBlock ring.old.entries len }
+    requires free { len < width }
+    requires room { len < ring.old.capacity }
+    ensures entries { take (len + 1) ring.new.entries ≡ insert (take len ring.old.entries) place entry }
+    ensures block { IsBlock ring.new.entries (len + 1) }
 {
-    let out = mem::replace(&mut ring[from], entry);
-    if to <= from {
-        ring[to..from + 1].rotate_right(1);
+    if ring.len() < WIDTH {
+        ring.put(place, entry);
+    } else if place == len {
+        ring.set(place, entry);
+    } else if place == 0 {
+        let _filler = ring.turn(entry);
     } else {
-        ring[from..to + 1].rotate_left(1);
+        let _filler = ring.push_out(place, entry);
     }
-    out
 }
 
 impl<A: Allocator + Clone> Clone for Block<A> {
-    ghost use Rattle.std.specs.Prelude.{◌≡◌};
-
     ghost is_clone = { λ block copy. copy.entries ≡ block.entries };
 
     ghost is_infallible = { λ _. ⊥ };
@@ -131,7 +126,7 @@ impl<A: Allocator + Clone> Clone for Block<A> {
     fn clone(&self) -> Result<Self, AllocError> {
         Ok(Block {
             ring: self.ring.clone()?,
-            first: self.first,
+            len: self.len,
         })
     }
 }

@@ -3,7 +3,8 @@ ghost use Rattle.std.specs.Prelude.{◌≡◌, ◌<◌, ◌≤◌, length, OnOk,
 ghost use Rattle.std.specs.List.{insert as insert_at};
 ghost use Rattle.wasmi_collections.specs.IndexBlocks.{IsBlocks, entries_in, places_in, room_in};
 
-use super::block::{Block, WIDTH};
+use super::block::Block;
+use super::ring::WIDTH;
 use crate::string_interner::entry::Entry;
 use std::alloc::{AllocError, Allocator};
 
@@ -16,7 +17,7 @@ pub(super) fn reserve<A: Allocator + Clone>(blocks: &mut Vec<Block<A>, A>) -> Re
 {
     open_block(blocks)?;
     let last = blocks.len() - 1;
-    blocks[last].reserve()
+    blocks[last].reserve(last > 0)
 }
 
 // Opens a block where the last is full, or there is none.

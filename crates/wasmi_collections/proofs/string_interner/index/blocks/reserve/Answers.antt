@@ -26,3 +26,10 @@ pub returns-clause-ok : goal.returns-clause-ok
 returns-clause-ok g c =
     let many = counted (vec_items c.open_block.new.blocks) (c.len-last.result - 1) c.index_mut.result.now c.open_block.ensures.blocks (last_at g c) in
     on_ok_weaker c.reserve.result (λ fits. omega (arith, fits, (after g c).2, many.2, c.in_ok-open_block.ensures.ok, ap length c.reserve.ensures.entries, ap (λ b. length b.entries) c.index_mut.ensures.value)) c.reserve.ensures.ok
+
+pub reserve-requires : goal.reserve-requires
+reserve-requires g c =
+    let now = c.open_block.new.blocks in
+    let last : c.len-last.result - 1 + 1 ≡ length (vec_items now) = omega (arith, some_place (vec_items now) c.in_ok-open_block.ensures.ok, c.len-last.ensures, now.ok) in
+    let many = counted (vec_items now) (c.len-last.result - 1) c.index_mut.result.now c.open_block.ensures.blocks last in
+    omega (arith, many.2, c.in_ok-open_block.ensures.ok, ap (λ b. length b.entries) c.index_mut.ensures.value)

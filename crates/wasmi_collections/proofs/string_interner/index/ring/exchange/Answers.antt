@@ -4,7 +4,7 @@ use Rattle.std.proofs.lemmas.List.{take_at}
 use Rattle.std.proofs.lemmas.List.Edits.{length-insert, length-remove}
 use Rattle.wasmi_collections.specs.declared.string_interner.entry.Entry.{Entry}
 use Rattle.wasmi_collections.proofs.IndexExchange.{moved_down, moved_up}
-use Rattle.wasmi_collections.proofs.string_interner.index.block.exchange.Goals as goal
+use Rattle.wasmi_collections.proofs.string_interner.index.ring.exchange.Goals as goal
 
 -- one goes in for one that goes out
 module _ (items : List Entry) (from to : ℕ) (entry : Entry) where

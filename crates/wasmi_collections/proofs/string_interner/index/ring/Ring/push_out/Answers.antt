@@ -3,11 +3,11 @@ use Rattle.std.specs.List.{insert}
 use Rattle.std.proofs.lemmas.List.{length-append, length-drop}
 use Rattle.wasmi_collections.specs.IndexBlocks.{BlockState, from_first, width}
 use Rattle.wasmi_collections.proofs.IndexRing.{put_behind, put_before, put_straight}
-use Rattle.wasmi_collections.proofs.string_interner.index.block.Block.push_out.Goals as goal
+use Rattle.wasmi_collections.proofs.string_interner.index.ring.Ring.push_out.Goals as goal
 
 pub returns-then-self-eq0 : goal.returns-then-self-eq0
 returns-then-self-eq0 g c =
-    let ring = vec_items c.self.inside.ring in let first = c.self.inside.first in let out = c.exchange.result in
+    let ring = vec_items c.self.inside.slots in let first = c.self.inside.first in let out = c.exchange.result in
     let place = c.args.place in let entry = c.args.entry in
     let seen = ap (λ (s : BlockState). length s.entries) c.self.view_is ∙ c.requires.full in
     let straight : length (from_first ring 0) ≡ length (from_first ring first) = ap (λ k. length (from_first ring k)) (sym c.if-self-eq0.true) in
@@ -20,7 +20,7 @@ returns-then-self-eq0 g c =
 
 pub returns-then-place-behind : goal.returns-then-place-behind
 returns-then-place-behind g c =
-    let ring = vec_items c.self.inside.ring in let first = c.self.inside.first in let out = c.exchange-then-place-behind.result in
+    let ring = vec_items c.self.inside.slots in let first = c.self.inside.first in let out = c.exchange-then-place-behind.result in
     let place = c.args.place in let entry = c.args.entry in
     let full : length ring ≡ width = c.self.invariant.turned (omega (arith, c.if-self-eq0.false)) in
     let next : first ≡ suc (first - 1) = omega (arith, c.if-self-eq0.false) in
@@ -32,7 +32,7 @@ returns-then-place-behind g c =
 
 pub returns-else-place-behind : goal.returns-else-place-behind
 returns-else-place-behind g c =
-    let ring = vec_items c.self.inside.ring in let first = c.self.inside.first in let out = c.exchange-else-place-behind.result in
+    let ring = vec_items c.self.inside.slots in let first = c.self.inside.first in let out = c.exchange-else-place-behind.result in
     let place = c.args.place in let entry = c.args.entry in
     let full : length ring ≡ width = c.self.invariant.turned (omega (arith, c.if-self-eq0.false)) in
     let next : first ≡ suc (first - 1) = omega (arith, c.if-self-eq0.false) in
