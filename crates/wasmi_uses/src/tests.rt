@@ -15,7 +15,7 @@ use crate::search::{position_of, push_and_find};
 use crate::spawn::spawn;
 use crate::store::FuncStore;
 use crate::symbols::{Symbols, intern_both};
-use crate::tables::{add_once, add_once_hashed, reset, settle};
+use crate::tables::{add_once, add_once_hashed, reset, reset_all, settle};
 use crate::transfer::transfer;
 use crate::write::put_or_alloc;
 use std::test::Fail;
@@ -152,6 +152,8 @@ fn a_table_of_counts(rt: HostRuntime) -> Result<(), Fail> {
     assert_equal!(rt; reset(&mut counts, &7), Some(3));
     assert_equal!(rt; reset(&mut counts, &9), None);
     assert_equal!(rt; (counts.get(&7), counts.get(&8)), (Some(&0), Some(&4)));
+    assert_equal!(rt; reset_all(&mut counts), 2);
+    assert_equal!(rt; (counts.get(&7), counts.get(&8)), (Some(&0), Some(&0)));
     Ok(())
 }
 
