@@ -1,1 +1,2 @@
 mod Handles
+mod LoggedHandles

@@ -5,6 +5,7 @@
 pub mod asserts;
 pub mod counted;
 pub mod few_keys;
+pub mod logged;
 pub mod noted;
 pub mod observed;
 pub mod one;

@@ -89,6 +89,31 @@ impl Log {
         self.misplaced.get()
     }
 
+    // Writes a request down, and answers whether it is refused.
+    pub(crate) fn refuses(&self, size: usize) -> bool {
+        add(&self.bytes, size as u64);
+        add(&self.requests, 1);
+        let number = self.requests();
+        match self.refusals.get() {
+            Refusals::None => false,
+            Refusals::Once(refused) => number == refused,
+            Refusals::From(first) => first <= number,
+        }
+    }
+
+    // Writes down that a block was given.
+    pub(crate) fn gives(&self) {
+        add(&self.given, 1);
+    }
+
+    // Writes down that a block came back, and whether it was out.
+    pub(crate) fn takes_back(&self, was_out: bool) {
+        add(&self.returned, 1);
+        if !was_out {
+            add(&self.misplaced, 1);
+        }
+    }
+
     fn coming(&self, nth: u64) -> u64 {
         self.requests.get().saturating_add(nth)
     }
@@ -114,14 +139,7 @@ impl<'a> Observed<'a> {
 
     // Writes a request down, and answers whether it is refused.
     fn refuses(&self, size: usize) -> bool {
-        add(&self.log.bytes, size as u64);
-        add(&self.log.requests, 1);
-        let number = self.log.requests();
-        match self.log.refusals.get() {
-            Refusals::None => false,
-            Refusals::Once(refused) => number == refused,
-            Refusals::From(first) => first <= number,
-        }
+        self.log.refuses(size)
     }
 
     /// Writes down whether a block was given, and hands the answer on.
@@ -129,7 +147,7 @@ impl<'a> Observed<'a> {
         ensures { result ≡ answer }
     {
         if answer.is_ok() {
-            add(&self.log.given, 1);
+            self.log.gives();
             add(&self.out, 1);
         }
         answer
@@ -137,11 +155,9 @@ impl<'a> Observed<'a> {
 
     /// Writes down that a block came back.
     pub fn takes_back(&self) {
-        add(&self.log.returned, 1);
-        match self.out.get().checked_sub(1) {
-            Some(out) => self.out.set(out),
-            None => add(&self.log.misplaced, 1),
-        }
+        let out = self.out.get();
+        self.log.takes_back(out != 0);
+        self.out.set(out.saturating_sub(1));
     }
 }
 
