@@ -8,7 +8,8 @@ use wasmi_collections::StringInterner;
 use wasmi_collections::arena::{Arena, ArenaError, DedupArena};
 use wasmi_collections::run::{DedupCommand, DedupReply, run_dedup};
 use wasmi_vectors::assert_equal;
-use wasmi_vectors::observed::{Log, Observed};
+use wasmi_vectors::logged::Logged;
+use wasmi_vectors::observed::Log;
 use wasmi_vectors::one::One;
 use wasmi_vectors::tiny::Tiny;
 
@@ -231,8 +232,8 @@ fn each_request_refused_in_turn(rt: HostRuntime) -> Result<(), Fail> {
     for nth in 1..30 {
         let log = Log::new();
         {
-            let heap = Observed::new(rt.alloc(), &log);
-            let mut arena: DedupArena<usize, u32, &Observed<'_>> = DedupArena::new(&heap);
+            let heap = Logged::new(rt.alloc(), &log);
+            let mut arena: DedupArena<usize, u32, Logged<'_>> = DedupArena::new(heap);
             log.refuse_once(nth);
             for value in 0..100u32 {
                 if let Err(error) = arena.alloc(value) {
@@ -249,9 +250,7 @@ fn each_request_refused_in_turn(rt: HostRuntime) -> Result<(), Fail> {
 }
 
 // An arena of 0 to 99. A value that is refused is handed in again.
-fn hundred<'a, 'l>(
-    heap: &'a Observed<'l>,
-) -> Result<DedupArena<usize, u32, &'a Observed<'l>>, ArenaError> {
+fn hundred<'l>(heap: Logged<'l>) -> Result<DedupArena<usize, u32, Logged<'l>>, ArenaError> {
     let mut arena = DedupArena::new(heap);
     for value in 0..100u32 {
         if arena.alloc(value).is_err() {
@@ -267,9 +266,9 @@ fn a_value_that_is_there_needs_no_memory(rt: HostRuntime) -> Result<(), Fail> {
     for nth in 1..30 {
         let log = Log::new();
         {
-            let heap = Observed::new(rt.alloc(), &log);
+            let heap = Logged::new(rt.alloc(), &log);
             log.refuse_once(nth);
-            let mut arena = hundred(&heap)?;
+            let mut arena = hundred(heap)?;
             log.refuse_from(1);
             let asked = log.requests();
             assert_equal!(rt; (arena.alloc(0), arena.alloc(99)), (Ok(0), Ok(99)));
@@ -299,8 +298,8 @@ fn a_refused_clone_changes_nothing(rt: HostRuntime) -> Result<(), Fail> {
 
 // Whether the values from 0 on were replied to by the keys in turn, or else refused, and have these keys.
 fn are_in_turn(
-    arena: &DedupArena<usize, u32, &Observed<'_>>,
-    replies: Vec<DedupReply<usize, u32>, &Observed<'_>>,
+    arena: &DedupArena<usize, u32, Logged<'_>>,
+    replies: Vec<DedupReply<usize, u32>, Logged<'_>>,
 ) -> bool {
     let mut next = 0usize;
     for (value, reply) in (0u32..).zip(replies) {
@@ -320,13 +319,13 @@ fn a_run_goes_on_after_a_refusal(rt: HostRuntime) -> Result<(), Fail> {
     for nth in 1..20 {
         let log = Log::new();
         {
-            let heap = Observed::new(rt.alloc(), &log);
-            let mut arena: DedupArena<usize, u32, &Observed<'_>> = DedupArena::new(&heap);
+            let heap = Logged::new(rt.alloc(), &log);
+            let mut arena: DedupArena<usize, u32, Logged<'_>> = DedupArena::new(heap);
             let commands = (0..20u32)
                 .map(|value| DedupCommand::Alloc(value))
-                .collect(&heap)?;
+                .collect(heap)?;
             log.refuse_once(nth);
-            match run_dedup(&heap, &mut arena, commands) {
+            match run_dedup(heap, &mut arena, commands) {
                 Ok(replies) => assert!(rt; are_in_turn(&arena, replies), "at {nth}"),
                 Err(error) => assert_equal!(rt;
                     (nth, error, arena.len()),
@@ -344,9 +343,9 @@ fn a_run_goes_on_after_a_refusal(rt: HostRuntime) -> Result<(), Fail> {
 }
 
 // An arena of "a" and "b". Each text is one request, and so is each clone of one.
-fn two_texts<'a, 'l>(
-    heap: &'a Observed<'l>,
-) -> Result<DedupArena<usize, String<&'a Observed<'l>>, &'a Observed<'l>>, ArenaError> {
+fn two_texts<'l>(
+    heap: Logged<'l>,
+) -> Result<DedupArena<usize, String<Logged<'l>>, Logged<'l>>, ArenaError> {
     let mut arena = DedupArena::new(heap);
     for text in ["a", "b"] {
         let _key = arena.alloc(String::from_str(heap, text)?)?;
@@ -358,15 +357,15 @@ fn two_texts<'a, 'l>(
 fn a_new_value_is_cloned_once(rt: HostRuntime) -> Result<(), Fail> {
     let log = Log::new();
     {
-        let heap = Observed::new(rt.alloc(), &log);
-        let mut arena = two_texts(&heap)?;
+        let heap = Logged::new(rt.alloc(), &log);
+        let mut arena = two_texts(heap)?;
         let (asked, returned) = (log.requests(), log.returned());
-        assert_equal!(rt; arena.alloc(String::from_str(&heap, "a")?)?, 0);
+        assert_equal!(rt; arena.alloc(String::from_str(heap, "a")?)?, 0);
         assert_equal!(rt;
             (log.requests(), log.returned()),
             (asked.wrapping_add(1), returned.wrapping_add(1))
         );
-        assert_equal!(rt; arena.alloc(String::from_str(&heap, "c")?)?, 2);
+        assert_equal!(rt; arena.alloc(String::from_str(heap, "c")?)?, 2);
         assert_equal!(rt; log.requests(), asked.wrapping_add(3));
     }
     assert_equal!(rt; (log.returned(), log.misplaced()), (log.given(), 0));
@@ -378,13 +377,13 @@ fn a_new_value_is_cloned_once(rt: HostRuntime) -> Result<(), Fail> {
 fn a_value_whose_clone_is_refused_is_dropped(rt: HostRuntime) -> Result<(), Fail> {
     let log = Log::new();
     {
-        let heap = Observed::new(rt.alloc(), &log);
-        let mut arena = two_texts(&heap)?;
+        let heap = Logged::new(rt.alloc(), &log);
+        let mut arena = two_texts(heap)?;
         log.refuse_once(2);
-        let refused = arena.alloc(String::from_str(&heap, "d")?);
+        let refused = arena.alloc(String::from_str(heap, "d")?);
         assert_equal!(rt; refused, Err(ArenaError::OutOfSystemMemory));
         arena.clear();
-        assert_equal!(rt; arena.alloc(String::from_str(&heap, "b")?)?, 0);
+        assert_equal!(rt; arena.alloc(String::from_str(heap, "b")?)?, 0);
     }
     assert_equal!(rt; (log.returned(), log.misplaced()), (log.given(), 0));
     Ok(())
@@ -395,10 +394,10 @@ fn a_value_whose_clone_is_refused_is_dropped(rt: HostRuntime) -> Result<(), Fail
 fn a_value_by_reference_is_cloned_twice(rt: HostRuntime) -> Result<(), Fail> {
     let log = Log::new();
     {
-        let heap = Observed::new(rt.alloc(), &log);
-        let mut arena = two_texts(&heap)?;
-        let known = String::from_str(&heap, "a")?;
-        let new = String::from_str(&heap, "c")?;
+        let heap = Logged::new(rt.alloc(), &log);
+        let mut arena = two_texts(heap)?;
+        let known = String::from_str(heap, "a")?;
+        let new = String::from_str(heap, "c")?;
         let asked = log.requests();
         assert_equal!(rt; (arena.alloc_ref(&known)?, log.requests()), (0, asked));
         for nth in [1, 2] {
@@ -419,16 +418,16 @@ fn a_value_by_reference_is_cloned_twice(rt: HostRuntime) -> Result<(), Fail> {
 fn a_text_that_is_there_is_not_copied(rt: HostRuntime) -> Result<(), Fail> {
     let log = Log::new();
     {
-        let heap = Observed::new(rt.alloc(), &log);
-        let mut arena = two_texts(&heap)?;
+        let heap = Logged::new(rt.alloc(), &log);
+        let mut arena = two_texts(heap)?;
         let asked = log.requests();
-        assert_equal!(rt; (arena.alloc_str(&heap, "b")?, log.requests()), (1, asked));
+        assert_equal!(rt; (arena.alloc_str(heap, "b")?, log.requests()), (1, asked));
         for nth in [1, 2] {
             log.refuse_once(nth);
-            assert_equal!(rt; arena.alloc_str(&heap, "c"), Err(ArenaError::OutOfSystemMemory));
+            assert_equal!(rt; arena.alloc_str(heap, "c"), Err(ArenaError::OutOfSystemMemory));
             assert_equal!(rt; (arena.key_of_str("c"), arena.len()), (None, 2), "at {nth}");
         }
-        assert_equal!(rt; (arena.alloc_str(&heap, "c")?, arena.key_of_str("c")), (2, Some(2)));
+        assert_equal!(rt; (arena.alloc_str(heap, "c")?, arena.key_of_str("c")), (2, Some(2)));
         assert_equal!(rt; log.requests(), asked.wrapping_add(5));
     }
     assert_equal!(rt; (log.returned(), log.misplaced()), (log.given(), 0));
@@ -443,14 +442,14 @@ fn a_long_text_that_is_there_is_not_copied(rt: HostRuntime) -> Result<(), Fail> 
         long.push_str("0123456789")?;
     }
     let log = Log::new();
-    let heap = Observed::new(rt.alloc(), &log);
-    let mut texts = two_texts(&heap)?;
-    let mut interner = StringInterner::new(&heap);
-    let key = texts.alloc_str(&heap, long.as_str())?;
+    let heap = Logged::new(rt.alloc(), &log);
+    let mut texts = two_texts(heap)?;
+    let mut interner = StringInterner::new(heap);
+    let key = texts.alloc_str(heap, long.as_str())?;
     let symbol = interner.get_or_intern(long.as_str())?;
     log.refuse_from(1);
     let asked = log.requests();
-    assert_equal!(rt; texts.alloc_str(&heap, long.as_str()), Ok(key));
+    assert_equal!(rt; texts.alloc_str(heap, long.as_str()), Ok(key));
     assert_equal!(rt; interner.get_or_intern(long.as_str()), Ok(symbol));
     assert_equal!(rt; interner.extend([long.as_str()]), Ok(()));
     assert_equal!(rt; log.requests(), asked);
@@ -463,20 +462,18 @@ fn what_is_refused_is_dropped(rt: HostRuntime) -> Result<(), Fail> {
     for nth in 1..12 {
         let log = Log::new();
         {
-            let heap = Observed::new(rt.alloc(), &log);
-            let mut arena: DedupArena<Tiny, String<&Observed<'_>>, &Observed<'_>> = DedupArena::new(
-                &heap,
-            );
+            let heap = Logged::new(rt.alloc(), &log);
+            let mut arena: DedupArena<Tiny, String<Logged<'_>>, Logged<'_>> = DedupArena::new(heap);
             log.refuse_once(nth);
             for text in ["p", "q", "r", "s", "t"] {
-                if let Ok(value) = String::from_str(&heap, text) {
+                if let Ok(value) = String::from_str(heap, text) {
                     let _key = arena.alloc(value);
                 }
             }
             log.refuse_none();
             assert!(rt; arena.len() > 2, "at {nth}");
-            let mut texts = two_texts(&heap)?;
-            let refused = texts.put(9, String::from_str(&heap, "z")?).err();
+            let mut texts = two_texts(heap)?;
+            let refused = texts.put(9, String::from_str(heap, "z")?).err();
             assert_equal!(rt; refused, Some(ArenaError::KeyOutOfBounds));
         }
         assert_equal!(rt; (log.returned(), log.misplaced()), (log.given(), 0), "at {nth}");

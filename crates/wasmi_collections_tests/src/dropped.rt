@@ -6,17 +6,18 @@ use wasmi_collections::run::{MapCommand, SetCommand, run_map, run_set};
 use wasmi_collections::{hashed, ordered};
 use wasmi_vectors::assert_equal;
 use wasmi_vectors::counted::Counted;
+use wasmi_vectors::logged::Logged;
 use wasmi_vectors::noted::{Noted, Notes};
-use wasmi_vectors::observed::{Log, Observed};
+use wasmi_vectors::observed::Log;
 
-type MapCommands<'a, 'h, 'l> = Vec<MapCommand<Noted<'a>, Counted<'a>>, &'h Observed<'l>>;
+type MapCommands<'a, 'l> = Vec<MapCommand<Noted<'a>, Counted<'a>>, Logged<'l>>;
 
 // With 28 keys and 20 values.
-fn map_commands<'a, 'h, 'l>(
-    heap: &'h Observed<'l>,
+fn map_commands<'a, 'l>(
+    heap: Logged<'l>,
     keys: &'a Notes,
     values: &'a Cell<u64>,
-) -> Result<MapCommands<'a, 'h, 'l>, AllocError> {
+) -> Result<MapCommands<'a, 'l>, AllocError> {
     let mut commands = Vec::new(heap);
     for number in 0..8 {
         commands.push(MapCommand::Insert(Noted::new(number, keys), Counted::new(values)))?;
@@ -30,13 +31,13 @@ fn map_commands<'a, 'h, 'l>(
     Ok(commands)
 }
 
-type SetCommands<'a, 'h, 'l> = Vec<SetCommand<Noted<'a>>, &'h Observed<'l>>;
+type SetCommands<'a, 'l> = Vec<SetCommand<Noted<'a>>, Logged<'l>>;
 
 // With 24 elements.
-fn set_commands<'a, 'h, 'l>(
-    heap: &'h Observed<'l>,
+fn set_commands<'a, 'l>(
+    heap: Logged<'l>,
     elements: &'a Notes,
-) -> Result<SetCommands<'a, 'h, 'l>, AllocError> {
+) -> Result<SetCommands<'a, 'l>, AllocError> {
     let mut commands = Vec::new(heap);
     for number in 0..8 {
         commands.push(SetCommand::Insert(Noted::new(number, elements)))?;
@@ -50,7 +51,7 @@ fn set_commands<'a, 'h, 'l>(
 }
 
 // Whether a run of one of the two maps ends well, whose nth request is refused.
-fn map_runs(is_hashed: bool, log: &Log, nth: u64, commands: MapCommands<'_, '_, '_>) -> bool {
+fn map_runs(is_hashed: bool, log: &Log, nth: u64, commands: MapCommands<'_, '_>) -> bool {
     let heap = *commands.allocator();
     log.refuse_once(nth);
     let ran = if is_hashed {
@@ -63,7 +64,7 @@ fn map_runs(is_hashed: bool, log: &Log, nth: u64, commands: MapCommands<'_, '_, 
 }
 
 // The same of the two sets.
-fn set_runs(is_hashed: bool, log: &Log, nth: u64, commands: SetCommands<'_, '_, '_>) -> bool {
+fn set_runs(is_hashed: bool, log: &Log, nth: u64, commands: SetCommands<'_, '_>) -> bool {
     let heap = *commands.allocator();
     log.refuse_once(nth);
     let ran = if is_hashed {
@@ -79,14 +80,14 @@ fn set_runs(is_hashed: bool, log: &Log, nth: u64, commands: SetCommands<'_, '_, 
 #[test]
 fn runs_drop_each_key_and_value_once(rt: HostRuntime) -> Result<(), Fail> {
     let (log, keys, values) = (Log::new(), Notes::new(), Cell::new(0u64));
-    let heap = Observed::new(rt.alloc(), &log);
+    let heap = Logged::new(rt.alloc(), &log);
     for nth in 1..=5u64 {
         for is_hashed in [false, true] {
-            let commands = map_commands(&heap, &keys, &values)?;
+            let commands = map_commands(heap, &keys, &values)?;
             let ran = map_runs(is_hashed, &log, nth, commands);
             assert_equal!(rt; ran, nth != 1, "{is_hashed} {nth}");
             assert_equal!(rt; (keys.dropped(), values.replace(0)), (28, 20), "{is_hashed} {nth}");
-            let ran = set_runs(is_hashed, &log, nth, set_commands(&heap, &keys)?);
+            let ran = set_runs(is_hashed, &log, nth, set_commands(heap, &keys)?);
             assert_equal!(rt; (ran, keys.dropped()), (nth != 1, 24), "{is_hashed} {nth}");
         }
     }

@@ -7,7 +7,8 @@ use wasmi_collections::StringInterner;
 use wasmi_collections::run::{InternCommand, InternReply, run_interner};
 use wasmi_collections::string_interner::{InternHint, LenOrder, Steps, Sym};
 use wasmi_vectors::assert_equal;
-use wasmi_vectors::observed::{Log, Observed};
+use wasmi_vectors::logged::Logged;
+use wasmi_vectors::observed::Log;
 
 const HINTS: [InternHint; 3] = [
     InternHint::None,
@@ -223,7 +224,7 @@ const NAMES: [&str; 10] = [
 ];
 
 // Whether the texts are so many of the names, from the first on.
-fn has_first(interner: &StringInterner<&Observed<'_>>, len: usize) -> bool {
+fn has_first(interner: &StringInterner<Logged<'_>>, len: usize) -> bool {
     let known = (0u32..).zip(NAMES).take(len).all(|(number, name)| {
         let symbol = Sym::from_u32(number);
         interner.get(name) == Some(symbol) && interner.resolve(symbol) == Some(name)
@@ -233,7 +234,7 @@ fn has_first(interner: &StringInterner<&Observed<'_>>, len: usize) -> bool {
 
 // Whether a name that was refused isn't there and all before it are, and has the next symbol the second time.
 fn goes_on(
-    interner: &mut StringInterner<&Observed<'_>>,
+    interner: &mut StringInterner<Logged<'_>>,
     len: usize,
     name: &str,
 ) -> Result<bool, ArenaError> {
@@ -248,8 +249,8 @@ fn a_refused_text_changes_nothing(rt: HostRuntime) -> Result<(), Fail> {
     for nth in 1..30 {
         let log = Log::new();
         {
-            let handle = Observed::new(rt.alloc(), &log);
-            let mut interner = StringInterner::new(&handle);
+            let handle = Logged::new(rt.alloc(), &log);
+            let mut interner = StringInterner::new(handle);
             log.refuse_once(nth);
             for (len, name) in NAMES.into_iter().enumerate() {
                 if let Err(error) = interner.get_or_intern(name) {
@@ -269,10 +270,10 @@ fn a_refused_text_changes_nothing(rt: HostRuntime) -> Result<(), Fail> {
 }
 
 // An interner whose index has one block, which is full.
-fn with_a_full_block<'a, 'l>(
-    handle: &'a Observed<'l>,
+fn with_a_full_block<'l>(
+    handle: Logged<'l>,
     alloc: Global,
-) -> Result<StringInterner<&'a Observed<'l>>, Fail> {
+) -> Result<StringInterner<Logged<'l>>, Fail> {
     let mut interner = StringInterner::new(handle);
     for number in 0..1024 {
         let text = scattered(alloc, number)?;
@@ -288,8 +289,8 @@ fn a_refused_block_of_the_index_is_opened_later(rt: HostRuntime) -> Result<(), F
     for nth in 1..6 {
         let log = Log::new();
         {
-            let handle = Observed::new(rt.alloc(), &log);
-            let mut interner = with_a_full_block(&handle, rt.alloc())?;
+            let handle = Logged::new(rt.alloc(), &log);
+            let mut interner = with_a_full_block(handle, rt.alloc())?;
             log.refuse_once(nth);
             if interner.get_or_intern("memory").is_err() {
                 assert_equal!(rt; (interner.get("memory"), interner.len()), (None, 1024));
@@ -310,9 +311,7 @@ fn a_refused_block_of_the_index_is_opened_later(rt: HostRuntime) -> Result<(), F
 }
 
 // An interner of the names. One that is refused is interned again.
-fn with_names<'a, 'l>(
-    handle: &'a Observed<'l>,
-) -> Result<StringInterner<&'a Observed<'l>>, ArenaError> {
+fn with_names<'l>(handle: Logged<'l>) -> Result<StringInterner<Logged<'l>>, ArenaError> {
     let mut interner = StringInterner::new(handle);
     for name in NAMES {
         if interner.get_or_intern(name).is_err() {
@@ -328,9 +327,9 @@ fn a_text_that_is_there_needs_no_memory(rt: HostRuntime) -> Result<(), Fail> {
     for nth in 1..30 {
         let log = Log::new();
         {
-            let handle = Observed::new(rt.alloc(), &log);
+            let handle = Logged::new(rt.alloc(), &log);
             log.refuse_once(nth);
-            let mut interner = with_names(&handle)?;
+            let mut interner = with_names(handle)?;
             log.refuse_from(1);
             let asked = log.requests();
             for hint in HINTS {
@@ -348,8 +347,8 @@ fn a_text_that_is_there_needs_no_memory(rt: HostRuntime) -> Result<(), Fail> {
 #[test]
 fn a_third_text_is_refused(rt: HostRuntime) -> Result<(), Fail> {
     let log = Log::new();
-    let handle = Observed::new(rt.alloc(), &log);
-    let mut interner = StringInterner::new(&handle);
+    let handle = Logged::new(rt.alloc(), &log);
+    let mut interner = StringInterner::new(handle);
     let _a = interner.get_or_intern("a")?;
     let _b = interner.get_or_intern("b")?;
     log.refuse_from(1);
@@ -367,8 +366,8 @@ fn a_third_text_is_refused(rt: HostRuntime) -> Result<(), Fail> {
 #[test]
 fn a_clone_asks_for_twelve_blocks(rt: HostRuntime) -> Result<(), Fail> {
     let log = Log::new();
-    let handle = Observed::new(rt.alloc(), &log);
-    let interner = with_names(&handle)?;
+    let handle = Logged::new(rt.alloc(), &log);
+    let interner = with_names(handle)?;
     let before = log.requests();
     let copy = interner.clone()?;
     assert_equal!(rt; log.requests().wrapping_sub(before), 12);
@@ -379,8 +378,8 @@ fn a_clone_asks_for_twelve_blocks(rt: HostRuntime) -> Result<(), Fail> {
 #[test]
 fn a_clone_has_texts_of_its_own(rt: HostRuntime) -> Result<(), Fail> {
     let log = Log::new();
-    let handle = Observed::new(rt.alloc(), &log);
-    let interner = with_names(&handle)?;
+    let handle = Logged::new(rt.alloc(), &log);
+    let interner = with_names(handle)?;
     let mut copy = interner.clone()?;
     let _more = copy.get_or_intern("import")?;
     assert!(rt; copy != interner && has_first(&interner, 10));
@@ -391,8 +390,8 @@ fn a_clone_has_texts_of_its_own(rt: HostRuntime) -> Result<(), Fail> {
 fn a_refused_clone_leaves_its_source(rt: HostRuntime) -> Result<(), Fail> {
     let log = Log::new();
     {
-        let handle = Observed::new(rt.alloc(), &log);
-        let interner = with_names(&handle)?;
+        let handle = Logged::new(rt.alloc(), &log);
+        let interner = with_names(handle)?;
         for nth in 1..13 {
             log.refuse_once(nth);
             let refused = interner.clone().err();
@@ -406,10 +405,10 @@ fn a_refused_clone_leaves_its_source(rt: HostRuntime) -> Result<(), Fail> {
 }
 
 // Commands that hand in each name.
-fn hand_ins<'a, 'l>(
+fn hand_ins<'l>(
     alloc: Global,
-    heap: &'a Observed<'l>,
-) -> Result<Vec<InternCommand, &'a Observed<'l>>, AllocError> {
+    heap: Logged<'l>,
+) -> Result<Vec<InternCommand, Logged<'l>>, AllocError> {
     let mut commands = Vec::new(heap);
     for name in NAMES {
         let text = String::from_str(alloc, name)?;
@@ -420,8 +419,8 @@ fn hand_ins<'a, 'l>(
 
 // Whether the names were replied to by the symbols in turn, or else refused, and have these symbols.
 fn are_in_turn(
-    interner: &StringInterner<&Observed<'_>>,
-    replies: Vec<InternReply, &Observed<'_>>,
+    interner: &StringInterner<Logged<'_>>,
+    replies: Vec<InternReply, Logged<'_>>,
 ) -> bool {
     let mut next = 0u32;
     for (name, reply) in NAMES.into_iter().zip(replies) {
@@ -442,11 +441,11 @@ fn a_run_goes_on_after_a_refusal(rt: HostRuntime) -> Result<(), Fail> {
     for nth in 1..20 {
         let log = Log::new();
         {
-            let handle = Observed::new(rt.alloc(), &log);
-            let mut interner = StringInterner::new(&handle);
-            let commands = hand_ins(rt.alloc(), &handle)?;
+            let handle = Logged::new(rt.alloc(), &log);
+            let mut interner = StringInterner::new(handle);
+            let commands = hand_ins(rt.alloc(), handle)?;
             log.refuse_once(nth);
-            match run_interner(&handle, &mut interner, commands) {
+            match run_interner(handle, &mut interner, commands) {
                 Ok(replies) => assert!(rt; are_in_turn(&interner, replies), "at {nth}"),
                 Err(error) => assert_equal!(rt;
                     (nth, error, interner.len()),

@@ -5,7 +5,8 @@ use wasmi_collections::arena::{Arena, ArenaError, DedupArena};
 use wasmi_collections::hash::FixedState;
 use wasmi_collections::hashed::Map;
 use wasmi_vectors::assert_equal;
-use wasmi_vectors::observed::{Log, Observed};
+use wasmi_vectors::logged::Logged;
+use wasmi_vectors::observed::Log;
 
 // From empty on, past the growths of each part.
 #[test]
@@ -37,7 +38,7 @@ fn many_values_and_texts(rt: HostRuntime) -> Result<(), Fail> {
 
 // Adds a number, puts another in its place, and then that one again, by both calls.
 fn add_number(
-    arena: &mut DedupArena<usize, u32, &Observed<'_>>,
+    arena: &mut DedupArena<usize, u32, Logged<'_>>,
     number: u32,
 ) -> Result<(), ArenaError> {
     let next = number.wrapping_add(10_000);
@@ -54,8 +55,8 @@ fn add_number(
 
 // The same of the items and the index by themselves.
 fn add_apart(
-    items: &mut Arena<usize, u32, &Observed<'_>>,
-    index: &mut Map<u32, usize, FixedState, &Observed<'_>>,
+    items: &mut Arena<usize, u32, Logged<'_>>,
+    index: &mut Map<u32, usize, FixedState, Logged<'_>>,
     number: u32,
 ) -> Result<(), ArenaError> {
     let key = items.alloc(number)?;
@@ -69,11 +70,11 @@ fn add_apart(
 #[test]
 fn a_value_asks_for_its_places_alone(rt: HostRuntime) -> Result<(), Fail> {
     let (log, apart) = (Log::new(), Log::new());
-    let heap = Observed::new(rt.alloc(), &log);
-    let other = Observed::new(rt.alloc(), &apart);
-    let mut arena = DedupArena::new(&heap);
-    let mut items = Arena::new(&other);
-    let mut index = Map::new(&other);
+    let heap = Logged::new(rt.alloc(), &log);
+    let other = Logged::new(rt.alloc(), &apart);
+    let mut arena = DedupArena::new(heap);
+    let mut items = Arena::new(other);
+    let mut index = Map::new(other);
     for number in 0..5_000u32 {
         add_number(&mut arena, number)?;
         add_apart(&mut items, &mut index, number)?;
@@ -82,12 +83,12 @@ fn a_value_asks_for_its_places_alone(rt: HostRuntime) -> Result<(), Fail> {
     Ok(())
 }
 
-type Texts<'a, 'l> = DedupArena<usize, String<&'a Observed<'l>>, &'a Observed<'l>>;
+type Texts<'l> = DedupArena<usize, String<Logged<'l>>, Logged<'l>>;
 
 // What a text asks for that is new, or is there.
-fn asked_for_text<'a, 'l>(
-    arena: &mut Texts<'a, 'l>,
-    heap: &'a Observed<'l>,
+fn asked_for_text<'l>(
+    arena: &mut Texts<'l>,
+    heap: Logged<'l>,
     log: &Log,
     text: &str,
 ) -> Result<(u64, u64), ArenaError> {
@@ -103,12 +104,12 @@ fn asked_for_text<'a, 'l>(
 #[test]
 fn a_text_asks_for_its_places_alone(rt: HostRuntime) -> Result<(), Fail> {
     let log = Log::new();
-    let heap = Observed::new(rt.alloc(), &log);
-    let mut arena: Texts<'_, '_> = DedupArena::new(&heap);
+    let heap = Logged::new(rt.alloc(), &log);
+    let mut arena: Texts<'_> = DedupArena::new(heap);
     for text in ["a", "b", "c", "d"] {
-        let (requests, bytes) = asked_for_text(&mut arena, &heap, &log, text)?;
+        let (requests, bytes) = asked_for_text(&mut arena, heap, &log, text)?;
         assert!(rt; requests < 8 && bytes < 1_200, "of {text}");
-        assert_equal!(rt; asked_for_text(&mut arena, &heap, &log, text)?, (0, 0), "of {text}");
+        assert_equal!(rt; asked_for_text(&mut arena, heap, &log, text)?, (0, 0), "of {text}");
     }
     Ok(())
 }

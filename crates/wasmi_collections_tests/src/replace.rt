@@ -13,7 +13,8 @@ use std::test::Fail;
 use wasmi_collections::arena::{ArenaError, DedupArena};
 use wasmi_collections::run::{DedupCommand, DedupReply, run_dedup};
 use wasmi_vectors::assert_equal;
-use wasmi_vectors::observed::{Log, Observed};
+use wasmi_vectors::logged::Logged;
+use wasmi_vectors::observed::Log;
 use wasmi_vectors::tiny::Tiny;
 
 // What values of one test were compared, cloned and dropped.
@@ -218,9 +219,9 @@ fn a_new_value_needs_no_key(rt: HostRuntime) -> Result<(), Fail> {
 
 // A text whose clone has one more character.
 #[derive(Debug, PartialEq, Eq, Hash, Drop)]
-struct Longer<'a, 'l>(String<&'a Observed<'l>>);
+struct Longer<'l>(String<Logged<'l>>);
 
-impl Clone for Longer<'_, '_> {
+impl Clone for Longer<'_> {
     fn clone(&self) -> Result<Self, AllocError> {
         let mut text = self.0.clone()?;
         text.push('x')?;
@@ -228,10 +229,7 @@ impl Clone for Longer<'_, '_> {
     }
 }
 
-fn text_to_lengthen<'a, 'l>(
-    heap: &'a Observed<'l>,
-    text: &str,
-) -> Result<Longer<'a, 'l>, AllocError> {
+fn text_to_lengthen<'l>(heap: Logged<'l>, text: &str) -> Result<Longer<'l>, AllocError> {
     Ok(Longer(String::from_str(heap, text)?))
 }
 
@@ -240,18 +238,18 @@ fn text_to_lengthen<'a, 'l>(
 fn a_clone_that_differs_changes_nothing(rt: HostRuntime) -> Result<(), Fail> {
     let log = Log::new();
     {
-        let heap = Observed::new(rt.alloc(), &log);
-        let mut arena: DedupArena<usize, Longer<'_, '_>, &Observed<'_>> = DedupArena::new(&heap);
+        let heap = Logged::new(rt.alloc(), &log);
+        let mut arena: DedupArena<usize, Longer<'_>, Logged<'_>> = DedupArena::new(heap);
         for text in ["a", "b"] {
-            let _key = arena.alloc(text_to_lengthen(&heap, text)?)?;
+            let _key = arena.alloc(text_to_lengthen(heap, text)?)?;
         }
-        let refused = arena.replace(0, text_to_lengthen(&heap, "d")?).err();
+        let refused = arena.replace(0, text_to_lengthen(heap, "d")?).err();
         assert_equal!(rt; refused, Some(ArenaError::OutOfSystemMemory));
         for (key, item) in ["ax", "bx"].iter().enumerate() {
             assert_equal!(rt; arena.get(key).map(|there| there.0.as_str()), Ok(*item));
         }
         for (key, text) in ["a", "b", "d"].iter().enumerate() {
-            assert_equal!(rt; arena.alloc(text_to_lengthen(&heap, *text)?), Ok(key));
+            assert_equal!(rt; arena.alloc(text_to_lengthen(heap, *text)?), Ok(key));
         }
         assert_equal!(rt; arena.index().len(), 3);
     }
@@ -259,10 +257,10 @@ fn a_clone_that_differs_changes_nothing(rt: HostRuntime) -> Result<(), Fail> {
     Ok(())
 }
 
-type Texts<'a, 'l> = DedupArena<usize, String<&'a Observed<'l>>, &'a Observed<'l>>;
+type Texts<'l> = DedupArena<usize, String<Logged<'l>>, Logged<'l>>;
 
 // An arena of "a", "b" and "c", of which the second was written over where it says so.
-fn three_texts<'a, 'l>(heap: &'a Observed<'l>, written: bool) -> Result<Texts<'a, 'l>, ArenaError> {
+fn three_texts<'l>(heap: Logged<'l>, written: bool) -> Result<Texts<'l>, ArenaError> {
     let mut arena = DedupArena::new(heap);
     for text in ["a", "b", "c"] {
         let _key = arena.alloc(String::from_str(heap, text)?)?;
@@ -274,9 +272,9 @@ fn three_texts<'a, 'l>(heap: &'a Observed<'l>, written: bool) -> Result<Texts<'a
 }
 
 // Whether these values have the keys from 0 on, and there is no other.
-fn are_handed<'a, 'l>(
-    arena: &mut Texts<'a, 'l>,
-    heap: &'a Observed<'l>,
+fn are_handed<'l>(
+    arena: &mut Texts<'l>,
+    heap: Logged<'l>,
     texts: [&str; 3],
 ) -> Result<bool, ArenaError> {
     for (nth, text) in texts.iter().enumerate() {
@@ -299,9 +297,9 @@ fn each_request_refused_in_turn(rt: HostRuntime) -> Result<(), Fail> {
         for nth in 1..4 {
             let log = Log::new();
             {
-                let heap = Observed::new(rt.alloc(), &log);
-                let mut arena = three_texts(&heap, written)?;
-                let value = String::from_str(&heap, text)?;
+                let heap = Logged::new(rt.alloc(), &log);
+                let mut arena = three_texts(heap, written)?;
+                let value = String::from_str(heap, text)?;
                 log.refuse_once(nth);
                 let result = arena.replace(1, value);
                 log.refuse_none();
@@ -313,7 +311,7 @@ fn each_request_refused_in_turn(rt: HostRuntime) -> Result<(), Fail> {
                 };
                 assert_equal!(rt; result.as_ref().map(|there| there.as_str()).map_err(|error| *error), want, "{text} at {nth}");
                 let handed = ["a", if refused { "b" } else { text }, "c"];
-                assert!(rt; are_handed(&mut arena, &heap, handed)?, "{text} at {nth}");
+                assert!(rt; are_handed(&mut arena, heap, handed)?, "{text} at {nth}");
             }
             assert_equal!(rt; (log.returned(), log.misplaced()), (log.given(), 0));
         }
@@ -329,8 +327,8 @@ fn a_refused_growth_changes_nothing(rt: HostRuntime) -> Result<(), Fail> {
     for len in 1..60u32 {
         let log = Log::new();
         {
-            let heap = Observed::new(rt.alloc(), &log);
-            let mut arena: DedupArena<usize, u32, &Observed<'_>> = DedupArena::new(&heap);
+            let heap = Logged::new(rt.alloc(), &log);
+            let mut arena: DedupArena<usize, u32, Logged<'_>> = DedupArena::new(heap);
             for value in 0..len {
                 let _key = arena.alloc(value)?;
             }
@@ -361,8 +359,8 @@ fn a_refused_growth_changes_nothing(rt: HostRuntime) -> Result<(), Fail> {
 #[test]
 fn many_calls_ask_for_one_block(rt: HostRuntime) -> Result<(), Fail> {
     let log = Log::new();
-    let heap = Observed::new(rt.alloc(), &log);
-    let mut arena: DedupArena<usize, u32, &Observed<'_>> = DedupArena::new(&heap);
+    let heap = Logged::new(rt.alloc(), &log);
+    let mut arena: DedupArena<usize, u32, Logged<'_>> = DedupArena::new(heap);
     for value in 0..4u32 {
         let _key = arena.alloc(value)?;
     }
@@ -381,12 +379,12 @@ fn a_refused_text_is_dropped(rt: HostRuntime) -> Result<(), Fail> {
     for len in 1..30u32 {
         let log = Log::new();
         {
-            let heap = Observed::new(rt.alloc(), &log);
-            let mut arena: Texts<'_, '_> = DedupArena::new(&heap);
+            let heap = Logged::new(rt.alloc(), &log);
+            let mut arena: Texts<'_> = DedupArena::new(heap);
             for number in 0..len {
-                let _key = arena.alloc(format!(in &heap; "{number}")?)?;
+                let _key = arena.alloc(format!(in heap; "{number}")?)?;
             }
-            let value = String::from_str(&heap, "new")?;
+            let value = String::from_str(heap, "new")?;
             log.refuse_once(2);
             if arena.replace(0, value).is_err() {
                 refused = refused.wrapping_add(1);

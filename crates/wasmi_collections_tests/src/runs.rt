@@ -8,7 +8,8 @@ use wasmi_collections::run::{
 };
 use wasmi_collections::{hashed, ordered};
 use wasmi_vectors::assert_equal;
-use wasmi_vectors::observed::{Log, Observed};
+use wasmi_vectors::logged::Logged;
+use wasmi_vectors::observed::Log;
 
 fn map_commands(alloc: Global) -> Result<Vec<MapCommand<u32, &'static str>>, AllocError> {
     let commands = Vec::from_array(
@@ -108,7 +109,7 @@ fn sets_reply_as_the_table_says(rt: HostRuntime) -> Result<(), Fail> {
 // Inserts the keys 0 to 19 by one run, whose nth request for memory is refused, and then by calls. How many
 // commands were refused, or `None` if the map doesn't have the keys of the others after it, or all at last.
 fn refused_in_map<M: AnyMap<u32, u32>>(
-    heap: &Observed<'_>,
+    heap: Logged<'_>,
     log: &Log,
     map: &mut M,
     nth: u64,
@@ -146,7 +147,7 @@ fn refused_in_map<M: AnyMap<u32, u32>>(
 
 // The same of the elements of a set.
 fn refused_in_set<S: AnySet<u32>>(
-    heap: &Observed<'_>,
+    heap: Logged<'_>,
     log: &Log,
     set: &mut S,
     nth: u64,
@@ -176,7 +177,7 @@ fn refused_in_set<S: AnySet<u32>>(
 
 // The same of each container in turn, of the four in this order.
 fn refused_in(
-    heap: &Observed<'_>,
+    heap: Logged<'_>,
     log: &Log,
     container: u8,
     nth: u64,
@@ -201,8 +202,8 @@ fn runs_over_maps_and_sets_go_on_after_a_refusal(rt: HostRuntime) -> Result<(), 
         for container in 0..4u8 {
             let log = Log::new();
             {
-                let heap = Observed::new(rt.alloc(), &log);
-                let refused = refused_in(&heap, &log, container, nth);
+                let heap = Logged::new(rt.alloc(), &log);
+                let refused = refused_in(heap, &log, container, nth);
                 assert_equal!(rt; refused, outcome, "{container} at {nth}");
             }
             assert_equal!(rt; (log.returned(), log.misplaced()), (log.given(), 0));
