@@ -17,7 +17,5 @@ pub mod spawn;
 pub mod store;
 pub mod symbols;
 pub mod tables;
-#[cfg(test)]
-mod tests;
 pub mod transfer;
 pub mod write;

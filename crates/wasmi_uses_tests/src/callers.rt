@@ -1,23 +1,5 @@
 //! Each caller on its happy path.
 
-use crate::compiler::Tables;
-use crate::constants::{fold, in_its_slot, share_a_slot, slot_again, slot_of_text};
-use crate::define::define;
-use crate::entities::Entities;
-use crate::exports::{note, noted_of};
-use crate::frames::tail_call;
-use crate::imports::{take_offered, take_offered_hashed};
-use crate::linker::{export, import, symbol_again, symbol_and_text, symbol_of_new};
-use crate::lookup::{any_differs, first_above, read};
-use crate::properties::set_once;
-use crate::reserve::put_both;
-use crate::search::{position_of, push_and_find};
-use crate::spawn::spawn;
-use crate::store::FuncStore;
-use crate::symbols::{Symbols, intern_both};
-use crate::tables::{add_once, add_once_hashed, reset, reset_all, settle};
-use crate::transfer::transfer;
-use crate::write::put_or_alloc;
 use std::test::Fail;
 use wasmi_arena::{StableArena, StableVec};
 use wasmi_collections::string_interner::Sym;
@@ -25,6 +7,24 @@ use wasmi_collections::{DedupArena, HeadVec, StringInterner, hashed, ordered};
 use wasmi_dense::{Arena, ComponentVec};
 use wasmi_ordered::Map;
 use wasmi_script_lib::EntityStore;
+use wasmi_uses::compiler::Tables;
+use wasmi_uses::constants::{fold, in_its_slot, share_a_slot, slot_again, slot_of_text};
+use wasmi_uses::define::define;
+use wasmi_uses::entities::Entities;
+use wasmi_uses::exports::{note, noted_of};
+use wasmi_uses::frames::tail_call;
+use wasmi_uses::imports::{take_offered, take_offered_hashed};
+use wasmi_uses::linker::{export, import, symbol_again, symbol_and_text, symbol_of_new};
+use wasmi_uses::lookup::{any_differs, first_above, read};
+use wasmi_uses::properties::set_once;
+use wasmi_uses::reserve::put_both;
+use wasmi_uses::search::{position_of, push_and_find};
+use wasmi_uses::spawn::spawn;
+use wasmi_uses::store::FuncStore;
+use wasmi_uses::symbols::{Symbols, intern_both};
+use wasmi_uses::tables::{add_once, add_once_hashed, reset, reset_all, settle};
+use wasmi_uses::transfer::transfer;
+use wasmi_uses::write::put_or_alloc;
 use wasmi_vectors::assert_equal;
 
 #[test]

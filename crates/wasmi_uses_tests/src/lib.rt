@@ -1,0 +1,5 @@
+//! Tests of the callers of the containers.
+#![tactic(auto)]
+
+#[cfg(test)]
+mod callers;
