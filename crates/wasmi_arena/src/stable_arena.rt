@@ -15,7 +15,7 @@ mod iter_mut;
 mod pairs;
 mod whole;
 
-use crate::{ArenaError, ArenaKey, Bucket, ItemsLoan, MAX_LEN, StableVec, StableVecIterMut};
+use crate::{ArenaError, ArenaKey, Bucket, ItemsLoan, StableVec, StableVecIterMut};
 pub use into_iter::StableArenaIntoIter;
 pub use iter::StableArenaIter;
 pub use iter_mut::StableArenaIterMut;
@@ -88,11 +88,10 @@ impl<Key: ArenaKey, T, A: Allocator> StableArena<Key, T, A> {
             ↔ (stable_limit Key.keys ≤ length self.now) }
         ensures errors { IsOkUnless result ArenaError.NotEnoughKeys }
     {
-        let index = self.len();
-        if index >= MAX_LEN {
+        if self.items.is_full() {
             return Err(ArenaError::NotEnoughKeys);
         }
-        Key::from_usize(index).ok_or(ArenaError::NotEnoughKeys)
+        Key::from_usize(self.len()).ok_or(ArenaError::NotEnoughKeys)
     }
 
     /// Puts an item at the end, and returns its key.

@@ -1,5 +1,5 @@
 //! A vector whose items stay in the slots that they were pushed into.
-ghost use Rattle.std.specs.Prelude.{◌≡◌, ◌+◌, ◌<◌, ◌≤◌, ◌==◌, ◌↔◌, [], ◌∷◌, ◌++◌, length, IfOk, IfErr, OnOk, OnErr, IsOk, IsSome, IsOkUnless, IsErrOf, ◌⊎◌, option_copied, slice_get, slice_index_or, slice_set, Some, None};
+ghost use Rattle.std.specs.Prelude.{◌≡◌, ◌+◌, ◌<◌, ◌≤◌, ◌==◌, ◌↔◌, [], ◌∷◌, ◌++◌, length, IfOk, IfErr, OnOk, OnErr, IsOk, IsSome, IsOkUnless, IsErrOf, IsTrue, ◌⊎◌, option_copied, slice_get, slice_index_or, slice_set, Some, None};
 ghost use Rattle.std.specs.Borrow.{sem};
 ghost use Rattle.std.specs.Mem.{type_size};
 ghost use Rattle.std.specs.Option.{ForSome, option_copied_mut};
@@ -73,6 +73,15 @@ fn start_of(bucket: usize) -> usize
     ensures { result ≡ start bucket }
 {
     (32 << bucket) - 32
+}
+
+// Whether a vector of so many items can have no more. Apart, since a vector with a free slot needn't ask.
+#[cold]
+#[inline(never)]
+fn is_limit(len: usize) -> bool
+    ensures { IsTrue result ↔ (max_len ≤ len) }
+{
+    len >= MAX_LEN
 }
 
 // The place of the next item, which is in the last open bucket where that has a free slot.
@@ -219,6 +228,17 @@ impl<T, A: Allocator> StableVec<T, A> {
         ensures { result ≡ room (length self.now) }
     {
         self.slots() - self.len
+    }
+
+    // Whether it can have no more items.
+    #[inline]
+    pub(crate) fn is_full(&self) -> bool
+        ensures { IsTrue result ↔ (max_len ≤ length self.now) }
+    {
+        if self.len < self.slots {
+            return false;
+        }
+        is_limit(self.len)
     }
 
     /// The item at an index, if there is one. Constant time.

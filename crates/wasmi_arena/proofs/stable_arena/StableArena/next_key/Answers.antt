@@ -1,4 +1,5 @@
-use Rattle.std.proofs.Common.{ℕ, ◌<◌, ◌≤◌, ◌↔◌, Option, Some, None, IfOk, OnOk, IsErrOf, ◌≡◌, refl, arith}
+use Rattle.std.proofs.Common.{ℕ, ◌<◌, ◌≤◌, ◌↔◌, Option, Some, None, IfOk, OnOk, IsErrOf, IsTrue, Bool, true, false, ◌≡◌, refl, arith}
+use Rattle.std.proofs.Math.Nat.{lt_of_not-le}
 use Rattle.std.specs.Option.{SomeIff, ok_or}
 use Rattle.wasmi_arena.specs.Arena.{stable_limit}
 use Rattle.wasmi_arena.specs.Geometry.{max_len}
@@ -9,6 +10,11 @@ use Rattle.wasmi_arena.proofs.stable_arena.StableArena.next_key.Goals as goal
 -- no arena holds more than `max_len`
 full : {K : Type 0} (keys : Keys K) {n : ℕ} → max_len ≤ n → stable_limit keys ≤ n
 full keys many = omega arith
+
+-- a vector that isn't full has fewer
+below : (b : Bool) {n : ℕ} → IsTrue b ↔ (max_len ≤ n) → b ≡ false → n < max_len
+below true is not = cc
+below false is not = lt_of_not-le (λ many. let never = is.1 many in cc)
 
 -- below `max_len`, a number has a key where the arena has a place for it
 module _ {K : Type 0} (keys : Keys K) (n : ℕ) (below : n < max_len) where
@@ -24,14 +30,14 @@ module _ {K : Type 0} (keys : Keys K) (n : ℕ) (below : n < max_len) where
   next_none None none = (λ refused. omega (arith, none), λ full. refl)
   next_none (Some key) is = (λ refused. cc, λ full. absurd (let few = is.0 in omega arith))
 
-pub returns-then-index-ge-MAX_LEN-clause-no_key : goal.returns-then-index-ge-MAX_LEN-clause-no_key
-returns-then-index-ge-MAX_LEN-clause-no_key g c = (λ refused. full g.Key.ArenaKey.keys (rw (← c.len-index.ensures.value) c.if-index-ge-MAX_LEN.true), λ full. refl)
+pub returns-then-is_full-clause-no_key : goal.returns-then-is_full-clause-no_key
+returns-then-is_full-clause-no_key g c = (λ refused. full g.Key.ArenaKey.keys (rw (← c.self.view_is) (c.is_full.ensures.0 c.if-is_full.true)), λ none. refl)
 
 pub returns-clause-key : goal.returns-clause-key
-returns-clause-key g c = rw (c.ok_or.ensures.value, ← c.len-index.ensures.value) (next_is g.Key.ArenaKey.keys c.len-index.result c.if-index-ge-MAX_LEN.false c.from_usize.result c.from_usize.ensures)
+returns-clause-key g c = rw (c.ok_or.ensures.value, ← c.len.ensures.value) (next_is g.Key.ArenaKey.keys c.len.result (rw (c.len.ensures.value, ← c.self.view_is) (below c.is_full.result c.is_full.ensures c.if-is_full.false)) c.from_usize.result c.from_usize.ensures)
 
 pub returns-clause-has_key : goal.returns-clause-has_key
-returns-clause-has_key g c = rw (c.ok_or.ensures.value, ← c.len-index.ensures.value) (next_has g.Key.ArenaKey.keys c.len-index.result c.if-index-ge-MAX_LEN.false c.from_usize.result c.from_usize.ensures)
+returns-clause-has_key g c = rw (c.ok_or.ensures.value, ← c.len.ensures.value) (next_has g.Key.ArenaKey.keys c.len.result (rw (c.len.ensures.value, ← c.self.view_is) (below c.is_full.result c.is_full.ensures c.if-is_full.false)) c.from_usize.result c.from_usize.ensures)
 
 pub returns-clause-no_key : goal.returns-clause-no_key
-returns-clause-no_key g c = rw (c.ok_or.ensures.value, ← c.len-index.ensures.value) (next_none g.Key.ArenaKey.keys c.len-index.result c.if-index-ge-MAX_LEN.false c.from_usize.result c.from_usize.ensures)
+returns-clause-no_key g c = rw (c.ok_or.ensures.value, ← c.len.ensures.value) (next_none g.Key.ArenaKey.keys c.len.result (rw (c.len.ensures.value, ← c.self.view_is) (below c.is_full.result c.is_full.ensures c.if-is_full.false)) c.from_usize.result c.from_usize.ensures)
