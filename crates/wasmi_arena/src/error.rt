@@ -40,6 +40,8 @@ impl ArenaError {
 impl fmt::Display for ArenaError {
     ghost output = { λ error. Some (text_of error) };
 
+    ghost styled_output = { λ error _. Some (text_of error) };
+
     fn fmt<W: fmt::Write>(&self, f: &mut fmt::Formatter<W>) -> fmt::Result {
         f.write_str(self.text())
     }

@@ -236,3 +236,27 @@ fn a_refused_collection_drops_all_items(rt: HostRuntime) -> Result<(), Fail> {
     }
     Ok(())
 }
+
+// Each bucket has one, and `clone` one more, for the vector.
+#[test]
+fn a_bucket_takes_one_clone_of_the_allocator(rt: HostRuntime) -> Result<(), Fail> {
+    let log = Log::new();
+    let mut vec = StableVec::new(Observed::new(rt.alloc(), &log));
+    for (len, clones) in [(1usize, 1u64), (32, 1), (33, 2), (97, 3)] {
+        while vec.len() < len {
+            vec.push(7u8)?;
+        }
+        assert_equal!(rt; log.clones(), clones, "of {len}");
+    }
+    let other = Log::new();
+    assert_equal!(rt; vec.clone_in(Observed::new(rt.alloc(), &other))?.len(), 97);
+    assert_equal!(rt; vec.clone()?.len(), 97);
+    assert_equal!(rt; (other.clones(), log.clones()), (3, 7));
+    let mut arena: StableArena<usize, u8, Observed<'_>> = StableArena::new(Observed::new(
+        rt.alloc(),
+        &other,
+    ));
+    arena.alloc_many(97)?;
+    assert_equal!(rt; other.clones(), 6);
+    Ok(())
+}

@@ -7,6 +7,7 @@ use wasmi_collections::HeadVec;
 use wasmi_collections::arena::ArenaError;
 use wasmi_vectors::assert_equal;
 use wasmi_vectors::counted::{Counted, counts, counts_are, each_is};
+use wasmi_vectors::noted::{Noted, Notes};
 use wasmi_vectors::observed::{Log, Observed};
 
 // A list of these items.
@@ -263,5 +264,20 @@ fn items_without_size(rt: HostRuntime) -> Result<(), Fail> {
         assert_equal!(rt; items.len(), len);
     }
     assert_equal!(rt; items.pop(), None);
+    Ok(())
+}
+
+// Of a hundred items, where the last ones differ.
+#[test]
+fn the_last_items_alone_are_compared(rt: HostRuntime) -> Result<(), Fail> {
+    let notes = Notes::new();
+    let (mut one, mut other) = (HeadVec::new(rt.alloc()), HeadVec::new(rt.alloc()));
+    for number in 0..100u32 {
+        one.push(Noted::new(number, &notes))?;
+        other.push(Noted::new(number / 99, &notes))?;
+    }
+    assert_equal!(rt; (one.cmp(&other), notes.compared()), (Ordering::Greater, 1));
+    assert_equal!(rt; one.partial_cmp(&other), Some(Ordering::Greater));
+    assert_equal!(rt; notes.compared(), 1);
     Ok(())
 }

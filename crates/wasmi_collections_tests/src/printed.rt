@@ -1,6 +1,6 @@
 //! Each container's `{:#?}`: a line for each item.
 use std::alloc::{AllocError, Global};
-use std::fmt::Debug;
+use std::fmt::{self, Debug, Write};
 use std::test::Fail;
 use wasmi_collections::arena::{
     Arena, ArenaError, ComponentVec, DedupArena, StableArena, StableVec,
@@ -8,8 +8,28 @@ use wasmi_collections::arena::{
 use wasmi_collections::{HeadVec, StringInterner, hashed, ordered};
 use wasmi_vectors::assert_equal;
 
+// A writer that fails after so many bytes.
+#[derive(Drop)]
+struct Short {
+    room: usize,
+}
+
+impl Write for Short {
+    fn write_str(&mut self, text: &str) -> fmt::Result {
+        self.room = self.room.checked_sub(text.len()).ok_or(fmt::Error)?;
+        Ok(())
+    }
+}
+
+// The text of a container, or nothing where a writer that fails isn't heard of.
 fn printed<T: Debug>(alloc: Global, container: &T) -> Result<String, AllocError> {
-    format!(in alloc; "{container:#?}")
+    let text = format!(in alloc; "{container:#?}")?;
+    for room in 0..text.len() {
+        if write!(Short { room }, "{container:#?}").is_ok() {
+            return Ok(String::new(alloc));
+        }
+    }
+    Ok(text)
 }
 
 fn stable_vec(alloc: Global) -> Result<String, ArenaError> {

@@ -396,3 +396,15 @@ fn a_refused_text_is_dropped(rt: HostRuntime) -> Result<(), Fail> {
     assert!(rt; refused > 1);
     Ok(())
 }
+
+// It was handed in under another key, which it keeps.
+#[test]
+fn an_item_that_equals_another_value_makes_way(rt: HostRuntime) -> Result<(), Fail> {
+    let mut arena: DedupArena<usize, &str> = DedupArena::from_iter(rt.alloc(), ["a", "b"])?;
+    assert_equal!(rt; arena.put(0, "b")?, "a");
+    assert_equal!(rt; arena.replace(0, "c"), Ok("b"));
+    for (value, key) in [("c", 0), ("b", 1), ("a", 2)] {
+        assert_equal!(rt; arena.alloc(value)?, key);
+    }
+    Ok(())
+}

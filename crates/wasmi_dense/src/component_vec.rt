@@ -49,7 +49,7 @@ impl<Key, T, A: Allocator> ComponentVec<Key, T, A> {
         }
     }
 
-    /// Drops all components, and makes the extent 0. Linear in the extent.
+    /// Drops all components, and makes the extent 0. The block is kept. Linear in the extent.
     pub fn clear(&mut self)
     where
         T: Drop,

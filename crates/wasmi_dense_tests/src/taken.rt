@@ -120,3 +120,56 @@ fn items_are_taken_out_from_both_ends(rt: HostRuntime) -> Result<(), Fail> {
     assert!(rt; counts_are(&drops, &[1, 1, 1, 1, 1]));
     Ok(())
 }
+
+// Of an arena with room, and of one that was cleared.
+#[test]
+fn an_arena_is_taken_apart_without_memory(rt: HostRuntime) -> Result<(), Fail> {
+    let log = Log::new();
+    for number in [0u64, 5] {
+        let mut arena: Arena<u32, u64, Observed<'_>> = Arena::new(Observed::new(rt.alloc(), &log));
+        arena.reserve(9)?;
+        arena.alloc(number)?;
+        if number == 0 {
+            arena.clear();
+        }
+        let asked = log.requests();
+        let items = arena
+            .into_iter()
+            .fold(0u64, |sum, (_, item)| sum.wrapping_add(item));
+        assert_equal!(rt; (items, log.requests()), (number, asked));
+    }
+    Ok(())
+}
+
+#[test]
+fn a_cleared_component_vec_keeps_its_block(rt: HostRuntime) -> Result<(), Fail> {
+    let log = Log::new();
+    let mut components: ComponentVec<u32, u64, Observed<'_>> = ComponentVec::new(Observed::new(
+        rt.alloc(),
+        &log,
+    ));
+    components.reserve(40)?;
+    components.set(2, 7)?;
+    components.clear();
+    log.refuse_from(1);
+    for number in 0..40u32 {
+        assert_equal!(rt; components.set(number, 8), Ok(None));
+    }
+    Ok(())
+}
+
+// Whichever places have a component.
+#[test]
+fn places_without_a_component_are_cloned(rt: HostRuntime) -> Result<(), Fail> {
+    for taken_out in [8u32, 4, 16, 24, 31] {
+        let mut components: ComponentVec<u32, u32> = ComponentVec::new(rt.alloc());
+        for number in 0..5u32 {
+            components.set(number, number)?;
+            if taken_out & (1 << number) != 0 {
+                components.unset(number);
+            }
+        }
+        assert_equal!(rt; components.clone().as_ref(), Ok(&components), "without {taken_out}");
+    }
+    Ok(())
+}

@@ -2,6 +2,8 @@
 #![tactic(auto)]
 
 #[cfg(test)]
+mod compared;
+#[cfg(test)]
 mod entries;
 #[cfg(test)]
 mod hashed;
@@ -9,3 +11,5 @@ mod hashed;
 mod kept;
 #[cfg(test)]
 mod ordered;
+#[cfg(test)]
+mod small;

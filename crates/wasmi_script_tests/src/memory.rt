@@ -1,8 +1,10 @@
 //! Memory: each request refused in turn, of the store and of a script, and what asks for none.
+use std::io::{self, Read};
 use std::test::Fail;
 use wasmi_arena::{ArenaError, ArenaKey};
 use wasmi_script_lib::{EntityKey, EntityStore, ScriptError, answer, run};
 use wasmi_vectors::assert_equal;
+use wasmi_vectors::logged::Logged;
 use wasmi_vectors::observed::{Log, Observed};
 
 type Store<'a, 'l> = EntityStore<&'a Observed<'l>>;
@@ -208,6 +210,40 @@ fn a_program_that_is_refused_memory_writes_nothing(rt: HostRuntime) -> Result<()
         }
         assert_equal!(rt; (log.returned(), log.misplaced()), (log.given(), 0));
     }
-    assert_equal!(rt; refused, requests);
+    // One for the input, and those of `answer`.
+    assert_equal!(rt; (refused, requests), (34, 34));
+    Ok(())
+}
+
+// A reader that gives one byte at a time.
+#[derive(Drop)]
+struct OneByOne<'a> {
+    rest: &'a [u8],
+}
+
+impl Read for OneByOne<'_> {
+    fn read(&mut self, buffer: &mut [u8]) -> io::Result<usize> {
+        let Some((first, rest)) = self.rest.split_first() else {
+            return Ok(0);
+        };
+        let Some(place) = buffer.first_mut() else {
+            return Ok(0);
+        };
+        *place = *first;
+        self.rest = rest;
+        Ok(1)
+    }
+}
+
+// A line of a thousand bytes: the input doubles its block, and the reply is short.
+#[test]
+fn bytes_that_come_one_by_one_ask_for_few_blocks(rt: HostRuntime) -> Result<(), Fail> {
+    let log = Log::new();
+    let line = [b'x'; 1_000];
+    let mut output = Vec::new(rt.alloc());
+    let mut input = OneByOne { rest: &line };
+    assert_equal!(rt; run(Logged::new(rt.alloc(), &log), &mut input, &mut output), Ok(()));
+    assert_equal!(rt; output.as_slice(), b"bad line 1\n".as_slice());
+    assert!(rt; log.requests() < 20);
     Ok(())
 }

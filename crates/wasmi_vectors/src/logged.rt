@@ -1,5 +1,5 @@
 //! An allocator for tests whose handles are copied. It writes to a log and refuses as `Observed` does.
-ghost use Rattle.std.specs.Prelude.{◌≡◌};
+ghost use Rattle.std.specs.Prelude.{◌≡◌, ⊤};
 ghost use Rattle.std.specs.contracts.impls.GlobalAllocator.TheImpl.{ghosts};
 
 use crate::observed::Log;
@@ -7,11 +7,23 @@ use std::alloc::{AllocError, Allocator, Global};
 
 /// A handle on `Global` that writes to a log. Its copies are one handle: a block is misplaced only where
 /// no block of the log is out.
-#[derive(Clone, Copy)]
 pub struct Logged<'a> {
     heap: Global,
     log: &'a Log,
 }
+
+impl Clone for Logged<'_> {
+    ghost is_clone = { λ handle copy. copy ≡ handle };
+
+    ghost is_infallible = { λ _. ⊤ };
+
+    fn clone(&self) -> Result<Self, AllocError> {
+        self.log.counts_a_clone();
+        Ok(*self)
+    }
+}
+
+impl Copy for Logged<'_> {}
 
 impl<'a> Logged<'a> {
     /// A handle.

@@ -21,6 +21,7 @@ enum Refusals {
 pub struct Log {
     refusals: Cell<Refusals>,
     clones_refused: Cell<bool>,
+    clones: Cell<u64>,
     requests: Cell<u64>,
     bytes: Cell<u64>,
     given: Cell<u64>,
@@ -34,6 +35,7 @@ impl Log {
         Log {
             refusals: Cell::new(Refusals::None),
             clones_refused: Cell::new(false),
+            clones: Cell::new(0),
             requests: Cell::new(0),
             bytes: Cell::new(0),
             given: Cell::new(0),
@@ -61,6 +63,11 @@ impl Log {
     pub fn refuse_none(&self) {
         self.refusals.set(Refusals::None);
         self.clones_refused.set(false);
+    }
+
+    /// The number of clones of handles, refused ones too.
+    pub fn clones(&self) -> u64 {
+        self.clones.get()
     }
 
     /// The number of requests, refused ones too.
@@ -99,6 +106,11 @@ impl Log {
             Refusals::Once(refused) => number == refused,
             Refusals::From(first) => first <= number,
         }
+    }
+
+    // Writes down that a handle was cloned.
+    pub(crate) fn counts_a_clone(&self) {
+        add(&self.clones, 1);
     }
 
     // Writes down that a block was given.
@@ -167,6 +179,7 @@ fn add(count: &Cell<u64>, more: u64) {
 
 impl Clone for Observed<'_> {
     fn clone(&self) -> Result<Self, AllocError> {
+        self.log.counts_a_clone();
         if self.log.clones_refused.get() {
             return Err(AllocError);
         }

@@ -1,0 +1,77 @@
+//! How often calls of ordered maps and sets compare.
+use std::test::Fail;
+use wasmi_arena::ArenaError;
+use wasmi_ordered::map::Entry;
+use wasmi_ordered::{Map, Set};
+use wasmi_vectors::assert_equal;
+use wasmi_vectors::noted::{Noted, Notes};
+
+// Whether a call of each kind compares as often as a read of the key does, in a map where it is there or isn't.
+fn compares_as_a_read(
+    map: &mut Map<Noted<'_>, u32>,
+    set: &mut Set<Noted<'_>>,
+    notes: &Notes,
+    key: (Noted<'_>, Noted<'_>),
+) -> Result<bool, ArenaError> {
+    let _there = map.contains_key(&key.0);
+    let read = notes.compared();
+    map.insert(key.0, 1)?;
+    let inserted = notes.compared();
+    let there = set.contains(&key.1);
+    let found = notes.compared();
+    set.replace(key.1)?;
+    let replaced = notes.compared();
+    Ok(inserted == read && (replaced == found || !there && replaced == found.wrapping_mul(2)))
+}
+
+#[test]
+fn a_call_compares_as_a_read_does(rt: HostRuntime) -> Result<(), Fail> {
+    let notes = Notes::new();
+    let mut map: Map<Noted<'_>, u32> = Map::new(rt.alloc());
+    let mut set: Set<Noted<'_>> = Set::new(rt.alloc());
+    for number in 0..80u32 {
+        let key = number / 2;
+        let keys = (Noted::new(key, &notes), Noted::new(key, &notes));
+        assert!(rt;
+            compares_as_a_read(&mut map, &mut set, &notes, keys)?,
+            "of {number}"
+        );
+    }
+    Ok(())
+}
+
+// How often the calls on the place of a key compare: it is put in, changed and taken out.
+fn compared_by_a_place(
+    map: &mut Map<Noted<'_>, u32>,
+    notes: &Notes,
+    key: Noted<'_>,
+) -> Result<u64, ArenaError> {
+    let entry = map.entry(key)?;
+    notes.compared();
+    match entry {
+        Entry::Vacant(place) => {
+            place.insert(1)?;
+        }
+        Entry::Occupied(mut place) => {
+            let value = place.get().wrapping_add(1);
+            if value < 3 {
+                place.insert(value);
+            } else {
+                place.remove();
+            }
+        }
+    }
+    Ok(notes.compared())
+}
+
+#[test]
+fn a_place_compares_nothing(rt: HostRuntime) -> Result<(), Fail> {
+    let notes = Notes::new();
+    let mut map: Map<Noted<'_>, u32> = Map::new(rt.alloc());
+    for number in 0..90u32 {
+        let key = Noted::new(number / 3, &notes);
+        assert_equal!(rt; compared_by_a_place(&mut map, &notes, key), Ok(0), "of {number}");
+    }
+    assert!(rt; map.is_empty());
+    Ok(())
+}
