@@ -40,17 +40,26 @@ fn an_element_is_there_once(rt: HostRuntime) -> Result<(), Fail> {
     Ok(())
 }
 
+// Whether what two sets make of each other is apart from one, a part of one, and a part of one.
+fn parts(one: &Set<u32>, other: &Set<u32>) -> Result<[bool; 3], ArenaError> {
+    let is_apart = one.is_disjoint(&other.sub(one)?);
+    let is_part = one.bitand(other)?.is_subset(one);
+    Ok([is_apart, is_part, one.is_superset(&one.sub(other)?)])
+}
+
 #[test]
 fn two_sets_make_others(rt: HostRuntime) -> Result<(), Fail> {
     let one = set(rt.alloc(), [1, 2, 3])?;
     let other = set(rt.alloc(), [2, 3, 4])?;
-    assert_equal!(rt; &one.bitand(&other)?, &Set::from_iter(rt.alloc(), [2, 3])?);
-    assert_equal!(rt; &one.bitor(&other)?, &Set::from_iter(rt.alloc(), [1, 2, 3, 4])?);
-    assert_equal!(rt; &one.bitxor(&other)?, &Set::from_iter(rt.alloc(), [1, 4])?);
-    assert_equal!(rt; &one.sub(&other)?, &Set::from_iter(rt.alloc(), [1])?);
-    assert!(rt; !one.is_disjoint(&other) && one.is_disjoint(&other.sub(&one)?));
-    assert!(rt; !one.is_subset(&other) && one.bitand(&other)?.is_subset(&one));
-    assert!(rt; !one.is_superset(&other) && one.is_superset(&one.sub(&other)?));
+    assert_equal!(rt; one.bitand(&other), Set::from_iter(rt.alloc(), [2, 3]));
+    assert_equal!(rt; one.bitor(&other), Set::from_iter(rt.alloc(), [1, 2, 3, 4]));
+    assert_equal!(rt; one.bitxor(&other), Set::from_iter(rt.alloc(), [1, 4]));
+    assert_equal!(rt; one.sub(&other), Set::from_iter(rt.alloc(), [1]));
+    assert_equal!(rt;
+        [one.is_disjoint(&other), one.is_subset(&other), one.is_superset(&other)],
+        [false, false, false]
+    );
+    assert_equal!(rt; parts(&one, &other), Ok([true, true, true]));
     Ok(())
 }
 
@@ -92,25 +101,28 @@ fn a_set_prints_its_elements(rt: HostRuntime) -> Result<(), Fail> {
     Ok(())
 }
 
+// Whether a text is there that has room for some letters.
+fn is_roomy(text: Option<&String>) -> Option<bool> {
+    match text {
+        Some(text) => Some(40 <= text.capacity()),
+        None => None,
+    }
+}
+
 // Two texts without a letter are equal, and only one of them has room for some.
 #[test]
 fn an_element_that_is_there_is_kept(rt: HostRuntime) -> Result<(), Fail> {
     let alloc = rt.alloc();
     let roomy = String::with_capacity(alloc, 40)?;
     let mut set = Set::from_iter(alloc, [roomy, String::new(alloc)])?;
-    assert_equal!(rt; (set.len(), set.insert(String::new(alloc))?), (1, false));
-    set.extend([String::new(alloc)])?;
-    assert!(rt;
-        set.get(&String::new(alloc))
-            .is_some_and(|text| 40 <= text.capacity())
-    );
-    assert!(rt;
-        set.replace(String::new(alloc))?
-            .is_some_and(|text| 40 <= text.capacity())
-    );
-    assert!(rt;
-        set.get(&String::new(alloc))
-            .is_some_and(|text| text.capacity() < 40)
+    let text = String::new(alloc);
+    assert_equal!(rt; (set.len(), set.insert(String::new(alloc))), (1, Ok(false)));
+    assert_equal!(rt; set.extend([String::new(alloc)]), Ok(()));
+    assert_equal!(rt; is_roomy(set.get(&text)), Some(true));
+    let replaced = set.replace(String::new(alloc))?;
+    assert_equal!(rt;
+        (is_roomy(replaced.as_ref()), is_roomy(set.get(&text))),
+        (Some(true), Some(false))
     );
     Ok(())
 }
