@@ -3,6 +3,7 @@ ghost use Rattle.std.specs.Prelude.{Some, refl};
 ghost use Rattle.std.specs.Cmp.{on_equiv, on_per, on_po, on_total, partial_equiv_from_equiv, partial_order_from_total};
 ghost use Rattle.std.specs.Cmp.Rules.{hashing};
 ghost use Rattle.std.specs.Hash as fed;
+ghost use Rattle.std.specs.Iterator.{IsFinite};
 ghost use Rattle.std.specs.Ordering.{eq_by_cmp, nat_cmp};
 ghost use Rattle.std.proofs.Common.{rules};
 ghost use Rattle.std.proofs.lemmas.Cmp.{eq_by_cmp_equiv, nat_cmp_total};
@@ -83,20 +84,19 @@ impl Digit {
 }
 
 // The number that these digits make.
-macro_rules! number {
-    ($digits:expr) => {{
-        let mut sum: u32 = 0;
-        for digit in $digits {
-            sum = sum.wrapping_add(digit.worth());
-        }
-        sum
-    }};
+fn number<'a, I: Iterator<Item = &'a Digit>>(digits: I) -> u32
+    requires { I.can_next digits × IsFinite (I.remaining digits) }
+{
+    let mut sum: u32 = 0;
+    for digit in digits {
+        sum = sum.wrapping_add(digit.worth());
+    }
+    sum
 }
 
-// The number that a set has after the call of this name with a 2 in places 1 to 3, or that the set has which the call
-// makes of the two.
-macro_rules! kept {
-    ($call:expr, $one:ident, $other:ident, $($name:literal => $number:expr),*) => {{
+// Calls of these names on a set, with a 2 in places 1 to 3. In place of the set comes what a call makes of the two.
+macro_rules! change {
+    ($call:expr, $one:ident, $other:ident, $($name:literal => $made:expr),*) => {{
         match $call {
             "insert" => {
                 for element in three(1, 2) {
@@ -109,35 +109,34 @@ macro_rules! kept {
                 }
             }
             "extend" => $one.extend(three(1, 2))?,
-            "extend_ref" => $one.extend_ref(&$other)?,
-            "sub" => return Ok(number!($one.sub(&$other)?.iter())),
-            "bitxor" => return Ok(number!($one.bitxor(&$other)?.iter())),
-            "difference" => return Ok(number!($one.difference(&$other))),
-            $($name => return Ok($number),)*
-            _ => return Ok(number!($one.symmetric_difference(&$other))),
+            "extend_ref" => $one.extend_ref($other)?,
+            $($name => *$one = $made?,)*
+            "sub" => *$one = $one.sub($other)?,
+            _ => *$one = $one.bitxor($other)?,
         }
-        Ok(number!($one.iter()))
+        Ok(())
     }};
 }
 
 // The same of the keys of a map.
-macro_rules! kept_key {
-    ($call:expr, $map:ident, $more:ident, $others:ident) => {{
+macro_rules! change_keys {
+    ($call:expr, $map:ident, $others:ident) => {{
+        let (_, more) = pairs();
         match $call {
             "insert" => {
-                for (key, value) in $more {
+                for (key, value) in more {
                     $map.insert(key, value)?;
                 }
             }
             "or_insert" => {
-                for (key, value) in $more {
+                for (key, value) in more {
                     $map.entry(key)?.or_insert(value)?;
                 }
             }
-            "extend" => $map.extend($more)?,
-            _ => $map.extend_ref(&$others)?,
+            "extend" => $map.extend(more)?,
+            _ => $map.extend_ref($others)?,
         }
-        Ok(number!($map.keys()))
+        Ok(())
     }};
 }
 
@@ -151,59 +150,116 @@ fn pairs() -> (Pairs, Pairs) {
 }
 
 mod ordered {
-    use super::{Digit, pairs, three};
+    use super::{Digit, number, pairs, three};
     use std::alloc::Global;
     use wasmi_arena::ArenaError;
     use wasmi_ordered::{Map, Set};
 
-    // Of a set with a 1 in places 0 to 2.
+    // As `change!` says.
+    fn change(one: &mut Set<Digit>, other: &Set<Digit>, call: &str) -> Result<(), ArenaError> {
+        change!(call, one, other,
+            "bitor" => one.bitor(other),
+            "bitand" => one.bitand(other)
+        )
+    }
+
+    // What a walk over both gives, of those that make no set.
+    fn walked(one: &Set<Digit>, other: &Set<Digit>, call: &str) -> Option<u32> {
+        Some(match call {
+            "difference" => number(one.difference(other)),
+            "symmetric_difference" => number(one.symmetric_difference(other)),
+            "union" => number(one.union(other)),
+            "intersection" => number(one.intersection(other)),
+            _ => return None,
+        })
+    }
+
+    // The number of a set with a 1 in places 0 to 2 after a call, or of what the call walks over.
     pub(super) fn kept(alloc: Global, call: &str) -> Result<u32, ArenaError> {
         let mut one: Set<Digit> = Set::from_iter(alloc, three(0, 1))?;
         let other: Set<Digit> = Set::from_iter(alloc, three(1, 2))?;
-        kept!(call, one, other,
-            "union" => number!(one.union(&other)),
-            "intersection" => number!(one.intersection(&other)),
-            "bitor" => number!(one.bitor(&other)?.iter()),
-            "bitand" => number!(one.bitand(&other)?.iter())
-        )
+        if let Some(number) = walked(&one, &other, call) {
+            return Ok(number);
+        }
+        change(&mut one, &other, call)?;
+        Ok(number(one.iter()))
+    }
+
+    // As `change_keys!` says.
+    fn change_keys(
+        map: &mut Map<Digit, u32>,
+        others: &Map<Digit, u32>,
+        call: &str,
+    ) -> Result<(), ArenaError> {
+        change_keys!(call, map, others)
     }
 
     pub(super) fn kept_key(alloc: Global, call: &str) -> Result<u32, ArenaError> {
         let (pairs, more) = pairs();
         let mut map: Map<Digit, u32> = Map::from_iter(alloc, pairs)?;
         let others: Map<Digit, u32> = Map::from_iter(alloc, more)?;
-        kept_key!(call, map, more, others)
+        change_keys(&mut map, &others, call)?;
+        Ok(number(map.keys()))
     }
 
     pub(super) fn collected(alloc: Global) -> Result<u32, ArenaError> {
         let set: Set<Digit> = Set::from_iter(alloc, three(0, 1).into_iter().chain(three(1, 2)))?;
-        Ok(number!(set.iter()))
+        Ok(number(set.iter()))
     }
 }
 
 // The calls that make a set of what two have may keep either.
 mod hashed {
-    use super::{Digit, pairs, three};
+    use super::{Digit, number, pairs, three};
     use std::alloc::Global;
     use wasmi_arena::ArenaError;
     use wasmi_hashed::{Map, Set};
 
+    // As `change!` says.
+    fn change(one: &mut Set<Digit>, other: &Set<Digit>, call: &str) -> Result<(), ArenaError> {
+        change!(call, one, other,)
+    }
+
+    // What a walk over both gives, of those that make no set.
+    fn walked(one: &Set<Digit>, other: &Set<Digit>, call: &str) -> Option<u32> {
+        Some(match call {
+            "difference" => number(one.difference(other)),
+            "symmetric_difference" => number(one.symmetric_difference(other)),
+            _ => return None,
+        })
+    }
+
+    // The same of hashed ones.
     pub(super) fn kept(alloc: Global, call: &str) -> Result<u32, ArenaError> {
         let mut one: Set<Digit> = Set::from_iter(alloc, three(0, 1))?;
         let other: Set<Digit> = Set::from_iter(alloc, three(1, 2))?;
-        kept!(call, one, other,)
+        if let Some(number) = walked(&one, &other, call) {
+            return Ok(number);
+        }
+        change(&mut one, &other, call)?;
+        Ok(number(one.iter()))
+    }
+
+    // As `change_keys!` says.
+    fn change_keys(
+        map: &mut Map<Digit, u32>,
+        others: &Map<Digit, u32>,
+        call: &str,
+    ) -> Result<(), ArenaError> {
+        change_keys!(call, map, others)
     }
 
     pub(super) fn kept_key(alloc: Global, call: &str) -> Result<u32, ArenaError> {
         let (pairs, more) = pairs();
         let mut map: Map<Digit, u32> = Map::from_iter(alloc, pairs)?;
         let others: Map<Digit, u32> = Map::from_iter(alloc, more)?;
-        kept_key!(call, map, more, others)
+        change_keys(&mut map, &others, call)?;
+        Ok(number(map.keys()))
     }
 
     pub(super) fn collected(alloc: Global) -> Result<u32, ArenaError> {
         let set: Set<Digit> = Set::from_iter(alloc, three(0, 1).into_iter().chain(three(1, 2)))?;
-        Ok(number!(set.iter()))
+        Ok(number(set.iter()))
     }
 }
 

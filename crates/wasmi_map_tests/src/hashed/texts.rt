@@ -3,11 +3,13 @@ ghost use Rattle.std.specs.Prelude.{◌≡◌, Some, IfOk};
 ghost use Rattle.std.specs.String.{string_bytes};
 
 use std::alloc::Allocator;
+use std::process::Abort;
 use std::test::Fail;
 use wasmi_arena::ArenaError;
 use wasmi_hashed::hash::FixedState;
 use wasmi_hashed::{Map, Set};
 use wasmi_vectors::assert_equal;
+use wasmi_vectors::logged::Logged;
 use wasmi_vectors::observed::{Log, Observed};
 
 // What went in under a text is found by it.
@@ -24,57 +26,79 @@ fn found<A: Allocator + Clone>(
     Ok(map.get_str(text).copied())
 }
 
+// What calls on a map answer of one text, in turn: what is under it, whether it is there, its key, whether
+// it is there after a write of ten more, and what is taken out.
+fn ask_map<A: Allocator + Copy>(
+    map: &mut Map<String<A>, u32, FixedState, A>,
+    text: &str,
+) -> (Option<u32>, [bool; 3], Option<u32>) {
+    let (value, is_there) = (map.get_str(text).copied(), map.contains_key_str(text));
+    let has_key = map
+        .get_key_value_str(text)
+        .is_some_and(|(key, _)| key.as_str() == text);
+    if let Some(value) = map.get_mut_str(text) {
+        *value = value.wrapping_add(10);
+    }
+    let stays = map.get_str(text).is_some();
+    let taken = if text.len() == 1 {
+        map.remove_str(text)
+    } else {
+        map.remove_entry_str(text).map(|(_, value)| value)
+    };
+    (value, [is_there, has_key, stays], taken)
+}
+
+// The same of a set: whether it is there, its key, and whether it is taken out.
+fn ask_set<A: Allocator + Copy>(set: &mut Set<String<A>, FixedState, A>, text: &str) -> [bool; 3] {
+    let is_there = set.contains_str(text);
+    let has_key = set.get_str(text).is_some_and(|key| key.as_str() == text);
+    let taken = if text.len() == 1 {
+        set.remove_str(text)
+    } else {
+        set.take_str(text).is_some()
+    };
+    [is_there, has_key, taken]
+}
+
+// Four texts into both.
+fn put_texts<A: Allocator + Copy>(
+    map: &mut Map<String<A>, u32, FixedState, A>,
+    set: &mut Set<String<A>, FixedState, A>,
+    heap: A,
+) -> Result<(), Fail> {
+    for (text, value) in [("b", 2), ("", 0), ("a", 1), ("ab", 3)] {
+        map.insert(String::from_str(heap, text)?, value)?;
+        set.insert(String::from_str(heap, text)?)?;
+    }
+    Ok(())
+}
+
+// Over a handle on an allocator that refuses all once the four texts are in.
+fn find_texts<A: Allocator + Copy>(rt: &impl Abort, log: &Log, heap: A) -> Result<(), Fail> {
+    let mut map: Map<String<A>, u32, FixedState, A> = Map::new(heap);
+    let mut set: Set<String<A>, FixedState, A> = Set::new(heap);
+    put_texts(&mut map, &mut set, heap)?;
+    log.refuse_from(1);
+    for (text, value, taken, left) in [
+        ("a", Some(1), Some(11), 3),
+        ("", Some(0), Some(10), 2),
+        ("ab", Some(3), Some(13), 1),
+        ("b", Some(2), Some(12), 0),
+        ("ba", None, None, 0),
+    ] {
+        let found = [value.is_some(); 3];
+        assert_equal!(*rt; ask_map(&mut map, text), (value, found, taken), "{text}");
+        assert_equal!(*rt; ask_set(&mut set, text), found, "{text}");
+        assert_equal!(*rt; (map.len(), set.len()), (left, left), "{text}");
+    }
+    Ok(())
+}
+
 // Of one text: whether it is there, what is under it, what a write leaves, and what is taken out.
 #[test]
 fn a_text_finds_its_key_without_memory(rt: HostRuntime) -> Result<(), Fail> {
     let log = Log::new();
-    {
-        let heap = Observed::new(rt.alloc(), &log);
-        let mut map: Map<String<&Observed<'_>>, u32, FixedState, &Observed<'_>> = Map::new(&heap);
-        let mut set: Set<String<&Observed<'_>>, FixedState, &Observed<'_>> = Set::new(&heap);
-        for (text, value) in [("b", 2), ("", 0), ("a", 1), ("ab", 3)] {
-            map.insert(String::from_str(&heap, text)?, value)?;
-            set.insert(String::from_str(&heap, text)?)?;
-        }
-        log.refuse_from(1);
-        for (text, value) in [
-            ("a", Some(1)),
-            ("", Some(0)),
-            ("ab", Some(3)),
-            ("b", Some(2)),
-            ("ba", None),
-        ] {
-            let len = map.len();
-            assert_equal!(rt; map.get_str(text).copied(), value, "{text}");
-            assert_equal!(rt;
-                (map.contains_key_str(text), set.contains_str(text)),
-                (value.is_some(), value.is_some()),
-                "{text}"
-            );
-            assert_equal!(rt;
-                map.get_key_value_str(text).map(|(key, _)| key.as_str()),
-                set.get_str(text).map(|key| key.as_str()),
-                "{text}"
-            );
-            if let Some(value) = map.get_mut_str(text) {
-                *value = value.wrapping_add(10);
-            }
-            assert_equal!(rt; map.get_str(text).is_some(), value.is_some(), "{text}");
-            let (taken, was_in) = if text.len() == 1 {
-                (map.remove_str(text), set.remove_str(text))
-            } else {
-                let entry = map.remove_entry_str(text);
-                (entry.map(|(_, value)| value), set.take_str(text).is_some())
-            };
-            assert_equal!(rt;
-                (taken, was_in),
-                (value.map(|value| value.wrapping_add(10)), value.is_some()),
-                "{text}"
-            );
-            assert_equal!(rt; (map.len() < len, map.len()), (value.is_some(), set.len()));
-        }
-        assert_equal!(rt; (map.len(), set.len()), (0, 0));
-    }
+    find_texts(&rt, &log, Logged::new(rt.alloc(), &log))?;
     assert_equal!(rt; (log.returned(), log.misplaced()), (log.given(), 0));
     Ok(())
 }
@@ -128,47 +152,83 @@ fn room_is_given_back(rt: HostRuntime) -> Result<(), Fail> {
     Ok(())
 }
 
+// What calls on a map answer of one slice, in turn: whether it is there, what is under it, by two calls, and
+// what is taken out after a write of ten more.
+fn ask_map_of_slices<A: Allocator + Copy>(
+    map: &mut Map<Vec<u8, A>, u32, FixedState, A>,
+    key: &[u8],
+) -> (bool, [Option<u32>; 3]) {
+    let is_there = map.contains_key_slice(key);
+    let value = map.get_slice(key).copied();
+    let entry = map.get_key_value_slice(key).map(|(_, value)| *value);
+    if let Some(value) = map.get_mut_slice(key) {
+        *value = value.wrapping_add(10);
+    }
+    let taken = if key.len() == 1 {
+        map.remove_slice(key)
+    } else {
+        map.remove_entry_slice(key).map(|(_, value)| value)
+    };
+    (is_there, [value, entry, taken])
+}
+
+// The same of a set: whether it is there, by two calls, and whether it is taken out.
+fn ask_set_of_slices<A: Allocator + Copy>(
+    set: &mut Set<Vec<u8, A>, FixedState, A>,
+    key: &[u8],
+) -> [bool; 3] {
+    let (is_there, is_got) = (set.contains_slice(key), set.get_slice(key).is_some());
+    let taken = if key.len() == 1 {
+        set.remove_slice(key)
+    } else {
+        set.take_slice(key).is_some()
+    };
+    [is_there, is_got, taken]
+}
+
+// The same of slices.
+fn put_slices<A: Allocator + Copy>(
+    map: &mut Map<Vec<u8, A>, u32, FixedState, A>,
+    set: &mut Set<Vec<u8, A>, FixedState, A>,
+    heap: A,
+) -> Result<(), Fail> {
+    for (text, value) in [("b", 2), ("", 0), ("a", 1), ("ab", 3)] {
+        map.insert(String::from_str(heap, text)?.into_bytes(), value)?;
+        set.insert(String::from_str(heap, text)?.into_bytes())?;
+    }
+    Ok(())
+}
+
+// As `find_texts`.
+fn find_slices<A: Allocator + Copy>(rt: &impl Abort, log: &Log, heap: A) -> Result<(), Fail> {
+    let mut map: Map<Vec<u8, A>, u32, FixedState, A> = Map::new(heap);
+    let mut set: Set<Vec<u8, A>, FixedState, A> = Set::new(heap);
+    put_slices(&mut map, &mut set, heap)?;
+    log.refuse_from(1);
+    for (text, value, taken) in [
+        ("a", Some(1), Some(11)),
+        ("", Some(0), Some(10)),
+        ("ab", Some(3), Some(13)),
+        ("b", Some(2), Some(12)),
+        ("ba", None, None),
+    ] {
+        let (key, is_there) = (text.as_bytes(), value.is_some());
+        assert_equal!(*rt;
+            ask_map_of_slices(&mut map, key),
+            (is_there, [value, value, taken]),
+            "{text}"
+        );
+        assert_equal!(*rt; ask_set_of_slices(&mut set, key), [is_there; 3], "{text}");
+    }
+    assert_equal!(*rt; (map.len(), set.len()), (0, 0));
+    Ok(())
+}
+
 // The same of vectors, by a slice.
 #[test]
 fn a_slice_finds_its_key_without_memory(rt: HostRuntime) -> Result<(), Fail> {
     let log = Log::new();
-    {
-        let heap = Observed::new(rt.alloc(), &log);
-        let mut map: Map<Vec<u8, &Observed<'_>>, u32, FixedState, &Observed<'_>> = Map::new(&heap);
-        let mut set: Set<Vec<u8, &Observed<'_>>, FixedState, &Observed<'_>> = Set::new(&heap);
-        for (text, value) in [("b", 2), ("", 0), ("a", 1), ("ab", 3)] {
-            map.insert(String::from_str(&heap, text)?.into_bytes(), value)?;
-            set.insert(String::from_str(&heap, text)?.into_bytes())?;
-        }
-        log.refuse_from(1);
-        for (text, value) in [
-            ("a", Some(1)),
-            ("", Some(0)),
-            ("ab", Some(3)),
-            ("b", Some(2)),
-            ("ba", None),
-        ] {
-            let (key, is_there) = (text.as_bytes(), value.is_some());
-            assert_equal!(rt;
-                (map.contains_key_slice(key), set.contains_slice(key), set.get_slice(key).is_some()),
-                (is_there, is_there, is_there),
-                "{text}"
-            );
-            let entry = map.get_key_value_slice(key).map(|(_, value)| *value);
-            assert_equal!(rt; (map.get_slice(key).copied(), entry), (value, value), "{text}");
-            if let Some(value) = map.get_mut_slice(key) {
-                *value = value.wrapping_add(10);
-            }
-            let (taken, was_in) = if text.len() == 1 {
-                (map.remove_slice(key), set.remove_slice(key))
-            } else {
-                let entry = map.remove_entry_slice(key);
-                (entry.map(|(_, value)| value), set.take_slice(key).is_some())
-            };
-            assert_equal!(rt; (taken, was_in), (value.map(|value| value.wrapping_add(10)), is_there), "{text}");
-        }
-        assert_equal!(rt; (map.len(), set.len()), (0, 0));
-    }
+    find_slices(&rt, &log, Logged::new(rt.alloc(), &log))?;
     assert_equal!(rt; (log.returned(), log.misplaced()), (log.given(), 0));
     Ok(())
 }

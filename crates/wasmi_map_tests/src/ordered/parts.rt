@@ -1,5 +1,7 @@
 //! The ends of ordered maps and sets, their parts, and what is joined.
+use std::alloc::Global;
 use std::cell::Cell;
+use std::process::Abort;
 use std::test::Fail;
 use wasmi_arena::ArenaError;
 use wasmi_ordered::{Map, Set};
@@ -8,26 +10,45 @@ use wasmi_vectors::counted::Counted;
 use wasmi_vectors::noted::{Noted, Notes};
 use wasmi_vectors::observed::{Log, Observed};
 
+// Of a map of 1 to 4, which is empty before it is cut.
+fn take_pairs(rt: &impl Abort, alloc: Global) -> Result<(), Fail> {
+    let mut map = Map::from_iter(alloc, [(2, "b"), (1, "a"), (3, "c")])?;
+    map.append(&mut Map::from_iter(alloc, [(2, "d"), (4, "e")])?)?;
+    assert_equal!(*rt;
+        (map.first_key_value(), map.last_key_value()),
+        (Some((&1, &"a")), Some((&4, &"e")))
+    );
+    assert_equal!(*rt;
+        [map.pop_first(), map.pop_last(), map.pop_last(), map.pop_first(), map.pop_first()],
+        [Some((1, "a")), Some((4, "e")), Some((3, "c")), Some((2, "d")), None]
+    );
+    assert_equal!(*rt; map.first_key_value(), None);
+    let mut rest = map.split_off(&2)?;
+    map.append(&mut rest)?;
+    assert_equal!(*rt; map.len(), 0);
+    Ok(())
+}
+
+// The same of a set.
+fn take_elements(rt: &impl Abort, alloc: Global) -> Result<(), Fail> {
+    let mut set = Set::from_iter(alloc, [2, 1, 3])?;
+    set.append(&mut Set::from_iter(alloc, [2, 4])?)?;
+    assert_equal!(*rt; (set.first(), set.last()), (Some(&1), Some(&4)));
+    assert_equal!(*rt;
+        [set.pop_first(), set.pop_last(), set.pop_last(), set.pop_first(), set.pop_last()],
+        [Some(1), Some(4), Some(3), Some(2), None]
+    );
+    assert_equal!(*rt; set.last(), None);
+    let mut others = set.split_off(&2)?;
+    set.append(&mut others)?;
+    assert_equal!(*rt; set.len(), 0);
+    Ok(())
+}
+
 #[test]
 fn ends_are_read_and_taken(rt: HostRuntime) -> Result<(), Fail> {
-    let mut map = Map::from_iter(rt.alloc(), [(2, "b"), (1, "a"), (3, "c")])?;
-    let mut set = Set::from_iter(rt.alloc(), [2, 1, 3])?;
-    map.append(&mut Map::from_iter(rt.alloc(), [(2, "d"), (4, "e")])?)?;
-    set.append(&mut Set::from_iter(rt.alloc(), [2, 4])?)?;
-    assert_equal!(rt; map.first_key_value(), Some((&1, &"a")));
-    assert_equal!(rt; map.last_key_value(), Some((&4, &"e")));
-    assert_equal!(rt; (set.first(), set.last()), (Some(&1), Some(&4)));
-    assert_equal!(rt; (map.pop_first(), set.pop_first()), (Some((1, "a")), Some(1)));
-    assert_equal!(rt; (map.pop_last(), set.pop_last()), (Some((4, "e")), Some(4)));
-    assert_equal!(rt; (map.pop_last(), set.pop_last()), (Some((3, "c")), Some(3)));
-    assert_equal!(rt; (map.pop_first(), set.pop_first()), (Some((2, "d")), Some(2)));
-    assert_equal!(rt; (map.pop_first(), set.pop_last()), (None, None));
-    assert_equal!(rt; (map.first_key_value(), set.last()), (None, None));
-    let (mut rest, mut others) = (map.split_off(&2)?, set.split_off(&2)?);
-    map.append(&mut rest)?;
-    set.append(&mut others)?;
-    assert_equal!(rt; (map.len(), set.len()), (0, 0));
-    Ok(())
+    take_pairs(&rt, rt.alloc())?;
+    take_elements(&rt, rt.alloc())
 }
 
 #[test]
@@ -43,44 +64,67 @@ fn a_range_is_walked_from_both_ends(rt: HostRuntime) -> Result<(), Fail> {
     Ok(())
 }
 
+// A map of 0 to 59 with a request refused in the cut at 45, or in the join of both parts.
+fn cut_pairs(rt: &impl Abort, alloc: Global, log: &Log, nth: u64) -> Result<(), Fail> {
+    let mut map: Map<u32, u32, Observed<'_>> = Map::new(Observed::new(alloc, log));
+    map.extend((0..60u32).map(|key| (key, key)))?;
+    log.refuse_once(nth);
+    match map.split_off(&45) {
+        Ok(mut rest) => {
+            assert_equal!(*rt; (map.len(), rest.len()), (45, 15), "at {nth}");
+            if let Err(error) = map.append(&mut rest) {
+                assert_equal!(*rt; error, ArenaError::OutOfSystemMemory);
+            }
+            assert_equal!(*rt; map.len().wrapping_add(rest.len()), 60, "at {nth}");
+        }
+        Err(error) => {
+            assert_equal!(*rt; (error, map.len()), (ArenaError::OutOfSystemMemory, 60), "at {nth}");
+        }
+    }
+    log.refuse_none();
+    Ok(())
+}
+
+// Whether each of 0 to 59 is in one of both.
+fn have_all(one: &Set<u32, Observed<'_>>, other: &Set<u32, Observed<'_>>) -> bool {
+    for key in 0..60u32 {
+        if !one.contains(&key) && !other.contains(&key) {
+            return false;
+        }
+    }
+    true
+}
+
+// Sets of 0 to 39 and 30 to 59 with a request refused in their join, or in the cut at 20 after it.
+fn join_elements(rt: &impl Abort, alloc: Global, log: &Log, nth: u64) -> Result<(), Fail> {
+    let mut set: Set<u32, Observed<'_>> = Set::new(Observed::new(alloc, log));
+    let mut other: Set<u32, Observed<'_>> = Set::new(Observed::new(alloc, log));
+    set.extend(0..40u32)?;
+    other.extend(30..60u32)?;
+    log.refuse_once(nth);
+    if let Err(error) = set.append(&mut other) {
+        assert_equal!(*rt;
+            (error, other.is_empty()),
+            (ArenaError::OutOfSystemMemory, false),
+            "at {nth}"
+        );
+    } else {
+        assert_equal!(*rt; (set.len(), other.len()), (60, 0), "at {nth}");
+    }
+    assert!(*rt; have_all(&set, &other));
+    if let Ok(rest) = set.split_off(&20) {
+        assert_equal!(*rt; (set.len(), rest.is_empty()), (20, false), "at {nth}");
+    }
+    Ok(())
+}
+
 // Each request refused in turn: then both are as before, or all that left one is in the other.
 #[test]
 fn a_cut_and_a_join_lose_nothing(rt: HostRuntime) -> Result<(), Fail> {
     for nth in 1..40 {
         let log = Log::new();
-        {
-            let mut map: Map<u32, u32, Observed<'_>> = Map::new(Observed::new(rt.alloc(), &log));
-            let mut set: Set<u32, Observed<'_>> = Set::new(Observed::new(rt.alloc(), &log));
-            let mut other: Set<u32, Observed<'_>> = Set::new(Observed::new(rt.alloc(), &log));
-            map.extend((0..60u32).map(|key| (key, key)))?;
-            set.extend(0..40u32)?;
-            other.extend(30..60u32)?;
-            log.refuse_once(nth);
-            match map.split_off(&45) {
-                Ok(mut rest) => {
-                    assert_equal!(rt; (map.len(), rest.len()), (45, 15), "at {nth}");
-                    if let Err(error) = map.append(&mut rest) {
-                        assert_equal!(rt; error, ArenaError::OutOfSystemMemory);
-                    }
-                    assert_equal!(rt; map.len().wrapping_add(rest.len()), 60, "at {nth}");
-                }
-                Err(error) => {
-                    assert_equal!(rt; error, ArenaError::OutOfSystemMemory);
-                    assert_equal!(rt; map.len(), 60, "at {nth}");
-                }
-            }
-            log.refuse_once(nth);
-            if let Err(error) = set.append(&mut other) {
-                assert_equal!(rt; error, ArenaError::OutOfSystemMemory);
-                assert!(rt; !other.is_empty(), "at {nth}");
-            } else {
-                assert_equal!(rt; (set.len(), other.len()), (60, 0), "at {nth}");
-            }
-            assert!(rt; (0..60u32).all(|key| set.contains(&key) || other.contains(&key)));
-            if let Ok(rest) = set.split_off(&20) {
-                assert_equal!(rt; (set.len(), rest.is_empty()), (20, false), "at {nth}");
-            }
-        }
+        cut_pairs(&rt, rt.alloc(), &log, nth)?;
+        join_elements(&rt, rt.alloc(), &log, nth)?;
         assert_equal!(rt; (log.returned(), log.misplaced()), (log.given(), 0));
     }
     Ok(())

@@ -1,5 +1,8 @@
 //! Sets of numbers.
+ghost use Rattle.std.specs.Iterator.{IsFinite};
+
 use std::alloc::Global;
+use std::process::Abort;
 use std::test::Fail;
 use wasmi_arena::ArenaError;
 use wasmi_ordered::Set;
@@ -7,6 +10,20 @@ use wasmi_vectors::assert_equal;
 
 fn set(alloc: Global, items: [u32; 3]) -> Result<Set<u32>, ArenaError> {
     Set::from_iter(alloc, items)
+}
+
+// What an empty set is after calls that take more, or keep some.
+fn change(rt: &impl Abort, set: &mut Set<u32>, alloc: Global) -> Result<(), Fail> {
+    set.extend([2, 1, 2])?;
+    let other = Set::from_iter(alloc, [3, 1])?;
+    set.extend_ref(&other)?;
+    let three = Set::from_iter(alloc, [1, 2, 3])?;
+    assert_equal!(*rt; &*set, &three);
+    set.retain(|element| *element != 2);
+    assert_equal!(*rt; &*set, &other);
+    let copy = set.clone()?;
+    assert_equal!(*rt; &*set, &copy);
+    Ok(())
 }
 
 #[test]
@@ -28,52 +45,50 @@ fn an_element_is_there_once(rt: HostRuntime) -> Result<(), Fail> {
     assert_equal!(rt; set.take(&4), None);
     assert_equal!(rt; set.len(), 0);
     assert_equal!(rt; set.reserve(100), Ok(()));
-    set.extend([2, 1, 2])?;
-    let other = Set::from_iter(rt.alloc(), [3, 1])?;
-    set.extend_ref(&other)?;
-    assert_equal!(rt; &set, &Set::from_iter(rt.alloc(), [1, 2, 3])?);
-    set.retain(|element| *element != 2);
-    assert_equal!(rt; &set, &other);
-    assert_equal!(rt; &set, &set.clone()?);
+    change(&rt, &mut set, rt.alloc())?;
     set.clear();
     assert!(rt; set.is_empty());
     Ok(())
+}
+
+// Whether what two sets make of each other is apart from one, a part of one, and a part of one.
+fn parts(one: &Set<u32>, other: &Set<u32>) -> Result<[bool; 3], ArenaError> {
+    let is_apart = one.is_disjoint(&other.sub(one)?);
+    let is_part = one.bitand(other)?.is_subset(one);
+    Ok([is_apart, is_part, one.is_superset(&one.sub(other)?)])
 }
 
 #[test]
 fn two_sets_make_others(rt: HostRuntime) -> Result<(), Fail> {
     let one = set(rt.alloc(), [1, 2, 3])?;
     let other = set(rt.alloc(), [2, 3, 4])?;
-    assert_equal!(rt; &one.bitand(&other)?, &Set::from_iter(rt.alloc(), [2, 3])?);
-    assert_equal!(rt; &one.bitor(&other)?, &Set::from_iter(rt.alloc(), [1, 2, 3, 4])?);
-    assert_equal!(rt; &one.bitxor(&other)?, &Set::from_iter(rt.alloc(), [1, 4])?);
-    assert_equal!(rt; &one.sub(&other)?, &Set::from_iter(rt.alloc(), [1])?);
-    assert!(rt; !one.is_disjoint(&other) && one.is_disjoint(&other.sub(&one)?));
-    assert!(rt; !one.is_subset(&other) && one.bitand(&other)?.is_subset(&one));
-    assert!(rt; !one.is_superset(&other) && one.is_superset(&one.sub(&other)?));
+    assert_equal!(rt; one.bitand(&other), Set::from_iter(rt.alloc(), [2, 3]));
+    assert_equal!(rt; one.bitor(&other), Set::from_iter(rt.alloc(), [1, 2, 3, 4]));
+    assert_equal!(rt; one.bitxor(&other), Set::from_iter(rt.alloc(), [1, 4]));
+    assert_equal!(rt; one.sub(&other), Set::from_iter(rt.alloc(), [1]));
+    assert_equal!(rt;
+        [one.is_disjoint(&other), one.is_subset(&other), one.is_superset(&other)],
+        [false, false, false]
+    );
+    assert_equal!(rt; parts(&one, &other), Ok([true, true, true]));
     Ok(())
+}
+
+// Whether an iterator gives these elements, in this order, and no more.
+fn gives<'a, I: Iterator<Item = &'a u32>>(elements: I, want: &'a [u32]) -> bool
+    requires { I.can_next elements × IsFinite (I.remaining elements) }
+{
+    elements.eq(want.iter())
 }
 
 #[test]
 fn walks_over_two_sets_ascend(rt: HostRuntime) -> Result<(), Fail> {
     let one = set(rt.alloc(), [3, 1, 2])?;
     let other = set(rt.alloc(), [4, 2, 3])?;
-    let mut both = one.intersection(&other);
-    assert_equal!(rt; both.next(), Some(&2));
-    assert_equal!(rt; both.next(), Some(&3));
-    assert_equal!(rt; both.next(), None);
-    let mut either = one.union(&other);
-    for want in 1..5 {
-        assert_equal!(rt; either.next(), Some(&want));
-    }
-    assert_equal!(rt; either.next(), None);
-    let mut lacking = one.difference(&other);
-    assert_equal!(rt; lacking.next(), Some(&1));
-    assert_equal!(rt; lacking.next(), None);
-    let mut one_of_two = one.symmetric_difference(&other);
-    assert_equal!(rt; one_of_two.next(), Some(&1));
-    assert_equal!(rt; one_of_two.next(), Some(&4));
-    assert_equal!(rt; one_of_two.next(), None);
+    assert!(rt; gives(one.intersection(&other), &[2, 3]));
+    assert!(rt; gives(one.union(&other), &[1, 2, 3, 4]));
+    assert!(rt; gives(one.difference(&other), &[1]));
+    assert!(rt; gives(one.symmetric_difference(&other), &[1, 4]));
     assert_equal!(rt; one.iter().len(), 3);
     let mut visited: u32 = 0;
     for element in &one {
@@ -98,25 +113,28 @@ fn a_set_prints_in_order(rt: HostRuntime) -> Result<(), Fail> {
     Ok(())
 }
 
+// Whether a text is there that has room for some letters.
+fn is_roomy(text: Option<&String>) -> Option<bool> {
+    match text {
+        Some(text) => Some(40 <= text.capacity()),
+        None => None,
+    }
+}
+
 // Two texts without a letter are equal, and only one of them has room for some.
 #[test]
 fn an_element_that_is_there_is_kept(rt: HostRuntime) -> Result<(), Fail> {
     let alloc = rt.alloc();
     let roomy = String::with_capacity(alloc, 40)?;
     let mut set = Set::from_iter(alloc, [roomy, String::new(alloc)])?;
-    assert_equal!(rt; (set.len(), set.insert(String::new(alloc))?), (1, false));
-    set.extend([String::new(alloc)])?;
-    assert!(rt;
-        set.get(&String::new(alloc))
-            .is_some_and(|text| 40 <= text.capacity())
-    );
-    assert!(rt;
-        set.replace(String::new(alloc))?
-            .is_some_and(|text| 40 <= text.capacity())
-    );
-    assert!(rt;
-        set.get(&String::new(alloc))
-            .is_some_and(|text| text.capacity() < 40)
+    let text = String::new(alloc);
+    assert_equal!(rt; (set.len(), set.insert(String::new(alloc))), (1, Ok(false)));
+    assert_equal!(rt; set.extend([String::new(alloc)]), Ok(()));
+    assert_equal!(rt; is_roomy(set.get(&text)), Some(true));
+    let replaced = set.replace(String::new(alloc))?;
+    assert_equal!(rt;
+        (is_roomy(replaced.as_ref()), is_roomy(set.get(&text))),
+        (Some(true), Some(false))
     );
     Ok(())
 }
