@@ -7,11 +7,11 @@ use wasmi_vectors::assert_equal;
 use wasmi_vectors::noted::{Noted, Notes};
 
 // Whether a call of each kind compares as often as a read of the key does, in a map where it is there or isn't.
-fn compares_as_a_read(
-    map: &mut Map<Noted<'_>, u32>,
-    set: &mut Set<Noted<'_>>,
+fn compares_as_a_read<'a>(
+    map: &mut Map<Noted<'a>, u32>,
+    set: &mut Set<Noted<'a>>,
     notes: &Notes,
-    key: (Noted<'_>, Noted<'_>),
+    key: (Noted<'a>, Noted<'a>),
 ) -> Result<bool, ArenaError> {
     let _there = map.contains_key(&key.0);
     let read = notes.compared();
@@ -41,10 +41,10 @@ fn a_call_compares_as_a_read_does(rt: HostRuntime) -> Result<(), Fail> {
 }
 
 // How often the calls on the place of a key compare: it is put in, changed and taken out.
-fn compared_by_a_place(
-    map: &mut Map<Noted<'_>, u32>,
+fn compared_by_a_place<'a>(
+    map: &mut Map<Noted<'a>, u32>,
     notes: &Notes,
-    key: Noted<'_>,
+    key: Noted<'a>,
 ) -> Result<u64, ArenaError> {
     let entry = map.entry(key)?;
     notes.compared();

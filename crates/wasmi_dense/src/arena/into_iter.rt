@@ -77,7 +77,7 @@ impl<Key: ArenaKey, T: Drop, A: Allocator> DoubleEndedIterator for IntoIter<Key,
     }
 }
 
-/// Each key with its item, taken out of the arena, in order.
+/// Each key with its item, taken out of the arena, in order. No memory is asked for.
 impl<Key: ArenaKey, T: Drop, A: Allocator> IntoIterator for Arena<Key, T, A> {
     type Item = (Key, T);
 
