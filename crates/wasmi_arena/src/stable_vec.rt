@@ -360,10 +360,9 @@ impl<T, A: Allocator> StableVec<T, A> {
     /// Puts an item at the end, and returns its index.
     ///
     /// A bucket is opened only where [`room`](StableVec::room) is 0, over one clone of the allocator; no
-    /// item moves. Fails with
-    /// `NotEnoughKeys` if the vector is full, and then with `OutOfSystemMemory` if a bucket must be
-    /// opened and there is no memory for it. After an error the vector is as before, and the item is
-    /// dropped. Constant time, but for the opening.
+    /// item moves. Fails with `NotEnoughKeys` if the vector is full, and then with `OutOfSystemMemory` if
+    /// a bucket must be opened and there is no memory for it. After an error the vector is as before, and
+    /// the item is dropped. Constant time, but for the opening.
     #[inline]
     pub fn push(&mut self, value: T) -> Result<usize, ArenaError>
     where
