@@ -27,7 +27,7 @@ fn a_refused_bucket_can_be_opened_later(rt: HostRuntime) -> Result<(), Fail> {
         assert_equal!(rt; (vec.len(), vec.open_buckets(), vec.slots()), (33, 2, 96));
     }
     assert_equal!(rt; log.requests(), 3);
-    assert_equal!(rt; (log.given(), log.returned(), log.misplaced()), (2, 2, 0));
+    assert_equal!(rt; log.blocks(), (2, 2, 0));
     Ok(())
 }
 
@@ -52,7 +52,7 @@ fn each_request_refused_in_turn(rt: HostRuntime) -> Result<(), Fail> {
             );
         }
         assert_equal!(rt; log.requests(), 5);
-        assert_equal!(rt; (log.given(), log.returned(), log.misplaced()), (4, 4, 0));
+        assert_equal!(rt; log.blocks(), (4, 4, 0));
     }
     Ok(())
 }
@@ -94,7 +94,7 @@ fn a_run_goes_on_after_a_refusal(rt: HostRuntime) -> Result<(), Fail> {
         );
         assert_equal!(rt; (arena.len(), arena.room()), (32, 0));
     }
-    assert_equal!(rt; (log.given(), log.returned(), log.misplaced()), (1, 1, 0));
+    assert_equal!(rt; log.blocks(), (1, 1, 0));
     Ok(())
 }
 
@@ -110,7 +110,7 @@ fn a_run_without_room_for_its_replies(rt: HostRuntime) -> Result<(), Fail> {
         assert!(rt; refused);
         assert!(rt; arena.is_empty());
     }
-    assert_equal!(rt; (log.given(), log.returned(), log.misplaced()), (1, 1, 0));
+    assert_equal!(rt; log.blocks(), (1, 1, 0));
     Ok(())
 }
 
@@ -142,7 +142,7 @@ fn eleven_buckets_are_opened_in_turn(rt: HostRuntime) -> Result<(), Fail> {
         assert_equal!(rt; (vec.get(39_999), vec.get(40_000)), (Some(&39_999), None));
         assert_equal!(rt; (log.requests(), log.bytes()), (11, 524_032));
     }
-    assert_equal!(rt; (log.given(), log.returned(), log.misplaced()), (11, 11, 0));
+    assert_equal!(rt; log.blocks(), (11, 11, 0));
     Ok(())
 }
 
@@ -176,7 +176,7 @@ fn each_large_bucket_refused_once(rt: HostRuntime) -> Result<(), Fail> {
             assert_equal!(rt; vec.iter().len(), 40_000);
         }
         assert_equal!(rt; log.requests(), 12);
-        assert_equal!(rt; (log.given(), log.returned(), log.misplaced()), (11, 11, 0));
+        assert_equal!(rt; log.blocks(), (11, 11, 0));
     }
     Ok(())
 }

@@ -24,7 +24,7 @@ fn a_vec_goes_on_after_a_refusal(rt: HostRuntime) -> Result<(), Fail> {
     // A second request came, and it alone was refused.
     assert!(rt; log.requests() > 2);
     assert_equal!(rt; log.given().wrapping_add(1), log.requests());
-    assert_equal!(rt; (log.returned(), log.misplaced()), (log.given(), 0));
+    assert_equal!(rt; log.amiss(), 0);
     Ok(())
 }
 
@@ -45,7 +45,7 @@ fn what_was_given_comes_back_after_a_refusal(rt: HostRuntime) {
         assert!(rt; boxes(Observed::new(rt.alloc(), &log), 6).is_err());
         assert_equal!(rt; log.requests(), nth);
         assert_equal!(rt; log.given().wrapping_add(1), nth);
-        assert_equal!(rt; (log.returned(), log.misplaced()), (log.given(), 0));
+        assert_equal!(rt; log.amiss(), 0);
     }
 }
 
@@ -65,7 +65,7 @@ fn all_requests_are_refused_from_one_on(rt: HostRuntime) -> Result<(), Fail> {
         assert_equal!(rt; log.returned(), 0);
     }
     assert_equal!(rt; (log.requests(), log.bytes()), (5, 36));
-    assert_equal!(rt; (log.given(), log.returned(), log.misplaced()), (3, 3, 0));
+    assert_equal!(rt; log.blocks(), (3, 3, 0));
     Ok(())
 }
 
@@ -81,6 +81,6 @@ fn a_block_that_comes_to_another_handle_is_misplaced(rt: HostRuntime) -> Result<
     drop(other);
     assert_equal!(rt; log.misplaced(), 1);
     drop(one);
-    assert_equal!(rt; (log.given(), log.returned(), log.misplaced()), (1, 1, 2));
+    assert_equal!(rt; log.blocks(), (1, 1, 2));
     Ok(())
 }

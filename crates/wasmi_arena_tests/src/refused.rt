@@ -87,7 +87,7 @@ fn a_vector_goes_on_after_each_refusal(rt: HostRuntime) -> Result<(), Fail> {
                 }
                 assert!(rt; vec.iter().copied().eq(0..vec.len() as u64));
             }
-            assert_equal!(rt; (log.returned(), log.misplaced()), (log.given(), 0));
+            assert_equal!(rt; log.amiss(), 0);
         }
     }
     Ok(())
@@ -113,7 +113,7 @@ fn an_arena_goes_on_after_each_refusal(rt: HostRuntime) -> Result<(), Fail> {
                 }
                 assert!(rt; arena.values().copied().take(96).eq(0..96));
             }
-            assert_equal!(rt; (log.returned(), log.misplaced()), (log.given(), 0));
+            assert_equal!(rt; log.amiss(), 0);
         }
     }
     Ok(())
@@ -150,6 +150,6 @@ fn a_handle_that_cannot_be_cloned_opens_no_bucket(rt: HostRuntime) -> Result<(),
         log.refuse_none();
         assert_equal!(rt; (vec.push(32), vec.open_buckets()), (Ok(32), 2));
     }
-    assert_equal!(rt; (log.given(), log.returned(), log.misplaced()), (2, 2, 0));
+    assert_equal!(rt; log.blocks(), (2, 2, 0));
     Ok(())
 }

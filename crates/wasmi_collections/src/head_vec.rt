@@ -117,11 +117,12 @@ impl<T, A: Allocator> HeadVec<T, A> {
         ensures errors { IsOkUnless result ArenaError.OutOfSystemMemory }
         ensures err { OnErr result (self.new ≡ self.old) }
     {
-        if self.head.is_some() {
-            self.rest.reserve(1)?;
-        }
-        if let Some(head) = self.head.replace(value) {
-            self.rest.push_reserved(head);
+        match &mut self.head {
+            Some(head) => {
+                self.rest.reserve(1)?;
+                self.rest.push_reserved(mem::replace(head, value));
+            }
+            None => self.head = Some(value),
         }
         Ok(())
     }

@@ -244,7 +244,7 @@ fn each_request_refused_in_turn(rt: HostRuntime) -> Result<(), Fail> {
             }
             assert!(rt; has_first(&arena, 100), "at {nth}");
         }
-        assert_equal!(rt; (log.returned(), log.misplaced()), (log.given(), 0));
+        assert_equal!(rt; log.amiss(), 0);
     }
     Ok(())
 }
@@ -275,7 +275,7 @@ fn a_value_that_is_there_needs_no_memory(rt: HostRuntime) -> Result<(), Fail> {
             arena.clear();
             assert_equal!(rt; (arena.alloc(5), log.requests()), (Ok(0), asked));
         }
-        assert_equal!(rt; (log.returned(), log.misplaced()), (log.given(), 0));
+        assert_equal!(rt; log.amiss(), 0);
     }
     Ok(())
 }
@@ -343,7 +343,7 @@ fn a_run_goes_on_after_a_refusal(rt: HostRuntime) -> Result<(), Fail> {
             }
             assert_equal!(rt; arena.len(), 20, "at {nth}");
         }
-        assert_equal!(rt; (log.returned(), log.misplaced()), (log.given(), 0));
+        assert_equal!(rt; log.amiss(), 0);
     }
     Ok(())
 }
@@ -374,7 +374,7 @@ fn a_new_value_is_cloned_once(rt: HostRuntime) -> Result<(), Fail> {
         assert_equal!(rt; arena.alloc(String::from_str(heap, "c")?)?, 2);
         assert_equal!(rt; log.requests(), asked.wrapping_add(3));
     }
-    assert_equal!(rt; (log.returned(), log.misplaced()), (log.given(), 0));
+    assert_equal!(rt; log.amiss(), 0);
     Ok(())
 }
 
@@ -391,7 +391,7 @@ fn a_value_whose_clone_is_refused_is_dropped(rt: HostRuntime) -> Result<(), Fail
         arena.clear();
         assert_equal!(rt; arena.alloc(String::from_str(heap, "b")?)?, 0);
     }
-    assert_equal!(rt; (log.returned(), log.misplaced()), (log.given(), 0));
+    assert_equal!(rt; log.amiss(), 0);
     Ok(())
 }
 
@@ -415,7 +415,7 @@ fn a_value_by_reference_is_cloned_twice(rt: HostRuntime) -> Result<(), Fail> {
         assert_equal!(rt; log.requests(), asked.wrapping_add(5));
         assert_equal!(rt; (arena.key_of(&new), arena.len()), (Some(2), 3));
     }
-    assert_equal!(rt; (log.returned(), log.misplaced()), (log.given(), 0));
+    assert_equal!(rt; log.amiss(), 0);
     Ok(())
 }
 
@@ -436,7 +436,7 @@ fn a_text_that_is_there_is_not_copied(rt: HostRuntime) -> Result<(), Fail> {
         assert_equal!(rt; (arena.alloc_str(heap, "c")?, arena.key_of_str("c")), (2, Some(2)));
         assert_equal!(rt; log.requests(), asked.wrapping_add(5));
     }
-    assert_equal!(rt; (log.returned(), log.misplaced()), (log.given(), 0));
+    assert_equal!(rt; log.amiss(), 0);
     Ok(())
 }
 
@@ -482,7 +482,7 @@ fn what_is_refused_is_dropped(rt: HostRuntime) -> Result<(), Fail> {
             let refused = texts.put(9, String::from_str(heap, "z")?).err();
             assert_equal!(rt; refused, Some(ArenaError::KeyOutOfBounds));
         }
-        assert_equal!(rt; (log.returned(), log.misplaced()), (log.given(), 0), "at {nth}");
+        assert_equal!(rt; log.amiss(), 0, "at {nth}");
     }
     Ok(())
 }

@@ -91,6 +91,6 @@ fn runs_drop_each_key_and_value_once(rt: HostRuntime) -> Result<(), Fail> {
             assert_equal!(rt; (ran, keys.dropped()), (nth != 1, 24), "{is_hashed} {nth}");
         }
     }
-    assert_equal!(rt; (log.returned(), log.misplaced()), (log.given(), 0));
+    assert_equal!(rt; log.amiss(), 0);
     Ok(())
 }

@@ -168,7 +168,7 @@ fn each_request_refused_in_turn(rt: HostRuntime) -> Result<(), Fail> {
             }
             assert!(rt; ends_with_numbers(items, 300), "at {nth}");
         }
-        assert_equal!(rt; (log.returned(), log.misplaced()), (log.given(), 0));
+        assert_equal!(rt; log.amiss(), 0);
     }
     // The list grew several times.
     assert!(rt; refusals > 3 && refusals < 19);
@@ -207,7 +207,7 @@ fn a_refused_clone_leaves_its_source(rt: HostRuntime) -> Result<(), Fail> {
         let copy = items.clone()?;
         assert_equal!(rt; (log.requests(), &copy), (asked.wrapping_add(4), &items));
     }
-    assert_equal!(rt; (log.returned(), log.misplaced()), (log.given(), 0));
+    assert_equal!(rt; log.amiss(), 0);
     Ok(())
 }
 
@@ -248,7 +248,7 @@ fn each_item_is_dropped_once(rt: HostRuntime) -> Result<(), Fail> {
         assert!(rt; counts_are(&drops, &[1, 1, 1, 1, 0]));
     }
     assert!(rt; each_is(&drops, 1));
-    assert_equal!(rt; (log.returned(), log.misplaced()), (log.given(), 0));
+    assert_equal!(rt; log.amiss(), 0);
     Ok(())
 }
 

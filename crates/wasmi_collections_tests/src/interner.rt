@@ -261,7 +261,7 @@ fn a_refused_text_changes_nothing(rt: HostRuntime) -> Result<(), Fail> {
             }
             assert!(rt; has_first(&interner, 10), "at {nth}");
         }
-        assert_equal!(rt; (log.returned(), log.misplaced()), (log.given(), 0));
+        assert_equal!(rt; log.amiss(), 0);
     }
     // A block for each text that has a byte, three for the growing texts, three for the first block of the
     // index as it grows, and one for the list of blocks.
@@ -304,7 +304,7 @@ fn a_refused_block_of_the_index_is_opened_later(rt: HostRuntime) -> Result<(), F
                 assert_equal!(rt; found, Some(Sym::from_u32(number)), "at {nth}");
             }
         }
-        assert_equal!(rt; (log.returned(), log.misplaced()), (log.given(), 0));
+        assert_equal!(rt; log.amiss(), 0);
     }
     assert_equal!(rt; refusals, 3);
     Ok(())
@@ -339,7 +339,7 @@ fn a_text_that_is_there_needs_no_memory(rt: HostRuntime) -> Result<(), Fail> {
             assert!(rt; interner.get_or_intern("import").is_err());
             assert!(rt; has_first(&interner, 10), "at {nth}");
         }
-        assert_equal!(rt; (log.returned(), log.misplaced()), (log.given(), 0));
+        assert_equal!(rt; log.amiss(), 0);
     }
     Ok(())
 }
@@ -400,7 +400,7 @@ fn a_refused_clone_leaves_its_source(rt: HostRuntime) -> Result<(), Fail> {
         }
         assert_equal!(rt; &interner.clone()?, &interner);
     }
-    assert_equal!(rt; (log.returned(), log.misplaced()), (log.given(), 0));
+    assert_equal!(rt; log.amiss(), 0);
     Ok(())
 }
 
@@ -463,7 +463,7 @@ fn a_run_goes_on_after_a_refusal(rt: HostRuntime) -> Result<(), Fail> {
             }
             assert_equal!(rt; interner.len(), 10, "at {nth}");
         }
-        assert_equal!(rt; (log.returned(), log.misplaced()), (log.given(), 0));
+        assert_equal!(rt; log.amiss(), 0);
     }
     Ok(())
 }

@@ -253,7 +253,7 @@ fn a_clone_that_differs_changes_nothing(rt: HostRuntime) -> Result<(), Fail> {
         }
         assert_equal!(rt; arena.index().len(), 3);
     }
-    assert_equal!(rt; (log.returned(), log.misplaced()), (log.given(), 0));
+    assert_equal!(rt; log.amiss(), 0);
     Ok(())
 }
 
@@ -313,7 +313,7 @@ fn each_request_refused_in_turn(rt: HostRuntime) -> Result<(), Fail> {
                 let handed = ["a", if refused { "b" } else { text }, "c"];
                 assert!(rt; are_handed(&mut arena, heap, handed)?, "{text} at {nth}");
             }
-            assert_equal!(rt; (log.returned(), log.misplaced()), (log.given(), 0));
+            assert_equal!(rt; log.amiss(), 0);
         }
     }
     Ok(())
@@ -349,7 +349,7 @@ fn a_refused_growth_changes_nothing(rt: HostRuntime) -> Result<(), Fail> {
             }
             assert_equal!(rt; arena.len(), len as usize);
         }
-        assert_equal!(rt; (log.returned(), log.misplaced()), (log.given(), 0));
+        assert_equal!(rt; log.amiss(), 0);
     }
     assert!(rt; refused > 2);
     Ok(())
@@ -391,7 +391,7 @@ fn a_refused_text_is_dropped(rt: HostRuntime) -> Result<(), Fail> {
             }
             log.refuse_none();
         }
-        assert_equal!(rt; (log.returned(), log.misplaced()), (log.given(), 0));
+        assert_equal!(rt; log.amiss(), 0);
     }
     assert!(rt; refused > 1);
     Ok(())

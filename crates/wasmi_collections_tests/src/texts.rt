@@ -84,6 +84,6 @@ fn texts_of_an_iterator_are_interned(rt: HostRuntime) -> Result<(), Fail> {
             assert_equal!(rt; interner.text(Sym::from_u32(1)), "");
         }
     }
-    assert_equal!(rt; (log.returned(), log.misplaced()), (log.given(), 0));
+    assert_equal!(rt; log.amiss(), 0);
     Ok(())
 }

@@ -62,7 +62,7 @@ fn each_growth_refused_in_turn(rt: HostRuntime) -> Result<(), Fail> {
             assert_equal!(rt; arena.len(), 100, "at {nth}");
         }
         assert_equal!(rt; log.requests(), 7);
-        assert_equal!(rt; (log.given(), log.returned(), log.misplaced()), (6, 6, 0));
+        assert_equal!(rt; log.blocks(), (6, 6, 0));
     }
     Ok(())
 }
@@ -95,7 +95,7 @@ fn many_items_come_or_none(rt: HostRuntime) -> Result<(), Fail> {
             assert_equal!(rt; *item, wanted);
         }
     }
-    assert_equal!(rt; (log.returned(), log.misplaced()), (log.given(), 0));
+    assert_equal!(rt; log.amiss(), 0);
     Ok(())
 }
 
@@ -114,8 +114,7 @@ fn a_refused_collection_gives_all_back(rt: HostRuntime) -> Result<(), Fail> {
             "at {nth}"
         );
         assert_equal!(rt;
-            (log.returned(), log.misplaced()),
-            (log.given(), 0),
+            log.amiss(), 0,
             "at {nth}"
         );
     }
@@ -151,7 +150,7 @@ fn a_run_goes_on_after_a_refusal(rt: HostRuntime) -> Result<(), Fail> {
         assert!(rt; run_arena(handle, &mut arena, more).is_err());
         assert_equal!(rt; arena.len(), len);
     }
-    assert_equal!(rt; (log.returned(), log.misplaced()), (log.given(), 0));
+    assert_equal!(rt; log.amiss(), 0);
     Ok(())
 }
 
@@ -183,7 +182,7 @@ fn each_item_is_dropped_once(rt: HostRuntime) -> Result<(), Fail> {
         }
         assert!(rt; counts_are(&drops, &[100, 2, 10, 1]));
     }
-    assert_equal!(rt; (log.returned(), log.misplaced()), (log.given(), 0));
+    assert_equal!(rt; log.amiss(), 0);
     Ok(())
 }
 

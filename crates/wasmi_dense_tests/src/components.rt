@@ -209,7 +209,7 @@ fn each_request_refused_in_turn(rt: HostRuntime) -> Result<(), Fail> {
             }
             assert!(rt; has_the_even_ones(&components, 299), "at {nth}");
         }
-        assert_equal!(rt; (log.returned(), log.misplaced()), (log.given(), 0));
+        assert_equal!(rt; log.amiss(), 0);
     }
     // The vector grew several times.
     assert!(rt; refusals > 3 && refusals < 19);
@@ -238,7 +238,7 @@ fn a_far_number_asks_once(rt: HostRuntime) -> Result<(), Fail> {
         components.clear();
         assert_equal!(rt; log.requests(), 1);
     }
-    assert_equal!(rt; (log.given(), log.returned(), log.misplaced()), (1, 1, 0));
+    assert_equal!(rt; log.blocks(), (1, 1, 0));
     Ok(())
 }
 
@@ -287,7 +287,7 @@ fn each_component_is_dropped_once(rt: HostRuntime) -> Result<(), Fail> {
         assert!(rt; !set_counted(&mut components, 2, &drops, 0)?);
     }
     assert!(rt; counts_are(&drops, &[2, 1, 1, 1, 1, 1]));
-    assert_equal!(rt; (log.returned(), log.misplaced()), (log.given(), 0));
+    assert_equal!(rt; log.amiss(), 0);
     Ok(())
 }
 

@@ -72,7 +72,7 @@ fn an_entity_that_was_refused_is_added_again(rt: HostRuntime) -> Result<(), Fail
             assert_equal!(rt; (has_first(&store, 2), store.names(), store.kinds()), (Ok(true), 2, 2), "{nth}");
             requests = log.requests();
         }
-        assert_equal!(rt; (log.returned(), log.misplaced()), (log.given(), 0));
+        assert_equal!(rt; log.amiss(), 0);
     }
     assert_equal!(rt; refused, requests);
     Ok(())
@@ -107,7 +107,7 @@ fn a_kind_that_was_refused_a_name_is_renamed_again(rt: HostRuntime) -> Result<()
             let bob = key(1)?;
             assert_equal!(rt; (store.get(bob)?.1, store.names(), store.kinds()), ("admin", 2, 2));
         }
-        assert_equal!(rt; (log.returned(), log.misplaced()), (log.given(), 0));
+        assert_equal!(rt; log.amiss(), 0);
     }
     // The two copies of the name, and no other.
     assert_equal!(rt; refused, 2);
@@ -147,7 +147,7 @@ fn what_is_there_needs_no_memory(rt: HostRuntime) -> Result<(), Fail> {
         assert_equal!(rt; goes_on_without_memory(&mut store), Ok(()));
         assert_equal!(rt; log.requests(), asked);
     }
-    assert_equal!(rt; (log.returned(), log.misplaced()), (log.given(), 0));
+    assert_equal!(rt; log.amiss(), 0);
     Ok(())
 }
 
@@ -180,7 +180,7 @@ fn a_script_that_is_refused_memory_fails(rt: HostRuntime) -> Result<(), Fail> {
             }
             requests = log.requests();
         }
-        assert_equal!(rt; (log.returned(), log.misplaced()), (log.given(), 0));
+        assert_equal!(rt; log.amiss(), 0);
     }
     assert_equal!(rt; (refused, requests), (33, 33));
     Ok(())
@@ -208,7 +208,7 @@ fn a_program_that_is_refused_memory_writes_nothing(rt: HostRuntime) -> Result<()
             assert_equal!(rt; output.as_slice(), wanted.as_bytes());
             requests = log.requests();
         }
-        assert_equal!(rt; (log.returned(), log.misplaced()), (log.given(), 0));
+        assert_equal!(rt; log.amiss(), 0);
     }
     // One for the input, and those of `answer`.
     assert_equal!(rt; (refused, requests), (34, 34));

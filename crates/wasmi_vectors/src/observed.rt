@@ -96,6 +96,18 @@ impl Log {
         self.misplaced.get()
     }
 
+    /// The numbers of blocks that were given, that came back, and that were misplaced.
+    pub fn blocks(&self) -> (u64, u64, u64) {
+        (self.given(), self.returned(), self.misplaced())
+    }
+
+    /// The number of blocks that are out or were misplaced: 0 once each came back as it should.
+    pub fn amiss(&self) -> u64 {
+        self.given()
+            .abs_diff(self.returned())
+            .saturating_add(self.misplaced())
+    }
+
     // Writes a request down, and answers whether it is refused.
     pub(crate) fn refuses(&self, size: usize) -> bool {
         add(&self.bytes, size as u64);
