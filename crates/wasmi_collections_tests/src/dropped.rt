@@ -2,13 +2,18 @@
 use std::alloc::AllocError;
 use std::cell::Cell;
 use std::test::Fail;
-use wasmi_collections::run::{MapCommand, SetCommand, run_map, run_set};
+use wasmi_collections::StringInterner;
+use wasmi_collections::arena::{ArenaError, DedupArena};
+use wasmi_collections::run::{
+    DedupCommand, InternCommand, MapCommand, SetCommand, run_dedup, run_interner, run_map, run_set,
+};
 use wasmi_collections::{hashed, ordered};
 use wasmi_vectors::assert_equal;
 use wasmi_vectors::counted::Counted;
 use wasmi_vectors::logged::Logged;
 use wasmi_vectors::noted::{Noted, Notes};
 use wasmi_vectors::observed::Log;
+use wasmi_vectors::tiny::Tiny;
 
 type MapCommands<'a, 'l> = Vec<MapCommand<Noted<'a>, Counted<'a>>, Logged<'l>>;
 
@@ -92,5 +97,53 @@ fn runs_drop_each_key_and_value_once(rt: HostRuntime) -> Result<(), Fail> {
         }
     }
     assert_equal!(rt; log.amiss(), 0);
+    Ok(())
+}
+
+// There is no key for the fifth value. From the first request on, each is refused in turn.
+#[test]
+fn a_list_that_is_refused_gives_its_memory_back(rt: HostRuntime) -> Result<(), Fail> {
+    for nth in 0..8u64 {
+        let log = Log::new();
+        log.refuse_once(nth);
+        let made: Result<DedupArena<Tiny, i32, Logged<'_>>, ArenaError> =
+            DedupArena::from_iter(Logged::new(rt.alloc(), &log), [0, 1, 2, 3, 4]);
+        assert_equal!(rt; (made.is_err(), log.amiss()), (true, 0), "at {nth}");
+    }
+    Ok(())
+}
+
+// Whether all bytes that were asked for since there were `before` of them are those of a list of the
+// replies.
+fn asks_for_these<T: Drop>(
+    log: &Log,
+    before: u64,
+    replies: &Vec<T, Logged<'_>>,
+) -> Result<bool, AllocError> {
+    let asked = log.bytes();
+    let _list: Vec<T, Logged<'_>> = Vec::with_capacity(*replies.allocator(), replies.len())?;
+    Ok(log.bytes().wrapping_sub(asked) == asked.wrapping_sub(before))
+}
+
+#[test]
+fn a_run_asks_for_its_replies_alone(rt: HostRuntime) -> Result<(), Fail> {
+    let log = Log::new();
+    let heap = Logged::new(rt.alloc(), &log);
+    let commands = (0..9).map(|_| InternCommand::Len).collect(heap)?;
+    let before = log.bytes();
+    let replies = run_interner(heap, &mut StringInterner::new(rt.alloc()), commands)?;
+    assert!(rt; asks_for_these(&log, before, &replies)?);
+    let commands = (0..9).map(|_| MapCommand::<u32, i64>::Len).collect(heap)?;
+    let before = log.bytes();
+    let replies = run_map(heap, &mut ordered::Map::new(rt.alloc()), commands)?;
+    assert!(rt; asks_for_these(&log, before, &replies)?);
+    let commands = (0..9).map(|_| SetCommand::<u32>::Len).collect(heap)?;
+    let before = log.bytes();
+    let replies = run_set(heap, &mut ordered::Set::new(rt.alloc()), commands)?;
+    assert!(rt; asks_for_these(&log, before, &replies)?);
+    let commands = (0..9).map(|_| DedupCommand::<Tiny, i32>::Clear).collect(heap)?;
+    let before = log.bytes();
+    let replies = run_dedup(heap, &mut DedupArena::new(rt.alloc()), commands)?;
+    assert!(rt; asks_for_these(&log, before, &replies)?);
     Ok(())
 }
