@@ -2,12 +2,11 @@
 use std::alloc::AllocError;
 use std::cell::Cell;
 use std::test::Fail;
-use wasmi_collections::StringInterner;
 use wasmi_collections::arena::{ArenaError, DedupArena};
 use wasmi_collections::run::{
     DedupCommand, InternCommand, MapCommand, SetCommand, run_dedup, run_interner, run_map, run_set,
 };
-use wasmi_collections::{hashed, ordered};
+use wasmi_collections::{StringInterner, hashed, ordered};
 use wasmi_vectors::assert_equal;
 use wasmi_vectors::counted::Counted;
 use wasmi_vectors::logged::Logged;
@@ -106,8 +105,10 @@ fn a_list_that_is_refused_gives_its_memory_back(rt: HostRuntime) -> Result<(), F
     for nth in 0..8u64 {
         let log = Log::new();
         log.refuse_once(nth);
-        let made: Result<DedupArena<Tiny, i32, Logged<'_>>, ArenaError> =
-            DedupArena::from_iter(Logged::new(rt.alloc(), &log), [0, 1, 2, 3, 4]);
+        let made: Result<DedupArena<Tiny, i32, Logged<'_>>, ArenaError> = DedupArena::from_iter(
+            Logged::new(rt.alloc(), &log),
+            [0, 1, 2, 3, 4],
+        );
         assert_equal!(rt; (made.is_err(), log.amiss()), (true, 0), "at {nth}");
     }
     Ok(())
@@ -141,7 +142,9 @@ fn a_run_asks_for_its_replies_alone(rt: HostRuntime) -> Result<(), Fail> {
     let before = log.bytes();
     let replies = run_set(heap, &mut ordered::Set::new(rt.alloc()), commands)?;
     assert!(rt; asks_for_these(&log, before, &replies)?);
-    let commands = (0..9).map(|_| DedupCommand::<Tiny, i32>::Clear).collect(heap)?;
+    let commands = (0..9)
+        .map(|_| DedupCommand::<Tiny, i32>::Clear)
+        .collect(heap)?;
     let before = log.bytes();
     let replies = run_dedup(heap, &mut DedupArena::new(rt.alloc()), commands)?;
     assert!(rt; asks_for_these(&log, before, &replies)?);

@@ -106,8 +106,9 @@ fn sets_reply_as_the_table_says(rt: HostRuntime) -> Result<(), Fail> {
     Ok(())
 }
 
-// Inserts the keys 0 to 19 by one run, whose nth request for memory is refused, and then by calls. How many
-// commands were refused, or `None` if the map doesn't have the keys of the others after it, or all at last.
+// Inserts the keys 0 to 19 by one run of both commands for it in turn, whose nth request for memory is
+// refused, and then by calls. How many commands were refused, or `None` if the map doesn't have the keys
+// of the others after it, or all at last.
 fn refused_in_map<M: AnyMap<u32, u32>>(
     heap: Logged<'_>,
     log: &Log,
@@ -115,14 +116,17 @@ fn refused_in_map<M: AnyMap<u32, u32>>(
     nth: u64,
 ) -> Result<Option<usize>, ArenaError> {
     let commands = (0..20u32)
-        .map(|key| MapCommand::Insert(key, key))
+        .map(|key| match key % 2 {
+            0 => MapCommand::Insert(key, key),
+            _ => MapCommand::OrInsert(key, key),
+        })
         .collect(heap)?;
     log.refuse_once(nth);
     let replies = run_map(heap, map, commands)?;
     let mut refused = 0usize;
     for (key, reply) in (0..20u32).zip(replies.iter()) {
         let is_in = match reply {
-            MapReply::Old(None) => true,
+            MapReply::Old(None) | MapReply::Has(false) => true,
             MapReply::Refused(ArenaError::OutOfSystemMemory) => false,
             _ => return Ok(None),
         };
