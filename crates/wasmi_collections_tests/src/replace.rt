@@ -319,6 +319,33 @@ fn each_request_refused_in_turn(rt: HostRuntime) -> Result<(), Fail> {
     Ok(())
 }
 
+// The first request is for the replies, the second for the clone of the first value.
+#[test]
+fn a_run_goes_on_after_a_refusal(rt: HostRuntime) -> Result<(), Fail> {
+    let log = Log::new();
+    {
+        let heap = Logged::new(rt.alloc(), &log);
+        let mut arena = three_texts(heap, false)?;
+        let commands = vec![in heap;
+            DedupCommand::Replace(1, String::from_str(heap, "d")?),
+            DedupCommand::Replace(2, String::from_str(heap, "e")?),
+        ]?;
+        log.refuse_once(2);
+        let replies = run_dedup(heap, &mut arena, commands)?;
+        assert_equal!(rt;
+            replies.as_slice(),
+            [
+                DedupReply::Refused(ArenaError::OutOfSystemMemory),
+                DedupReply::Old(String::from_str(heap, "c")?)
+            ]
+            .as_slice()
+        );
+        assert!(rt; are_handed(&mut arena, heap, ["a", "b", "e"])?);
+    }
+    assert_equal!(rt; log.amiss(), 0);
+    Ok(())
+}
+
 // The numbers ask for nothing, so that what is refused is a block of the index, which is asked for only where
 // it is full.
 #[test]
