@@ -13,9 +13,7 @@ fn each_item_is_written_in_place(rt: HostRuntime) -> Result<(), Fail> {
         for item in &mut vec {
             *item = item.wrapping_mul(2);
         }
-        let doubles: Vec<u32> = (0..len).map(|n| n.wrapping_mul(2)).collect(rt.alloc())?;
-        let forward: Vec<u32> = vec.iter().copied().collect(rt.alloc())?;
-        assert_equal!(rt; forward, doubles, "at {len}");
+        assert!(rt; vec.iter().copied().eq((0..len).map(|n| n.wrapping_mul(2))));
         assert_equal!(rt;
             (vec.open_buckets(), vec.slots()),
             (open_buckets, slots),
@@ -25,11 +23,11 @@ fn each_item_is_written_in_place(rt: HostRuntime) -> Result<(), Fail> {
         for item in vec.iter_mut().rev() {
             *item = item.wrapping_add(1);
         }
-        let odd: Vec<u32> = (0..len)
-            .map(|n| n.wrapping_mul(2).wrapping_add(1))
-            .collect(rt.alloc())?;
-        let forward: Vec<u32> = vec.iter().copied().collect(rt.alloc())?;
-        assert_equal!(rt; forward, odd, "at {len}");
+        assert!(rt;
+            vec.iter()
+                .copied()
+                .eq((0..len).map(|n| n.wrapping_mul(2).wrapping_add(1)))
+        );
     }
     Ok(())
 }
@@ -77,9 +75,7 @@ fn both_ends_meet(rt: HostRuntime) -> Result<(), Fail> {
                 }
             }
         }
-        assert!(rt; items.next().is_none());
-        assert!(rt; items.next_back().is_none());
-        assert_equal!(rt; items.len(), 0);
+        assert_equal!(rt; (items.next(), items.next_back(), items.len()), (None, None, 0));
     }
     assert_equal!(rt; taken.get(), 225);
     for (index, item) in vec.iter().enumerate() {
@@ -125,10 +121,8 @@ fn slices_are_written_from_both_ends(rt: HostRuntime) -> Result<(), Fail> {
 
 #[test]
 fn each_item_of_an_arena_is_written(rt: HostRuntime) -> Result<(), Fail> {
-    let mut arena: StableArena<u32, u32> = StableArena::new(rt.alloc());
-    for item in 0..100u32 {
-        arena.alloc(item.wrapping_mul(10))?;
-    }
+    let tens = (0..100u32).map(|item| item.wrapping_mul(10));
+    let mut arena: StableArena<u32, u32> = StableArena::from_iter(rt.alloc(), tens)?;
     for (key, item) in &mut arena {
         *item = item.wrapping_add(key);
     }
@@ -152,10 +146,7 @@ fn each_item_of_an_arena_is_written(rt: HostRuntime) -> Result<(), Fail> {
 
 #[test]
 fn an_iterator_of_an_arena_that_is_left_early(rt: HostRuntime) -> Result<(), Fail> {
-    let mut arena: StableArena<u32, u32> = StableArena::new(rt.alloc());
-    for item in 0..300 {
-        arena.alloc(item)?;
-    }
+    let mut arena: StableArena<u32, u32> = StableArena::from_iter(rt.alloc(), 0..300)?;
     {
         let mut entries = arena.iter_mut();
         let (_, first) = entries.next().ok_or("first")?;
@@ -177,10 +168,7 @@ fn an_iterator_of_an_arena_that_is_left_early(rt: HostRuntime) -> Result<(), Fai
 
 #[test]
 fn items_without_size_are_written(rt: HostRuntime) -> Result<(), Fail> {
-    let mut vec = StableVec::new(rt.alloc());
-    for _ in 0..100 {
-        vec.push(())?;
-    }
+    let mut vec = StableVec::from_iter(rt.alloc(), (0..100).map(|_| ()))?;
     let mut count = 0;
     for item in vec.iter_mut() {
         *item = ();

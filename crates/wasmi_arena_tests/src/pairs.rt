@@ -46,10 +46,7 @@ fn two_items_are_written_and_no_other(rt: HostRuntime) -> Result<(), Fail> {
 fn two_items_of_an_arena_are_written_and_no_other(rt: HostRuntime) -> Result<(), Fail> {
     for (low, high) in PAIRS {
         for (first, second) in [(low, high), (high, low)] {
-            let mut arena: StableArena<u32, u32> = StableArena::new(rt.alloc());
-            for item in 0..300 {
-                arena.alloc(item)?;
-            }
+            let mut arena: StableArena<u32, u32> = StableArena::from_iter(rt.alloc(), 0..300)?;
             let (one, other) = arena.get_disjoint_mut([first, second])?;
             assert_equal!(rt; (*one, *other), (first, second));
             *one = 1000;
@@ -85,10 +82,7 @@ fn errors(
 #[test]
 fn equal_indices_are_refused_before_those_out_of_bounds(rt: HostRuntime) -> Result<(), Fail> {
     let mut vec = counted(rt.alloc(), 3)?;
-    let mut arena = StableArena::new(rt.alloc());
-    for item in 0..3 {
-        arena.alloc(item)?;
-    }
+    let mut arena = StableArena::from_iter(rt.alloc(), 0..3)?;
     for (indices, error) in [
         ([1, 1], Some(ArenaError::AliasingPairAccess)),
         ([3, 3], Some(ArenaError::AliasingPairAccess)),
@@ -110,10 +104,7 @@ fn equal_indices_are_refused_before_those_out_of_bounds(rt: HostRuntime) -> Resu
 #[test]
 fn a_refused_pair_changes_no_item(rt: HostRuntime) -> Result<(), Fail> {
     let mut vec = counted(rt.alloc(), 300)?;
-    let mut arena = StableArena::new(rt.alloc());
-    for item in 0..300 {
-        arena.alloc(item)?;
-    }
+    let mut arena = StableArena::from_iter(rt.alloc(), 0..300)?;
     for index in [0, 1, 31, 32, 33, 95, 96, 223, 224, 299] {
         for (indices, error) in [
             ([index, index], ArenaError::AliasingPairAccess),
@@ -134,10 +125,7 @@ fn a_refused_pair_changes_no_item(rt: HostRuntime) -> Result<(), Fail> {
 
 #[test]
 fn two_items_without_size(rt: HostRuntime) -> Result<(), Fail> {
-    let mut vec: StableVec<()> = StableVec::new(rt.alloc());
-    for _ in 0..40 {
-        vec.push(())?;
-    }
+    let mut vec = StableVec::from_iter(rt.alloc(), (0..40).map(|_| ()))?;
     assert_equal!(rt; vec.get_disjoint_mut([39, 0])?, (&mut (), &mut ()));
     assert_equal!(rt;
         vec.get_disjoint_mut([40, 0]),
@@ -174,8 +162,6 @@ fn a_refused_exchange_changes_nothing(rt: HostRuntime) -> Result<(), Fail> {
         assert_equal!(rt; vec.swap(index, 101), Err(ArenaError::KeyOutOfBounds));
         assert_equal!(rt; vec.swap(101, index), Err(ArenaError::KeyOutOfBounds));
     }
-    for (index, item) in (0..100).zip(vec.iter()) {
-        assert_equal!(rt; &index, item);
-    }
+    assert!(rt; vec.iter().copied().eq(0..100));
     Ok(())
 }

@@ -10,11 +10,7 @@ use wasmi_vectors::assert_equal;
 
 /// A vector of 0, 1 and so on.
 pub fn counted(alloc: Global, len: u32) -> Result<StableVec<u32>, ArenaError> {
-    let mut vec = StableVec::new(alloc);
-    for i in 0..len {
-        vec.push(i)?;
-    }
-    Ok(vec)
+    StableVec::from_iter(alloc, 0..len)
 }
 
 // The place of an index, by a loop over the starts of the buckets.
@@ -71,9 +67,8 @@ fn buckets_are_the_fewest(rt: HostRuntime) -> Result<(), Fail> {
         (97, 3, 224),
     ] {
         let vec = counted(rt.alloc(), len)?;
-        assert_equal!(rt; vec.open_buckets(), open, "at {len}");
-        assert_equal!(rt; vec.slots(), slots, "at {len}");
-        assert_equal!(rt; vec.room() + vec.len(), slots, "at {len}");
+        let taken = vec.room() + vec.len();
+        assert_equal!(rt; (vec.open_buckets(), vec.slots(), taken), (open, slots, slots), "at {len}");
     }
     Ok(())
 }
@@ -85,12 +80,9 @@ fn two_hundred_pushes(rt: HostRuntime) -> Result<(), Fail> {
     for i in 0..200usize {
         assert_equal!(rt; vec.push(i)?, i);
     }
-    assert_equal!(rt; vec.len(), 200);
-    assert!(rt; !vec.is_empty());
-    for i in 0..200usize {
-        assert_equal!(rt; vec.get(i), Some(&i));
-    }
-    assert_equal!(rt; vec.get(200), None);
+    assert_equal!(rt; (vec.len(), vec.is_empty()), (200, false));
+    assert_equal!(rt; (vec.get(0), vec.get(199), vec.get(200)), (Some(&0), Some(&199), None));
+    assert!(rt; vec.iter().copied().eq(0..200));
     Ok(())
 }
 
@@ -99,22 +91,18 @@ fn two_hundred_items_in_three_buckets(rt: HostRuntime) -> Result<(), Fail> {
     let vec = counted(rt.alloc(), 200)?;
     for (bucket, len, capacity) in [(0, 32, 32), (1, 64, 64), (2, 104, 128)] {
         let open = vec.bucket(bucket).ok_or("not open")?;
-        assert_equal!(rt; open.slice().len(), len);
-        assert_equal!(rt; open.capacity(), capacity);
+        assert_equal!(rt; (open.slice().len(), open.capacity()), (len, capacity));
     }
-    assert!(rt; vec.bucket(3).is_none());
-    assert!(rt; vec.bucket(27).is_none());
-    assert_equal!(rt; vec.room(), 24);
+    let (fourth, none) = (vec.bucket(3).is_none(), vec.bucket(27).is_none());
+    assert_equal!(rt; (fourth, none, vec.room()), (true, true, 24));
     Ok(())
 }
 
 #[test]
 fn an_empty_vector_has_no_item(rt: HostRuntime) -> Result<(), Fail> {
     let vec: StableVec<u32> = StableVec::new(rt.alloc());
-    assert_equal!(rt; (vec.len(), vec.iter().len()), (0, 0));
-    assert!(rt; vec.get(0).is_none());
-    assert!(rt; vec.iter().next().is_none());
-    assert!(rt; vec.iter().next_back().is_none());
+    assert_equal!(rt; (vec.len(), vec.iter().len(), vec.get(0)), (0, 0, None));
+    assert_equal!(rt; (vec.iter().next(), vec.iter().next_back()), (None, None));
     Ok(())
 }
 
@@ -134,8 +122,7 @@ fn alternating_ends_give_each_item_once(rt: HostRuntime) -> Result<(), Fail> {
     let mut items = vec.iter();
     for front in 0..50u32 {
         assert_equal!(rt; items.len(), 100 - 2 * front as usize);
-        assert_equal!(rt; items.next(), Some(&front));
-        assert_equal!(rt; items.next_back(), Some(&(99 - front)));
+        assert_equal!(rt; (items.next(), items.next_back()), (Some(&front), Some(&(99 - front))));
     }
     assert_equal!(rt; (items.len(), items.next(), items.next_back()), (0, None, None));
     Ok(())
@@ -145,9 +132,7 @@ fn alternating_ends_give_each_item_once(rt: HostRuntime) -> Result<(), Fail> {
 fn a_walk_knows_its_length(rt: HostRuntime) -> Result<(), Fail> {
     let vec = counted(rt.alloc(), 200)?;
     let mut items = vec.iter();
-    assert_equal!(rt; items.len(), 200);
-    assert_equal!(rt; items.next(), Some(&0));
-    assert_equal!(rt; items.len(), 199);
+    assert_equal!(rt; (items.len(), items.next(), items.len()), (200, Some(&0), 199));
     assert_equal!(rt; items.filter(|i| **i % 2 == 1).count(), 100);
     Ok(())
 }
@@ -160,9 +145,11 @@ fn writes_through_references(rt: HostRuntime) -> Result<(), Fail> {
             *item = item.wrapping_mul(2);
         }
     }
-    for i in 0..200u32 {
-        assert_equal!(rt; vec.get(i as usize), Some(&(2 * i)));
-    }
+    assert!(rt;
+        vec.iter()
+            .copied()
+            .eq((0..200u32).map(|i| i.wrapping_mul(2)))
+    );
     assert!(rt; vec.get_mut(200).is_none());
     assert_equal!(rt; (vec.len(), vec.open_buckets(), vec.slots()), (200, 3, 224));
     Ok(())
@@ -173,25 +160,18 @@ fn walks_from_both_ends(rt: HostRuntime) -> Result<(), Fail> {
     let vec = counted(rt.alloc(), 200)?;
     let mut items = vec.iter();
     for (front, back) in [(0, 199), (1, 198)] {
-        assert_equal!(rt; items.next(), Some(&front));
-        assert_equal!(rt; items.next_back(), Some(&back));
+        assert_equal!(rt; (items.next(), items.next_back()), (Some(&front), Some(&back)));
     }
-    assert_equal!(rt; items.len(), 196);
-    assert_equal!(rt; items.next_back(), Some(&197));
-    let mut backward = vec.iter().rev();
-    for wanted in 0..200u32 {
-        assert_equal!(rt; backward.next(), Some(&(199 - wanted)));
-    }
-    assert_equal!(rt; backward.next(), None);
+    assert_equal!(rt; (items.len(), items.next_back()), (196, Some(&197)));
+    assert!(rt; vec.iter().rev().copied().eq((0..200).rev()));
     // The front has left the first bucket when the back comes from the third.
     let three = counted(rt.alloc(), 97)?;
     let mut ends = three.iter();
     for wanted in 0..32u32 {
         assert_equal!(rt; ends.next(), Some(&wanted));
     }
-    assert_equal!(rt; ends.next_back(), Some(&96));
-    assert_equal!(rt; (ends.next(), ends.next_back()), (Some(&32), Some(&95)));
-    assert_equal!(rt; ends.len(), 62);
+    assert_equal!(rt; (ends.next_back(), ends.next()), (Some(&96), Some(&32)));
+    assert_equal!(rt; (ends.next_back(), ends.len()), (Some(&95), 62));
     // One end comes to the last item of the other's bucket.
     let few = counted(rt.alloc(), 3)?;
     let mut ends = few.iter();
@@ -202,10 +182,7 @@ fn walks_from_both_ends(rt: HostRuntime) -> Result<(), Fail> {
 
 #[test]
 fn items_without_size(rt: HostRuntime) -> Result<(), Fail> {
-    let mut vec = StableVec::new(rt.alloc());
-    for _ in 0..40 {
-        vec.push(())?;
-    }
+    let vec = StableVec::from_iter(rt.alloc(), (0..40).map(|_| ()))?;
     assert_equal!(rt; (vec.len(), vec.open_buckets(), vec.slots()), (40, 2, 96));
     Ok(())
 }
@@ -234,8 +211,7 @@ fn each_item_is_dropped_once(rt: HostRuntime) -> Result<(), Fail> {
             number,
         })?;
     }
-    assert_equal!(rt; vec.open_buckets(), 3);
-    assert_equal!(rt; drops.get(), (0, 0));
+    assert_equal!(rt; (vec.open_buckets(), drops.get()), (3, (0, 0)));
     drop(vec);
     assert_equal!(rt; drops.get(), (100, 4950));
     Ok(())
@@ -280,8 +256,7 @@ fn refused_pushes_change_nothing(rt: HostRuntime) -> Result<(), Fail> {
     for i in 0..100usize {
         let before = (vec.len(), vec.open_buckets(), vec.slots());
         if let Err(error) = vec.push(i) {
-            assert_equal!(rt; error, ArenaError::OutOfSystemMemory);
-            assert_equal!(rt; vec.room(), 0);
+            assert_equal!(rt; (error, vec.room()), (ArenaError::OutOfSystemMemory, 0));
             assert_equal!(rt; (vec.len(), vec.open_buckets(), vec.slots()), before);
             assert_equal!(rt; vec.push(i)?, before.0);
         }
