@@ -68,9 +68,7 @@ fn items_are_exchanged(rt: HostRuntime) -> Result<(), Fail> {
         assert_equal!(rt; arena.put(key, 1000)?, key);
         *arena.get_mut(key)? = 99 - key;
     }
-    for key in 0..100 {
-        assert_equal!(rt; arena.get(key), Ok(&(99 - key)));
-    }
+    assert!(rt; arena.values().copied().eq((0..100).rev()));
     assert_equal!(rt; (arena.len(), arena.items().open_buckets()), (100, 3));
     Ok(())
 }
@@ -92,15 +90,10 @@ fn walks_give_what_was_written(rt: HostRuntime) -> Result<(), Fail> {
 
 #[test]
 fn a_walk_goes_from_both_ends(rt: HostRuntime) -> Result<(), Fail> {
-    let mut arena: StableArena<u32, u8> = StableArena::new(rt.alloc());
-    for item in 0..100 {
-        arena.alloc(item)?;
-    }
+    let arena: StableArena<u32, u8> = StableArena::from_iter(rt.alloc(), 0..100)?;
     let mut entries = arena.iter();
-    assert_equal!(rt; entries.next_back(), Some((99, &99)));
-    assert_equal!(rt; entries.next(), Some((0, &0)));
-    assert_equal!(rt; entries.next_back(), Some((98, &98)));
-    assert_equal!(rt; entries.len(), 97);
+    assert_equal!(rt; (entries.next_back(), entries.next()), (Some((99, &99)), Some((0, &0))));
+    assert_equal!(rt; (entries.next_back(), entries.len()), (Some((98, &98)), 97));
     let five: StableArena<u32, u32> = StableArena::from_iter(rt.alloc(), 0..5)?;
     let mut entries = five.iter();
     assert_equal!(rt; entries.len(), 5);
@@ -114,9 +107,9 @@ fn a_walk_goes_from_both_ends(rt: HostRuntime) -> Result<(), Fail> {
 #[test]
 fn no_item_at_the_next_key(rt: HostRuntime) -> Result<(), Fail> {
     let mut arena: StableArena<u32, u32> = StableArena::from_iter(rt.alloc(), 0..100)?;
-    assert_equal!(rt; arena.put(100, 7), Err(ArenaError::KeyOutOfBounds));
-    assert!(rt; arena.get_mut(100).is_err());
-    assert!(rt; arena.has(99) && !arena.has(100));
+    let refused = (arena.put(100, 7).err(), arena.get_mut(100).err());
+    let error = Some(ArenaError::KeyOutOfBounds);
+    assert_equal!(rt; (refused, arena.has(99), arena.has(100)), ((error, error), true, false));
     Ok(())
 }
 

@@ -10,10 +10,8 @@ use wasmi_vectors::assert_equal;
 
 // A vector of 0, 1 and so on, with another item at one index.
 fn exchanged(alloc: Global, len: u32, index: u32, item: u32) -> Result<StableVec<u32>, ArenaError> {
-    let mut vec = StableVec::new(alloc);
-    for i in 0..len {
-        vec.push(if i == index { item } else { i })?;
-    }
+    let mut vec = counted(alloc, len)?;
+    vec.put(index as usize, item)?;
     Ok(vec)
 }
 
@@ -23,14 +21,20 @@ fn hash_of(vec: &StableVec<u32>) -> u64 {
     hasher.finish()
 }
 
+// Whether one comes before the other by its order, and differs from it by `==` and its hash.
+fn is_less(vec: &StableVec<u32>, other: &StableVec<u32>) -> bool {
+    let orders = (vec.cmp(other), other.cmp(vec));
+    let equal = (vec == other, other == vec, hash_of(vec) == hash_of(other));
+    (orders, equal) == ((Ordering::Less, Ordering::Greater), (false, false, false))
+}
+
 #[test]
 fn equal_lists_are_equal(rt: HostRuntime) -> Result<(), Fail> {
     for len in [0, 1, 31, 32, 33, 95, 96, 97, 100, 300] {
         let (vec, same) = (counted(rt.alloc(), len)?, counted(rt.alloc(), len)?);
-        assert_equal!(rt; &vec, &same);
-        assert_equal!(rt; vec.cmp(&same), Ordering::Equal);
-        assert_equal!(rt; vec.partial_cmp(&same), Some(Ordering::Equal));
-        assert_equal!(rt; hash_of(&vec), hash_of(&same), "at {len}");
+        assert_equal!(rt; (&vec, hash_of(&vec)), (&same, hash_of(&same)));
+        let orders = (vec.cmp(&same), vec.partial_cmp(&same));
+        assert_equal!(rt; orders, (Ordering::Equal, Some(Ordering::Equal)), "at {len}");
     }
     Ok(())
 }
@@ -40,11 +44,8 @@ fn one_item_more_is_greater(rt: HostRuntime) -> Result<(), Fail> {
     for len in [0, 1, 31, 32, 33, 95, 96, 97, 100, 300] {
         let vec = counted(rt.alloc(), len)?;
         let longer = counted(rt.alloc(), len + 1)?;
-        assert!(rt; vec != longer && longer != vec, "at {len}");
+        assert!(rt; is_less(&vec, &longer), "at {len}");
         assert!(rt; vec < longer && longer > vec, "at {len}");
-        assert_equal!(rt; vec.cmp(&longer), Ordering::Less);
-        assert_equal!(rt; longer.cmp(&vec), Ordering::Greater);
-        assert!(rt; hash_of(&vec) != hash_of(&longer), "at {len}");
     }
     Ok(())
 }
@@ -54,10 +55,7 @@ fn lists_that_differ_at_one_index(rt: HostRuntime) -> Result<(), Fail> {
     let vec = counted(rt.alloc(), 300)?;
     for index in [0, 31, 32, 95, 96, 223, 224, 299] {
         let other = exchanged(rt.alloc(), 300, index, 1000)?;
-        assert!(rt; vec != other && other != vec, "at {index}");
-        assert_equal!(rt; vec.cmp(&other), Ordering::Less, "at {index}");
-        assert_equal!(rt; other.cmp(&vec), Ordering::Greater, "at {index}");
-        assert!(rt; hash_of(&vec) != hash_of(&other), "at {index}");
+        assert!(rt; is_less(&vec, &other), "at {index}");
     }
     Ok(())
 }
@@ -85,9 +83,9 @@ fn ord_is_lexicographic(rt: HostRuntime) -> Result<(), Fail> {
     ];
     for (i, left) in ascending.iter().enumerate() {
         for (k, right) in ascending.iter().enumerate() {
-            assert_equal!(rt; left.cmp(right), i.cmp(&k));
-            assert_equal!(rt; left.partial_cmp(right), Some(i.cmp(&k)));
-            assert_equal!(rt; left == right, i == k);
+            let order = i.cmp(&k);
+            let found = (left.cmp(right), left.partial_cmp(right), left == right);
+            assert_equal!(rt; found, (order, Some(order), i == k));
         }
     }
     Ok(())

@@ -19,10 +19,9 @@ fn a_pop_at_the_edge_closes_a_bucket(rt: HostRuntime) -> Result<(), Fail> {
             vec.push(Counted::new(count))?;
         }
         for (len, open, slots, returned) in [(33, 2, 96, 0), (32, 1, 32, 1), (31, 1, 32, 1)] {
-            let item = vec.pop();
-            assert!(rt; item.is_some());
-            assert_equal!(rt; (vec.len(), vec.open_buckets(), vec.slots()), (len, open, slots));
-            assert_equal!(rt; log.returned(), returned, "at {len}");
+            assert!(rt; vec.pop().is_some());
+            let found = (vec.len(), vec.open_buckets(), vec.slots(), log.returned());
+            assert_equal!(rt; found, (len, open, slots, returned));
         }
         assert_equal!(rt; drops.iter().filter(|count| count.get() == 1).count(), 3);
         for _ in 0..31 {
@@ -106,11 +105,9 @@ fn an_item_that_is_put_past_the_end_is_dropped(rt: HostRuntime) -> Result<(), Fa
 
 #[test]
 fn keys_and_values_of_an_arena(rt: HostRuntime) -> Result<(), Fail> {
-    let mut arena: StableArena<NonZero<u32>, u32> = StableArena::new(rt.alloc());
-    assert_equal!(rt; (arena.keys().len(), arena.last()), (0, None));
-    for i in 0..40 {
-        arena.alloc(i)?;
-    }
+    let none: StableArena<NonZero<u32>, u32> = StableArena::new(rt.alloc());
+    assert_equal!(rt; (none.keys().len(), none.last()), (0, None));
+    let mut arena: StableArena<NonZero<u32>, u32> = StableArena::from_iter(rt.alloc(), 0..40)?;
     let mut keys = arena.keys();
     assert_equal!(rt; keys.next().map(|key| key.get()), Some(1));
     assert_equal!(rt; keys.next_back().map(|key| key.get()), Some(40));

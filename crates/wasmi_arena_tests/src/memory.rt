@@ -14,20 +14,16 @@ use wasmi_vectors::tiny::Tiny;
 fn a_refused_bucket_can_be_opened_later(rt: HostRuntime) -> Result<(), Fail> {
     let log = Log::new();
     {
-        let mut vec = StableVec::new(Observed::new(rt.alloc(), &log));
-        for i in 0..31u64 {
-            vec.push(i)?;
-        }
+        let mut vec = StableVec::from_iter(Observed::new(rt.alloc(), &log), 0..31u64)?;
         log.refuse_from(1);
-        assert_equal!(rt; vec.push(31)?, 31);
-        assert_equal!(rt; vec.push(32), Err(ArenaError::OutOfSystemMemory));
+        let refused = Err(ArenaError::OutOfSystemMemory);
+        assert_equal!(rt; (vec.push(31), vec.push(32)), (Ok(31), refused));
         assert_equal!(rt; (vec.len(), vec.open_buckets(), vec.slots()), (32, 1, 32));
         log.refuse_none();
         assert_equal!(rt; vec.push(32)?, 32);
         assert_equal!(rt; (vec.len(), vec.open_buckets(), vec.slots()), (33, 2, 96));
     }
-    assert_equal!(rt; log.requests(), 3);
-    assert_equal!(rt; log.blocks(), (2, 2, 0));
+    assert_equal!(rt; (log.requests(), log.blocks()), (3, (2, 2, 0)));
     Ok(())
 }
 
@@ -51,8 +47,7 @@ fn each_request_refused_in_turn(rt: HostRuntime) -> Result<(), Fail> {
                 (300, 4, Some(&299))
             );
         }
-        assert_equal!(rt; log.requests(), 5);
-        assert_equal!(rt; log.blocks(), (4, 4, 0));
+        assert_equal!(rt; (log.requests(), log.blocks()), (5, (4, 4, 0)));
     }
     Ok(())
 }
@@ -61,10 +56,7 @@ fn each_request_refused_in_turn(rt: HostRuntime) -> Result<(), Fail> {
 fn items_without_size_need_no_memory(rt: HostRuntime) -> Result<(), Fail> {
     let log = Log::new();
     log.refuse_from(1);
-    let mut vec = StableVec::new(Observed::new(rt.alloc(), &log));
-    for _ in 0..40 {
-        vec.push(())?;
-    }
+    let vec = StableVec::from_iter(Observed::new(rt.alloc(), &log), (0..40).map(|_| ()))?;
     assert_equal!(rt; (vec.len(), vec.open_buckets(), vec.slots()), (40, 2, 96));
     assert_equal!(rt; log.requests(), 0);
     Ok(())
@@ -74,14 +66,8 @@ fn items_without_size_need_no_memory(rt: HostRuntime) -> Result<(), Fail> {
 fn a_run_goes_on_after_a_refusal(rt: HostRuntime) -> Result<(), Fail> {
     let log = Log::new();
     {
-        let mut arena: StableArena<usize, u8, Observed<'_>> = StableArena::new(Observed::new(
-            rt.alloc(),
-            &log,
-        ));
-        for i in 0..32u8 {
-            arena.alloc(i)?;
-        }
-        let commands = vec![in rt.alloc(); ArenaCommand::Alloc(1), ArenaCommand::Has(0)]?;
+        let mut arena = StableArena::from_iter(Observed::new(rt.alloc(), &log), 0..32u8)?;
+        let commands = vec![in rt.alloc(); ArenaCommand::Alloc(1), ArenaCommand::Has(0usize)]?;
         log.refuse_from(1);
         let replies = run_arena(rt.alloc(), &mut arena, commands)?;
         assert_equal!(rt;
@@ -107,8 +93,7 @@ fn a_run_without_room_for_its_replies(rt: HostRuntime) -> Result<(), Fail> {
         let commands = vec![in handle.clone()?; ArenaCommand::Alloc(1), ArenaCommand::Has(0)]?;
         log.refuse_from(1);
         let refused = run_arena(handle, &mut arena, commands).is_err();
-        assert!(rt; refused);
-        assert!(rt; arena.is_empty());
+        assert_equal!(rt; (refused, arena.is_empty()), (true, true));
     }
     assert_equal!(rt; log.blocks(), (1, 1, 0));
     Ok(())
@@ -119,10 +104,7 @@ fn a_run_without_room_for_its_replies(rt: HostRuntime) -> Result<(), Fail> {
 fn eleven_buckets_are_opened_in_turn(rt: HostRuntime) -> Result<(), Fail> {
     let log = Log::new();
     {
-        let mut vec = StableVec::new(Observed::new(rt.alloc(), &log));
-        for i in 0..32_736u64 {
-            vec.push(i)?;
-        }
+        let mut vec = StableVec::from_iter(Observed::new(rt.alloc(), &log), 0..32_736u64)?;
         assert_equal!(rt;
             (vec.open_buckets(), vec.slots(), vec.room()),
             (10, 32_736, 0)
@@ -136,10 +118,9 @@ fn eleven_buckets_are_opened_in_turn(rt: HostRuntime) -> Result<(), Fail> {
             (40_000, 11, 65_504)
         );
         assert_equal!(rt;
-            (vec.get(32_735), vec.get(32_736)),
-            (Some(&32_735), Some(&32_736))
+            (vec.get(32_735), vec.get(32_736), vec.get(39_999), vec.get(40_000)),
+            (Some(&32_735), Some(&32_736), Some(&39_999), None)
         );
-        assert_equal!(rt; (vec.get(39_999), vec.get(40_000)), (Some(&39_999), None));
         assert_equal!(rt; (log.requests(), log.bytes()), (11, 524_032));
     }
     assert_equal!(rt; log.blocks(), (11, 11, 0));
@@ -166,17 +147,15 @@ fn each_large_bucket_refused_once(rt: HostRuntime) -> Result<(), Fail> {
                 if let Err(error) = vec.push(i) {
                     refused = refused.wrapping_add(1);
                     assert_equal!(rt; error, ArenaError::OutOfSystemMemory);
-                    assert_equal!(rt; (vec.len(), vec.slots(), vec.room()), (slots, slots, 0));
-                    assert_equal!(rt; vec.open_buckets(), open, "at bucket {bucket}");
+                    let found = (vec.len(), vec.slots(), vec.room(), vec.open_buckets());
+                    assert_equal!(rt; found, (slots, slots, 0, open), "at bucket {bucket}");
                     assert_equal!(rt; vec.push(i)?, slots);
                 }
             }
-            assert_equal!(rt; refused, 1);
-            assert_equal!(rt; (vec.len(), vec.open_buckets()), (40_000, 11));
-            assert_equal!(rt; vec.iter().len(), 40_000);
+            let lens = (vec.len(), vec.iter().len(), vec.open_buckets());
+            assert_equal!(rt; (refused, lens), (1, (40_000, 40_000, 11)));
         }
-        assert_equal!(rt; log.requests(), 12);
-        assert_equal!(rt; log.blocks(), (11, 11, 0));
+        assert_equal!(rt; (log.requests(), log.blocks()), (12, (11, 11, 0)));
     }
     Ok(())
 }
@@ -193,8 +172,7 @@ fn an_item_whose_push_is_refused_is_dropped(rt: HostRuntime) -> Result<(), Fail>
         }
         log.refuse_from(1);
         let error = vec.push(Counted::new(&refused)).err();
-        assert_equal!(rt; error, Some(ArenaError::OutOfSystemMemory));
-        assert_equal!(rt; refused.get(), 1);
+        assert_equal!(rt; (error, refused.get()), (Some(ArenaError::OutOfSystemMemory), 1));
         assert!(rt; each_is(&stored, 0));
     }
     assert_equal!(rt; refused.get(), 1);
@@ -334,8 +312,7 @@ fn a_run_without_room_for_its_replies_drops_its_items(rt: HostRuntime) -> Result
         let mut arena: StableArena<Tiny, Counted<'_>> = StableArena::new(rt.alloc());
         log.refuse_from(1);
         let refused = run_arena(handle, &mut arena, commands).is_err();
-        assert!(rt; refused);
-        assert!(rt; each_is(&counts, 1));
+        assert_equal!(rt; (refused, each_is(&counts, 1)), (true, true));
     }
     assert!(rt; each_is(&counts, 1));
     Ok(())
@@ -377,11 +354,7 @@ fn a_run_hands_back_what_makes_way(rt: HostRuntime) -> Result<(), Fail> {
 
 // A vector of 0 to 95, whose slots are all filled.
 fn full<'l>(handle: Observed<'l>) -> Result<StableVec<u64, Observed<'l>>, ArenaError> {
-    let mut vec = StableVec::new(handle);
-    for item in 0..96u64 {
-        vec.push(item)?;
-    }
-    Ok(vec)
+    StableVec::from_iter(handle, 0..96)
 }
 
 #[test]
@@ -402,9 +375,8 @@ fn a_vector_lends_its_items_without_memory(rt: HostRuntime) -> Result<(), Fail> 
     log.refuse_from(1);
     vec.swap(0, 95)?;
     assert_equal!(rt; vec.get_mut(95), Some(&mut 0));
-    assert_equal!(rt; vec.iter_mut().len(), 96);
-    assert_equal!(rt; vec.slices_mut().len(), 2);
-    assert_equal!(rt; log.requests(), 2);
+    let len = vec.iter_mut().len();
+    assert_equal!(rt; (len, vec.slices_mut().len(), log.requests()), (96, 2, 2));
     Ok(())
 }
 
@@ -412,11 +384,7 @@ fn a_vector_lends_its_items_without_memory(rt: HostRuntime) -> Result<(), Fail> 
 fn full_arena<'l>(
     handle: Observed<'l>,
 ) -> Result<StableArena<usize, u64, Observed<'l>>, ArenaError> {
-    let mut arena = StableArena::new(handle);
-    for item in 0..96u64 {
-        arena.alloc(item)?;
-    }
-    Ok(arena)
+    StableArena::from_iter(handle, 0..96)
 }
 
 #[test]
@@ -437,8 +405,7 @@ fn an_arena_lends_its_items_without_memory(rt: HostRuntime) -> Result<(), Fail> 
     log.refuse_from(1);
     arena.swap(0, 95)?;
     assert_equal!(rt; arena.put(95, 7), Ok(0));
-    assert_equal!(rt; arena.iter_mut().len(), 96);
-    assert_equal!(rt; log.requests(), 2);
+    assert_equal!(rt; (arena.iter_mut().len(), log.requests()), (96, 2));
     Ok(())
 }
 
