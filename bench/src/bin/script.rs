@@ -95,7 +95,10 @@ fn main() -> Outcome<ExitCode> {
             io::stdin().read_to_string(&mut input)?;
             io::stdout().write_all(answer(&input).as_bytes())?;
         }
-        [folder, port] => print_table(folder, port)?,
+        [folder, port] => {
+            refuses(port, &folder.join("script"))?;
+            print_table(folder, port)?;
+        }
         _ => return Err("give a folder and the port's program".into()),
     }
     Ok(ExitCode::SUCCESS)
@@ -150,6 +153,17 @@ fn script(line: fn(u64) -> String, before: Option<fn(u64) -> String>) -> String 
 /// A number of eight digits or fewer, another one for each number below 2^26, in no order.
 fn mixed(number: u64) -> u64 {
     number.wrapping_mul(0x2f0_b4c5) & ((1 << 26) - 1)
+}
+
+/// Gives a program what is no text, kept in a file. Its status is to be 2, and it writes nothing.
+fn refuses(program: &Path, input: &Path) -> Outcome<()> {
+    fs::write(input, b"\xff\n")?;
+    let ended = Command::new(program).stdin(File::open(input)?).output()?;
+    let found = (ended.status.code(), ended.stdout.len(), ended.stderr.len());
+    if found != (Some(2), 0, 0) {
+        return Err(format!("{}: what is no text: {ended:?}", program.display()).into());
+    }
+    Ok(())
 }
 
 /// Runs a program once. Nanoseconds a line.

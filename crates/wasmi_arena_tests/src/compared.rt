@@ -7,6 +7,7 @@ use std::num::NonZero;
 use std::test::Fail;
 use wasmi_arena::{ArenaError, StableArena, StableVec};
 use wasmi_vectors::assert_equal;
+use wasmi_vectors::noted::{Noted, Notes};
 
 // A vector of 0, 1 and so on, with another item at one index.
 fn exchanged(alloc: Global, len: u32, index: u32, item: u32) -> Result<StableVec<u32>, ArenaError> {
@@ -47,6 +48,19 @@ fn one_item_more_is_greater(rt: HostRuntime) -> Result<(), Fail> {
         assert!(rt; is_less(&vec, &longer), "at {len}");
         assert!(rt; vec < longer && longer > vec, "at {len}");
     }
+    Ok(())
+}
+
+#[test]
+fn lists_of_two_lengths_compare_no_item(rt: HostRuntime) -> Result<(), Fail> {
+    let notes = Notes::new();
+    let few = (0..96).map(|number| Noted::new(number, &notes));
+    let more = (0..97).map(|number| Noted::new(number, &notes));
+    let (vec, longer) = (
+        StableVec::from_iter(rt.alloc(), few)?,
+        StableVec::from_iter(rt.alloc(), more)?,
+    );
+    assert_equal!(rt; (vec == longer, notes.compared()), (false, 0));
     Ok(())
 }
 

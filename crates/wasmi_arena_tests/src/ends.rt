@@ -33,7 +33,7 @@ fn a_pop_at_the_edge_closes_a_bucket(rt: HostRuntime) -> Result<(), Fail> {
         assert_equal!(rt; (log.requests(), log.returned()), (2, 2));
     }
     assert!(rt; each_is(&drops, 1));
-    assert_equal!(rt; log.blocks(), (2, 2, 0));
+    assert_equal!(rt; (log.given(), log.amiss()), (2, 0));
     Ok(())
 }
 
@@ -70,7 +70,7 @@ fn a_cleared_vector_gives_its_blocks_back(rt: HostRuntime) -> Result<(), Fail> {
     }
     assert_equal!(rt; after.get(), 1);
     assert!(rt; each_is(&drops, 1));
-    assert_equal!(rt; log.blocks(), (4, 4, 0));
+    assert_equal!(rt; (log.given(), log.amiss()), (4, 0));
     Ok(())
 }
 
@@ -139,7 +139,7 @@ fn a_cleared_arena_begins_anew(rt: HostRuntime) -> Result<(), Fail> {
         assert_equal!(rt; (arena.len(), arena.room(), log.returned()), (0, 0, 2));
         assert_equal!(rt; arena.next_key(), Ok(0));
     }
-    assert_equal!(rt; log.blocks(), (2, 2, 0));
+    assert_equal!(rt; (log.given(), log.amiss()), (2, 0));
     Ok(())
 }
 

@@ -23,7 +23,7 @@ fn a_refused_bucket_can_be_opened_later(rt: HostRuntime) -> Result<(), Fail> {
         assert_equal!(rt; vec.push(32)?, 32);
         assert_equal!(rt; (vec.len(), vec.open_buckets(), vec.slots()), (33, 2, 96));
     }
-    assert_equal!(rt; (log.requests(), log.blocks()), (3, (2, 2, 0)));
+    assert_equal!(rt; (log.requests(), log.given(), log.amiss()), (3, 2, 0));
     Ok(())
 }
 
@@ -47,7 +47,7 @@ fn each_request_refused_in_turn(rt: HostRuntime) -> Result<(), Fail> {
                 (300, 4, Some(&299))
             );
         }
-        assert_equal!(rt; (log.requests(), log.blocks()), (5, (4, 4, 0)));
+        assert_equal!(rt; (log.requests(), log.given(), log.amiss()), (5, 4, 0));
     }
     Ok(())
 }
@@ -80,7 +80,7 @@ fn a_run_goes_on_after_a_refusal(rt: HostRuntime) -> Result<(), Fail> {
         );
         assert_equal!(rt; (arena.len(), arena.room()), (32, 0));
     }
-    assert_equal!(rt; log.blocks(), (1, 1, 0));
+    assert_equal!(rt; (log.given(), log.amiss()), (1, 0));
     Ok(())
 }
 
@@ -95,7 +95,7 @@ fn a_run_without_room_for_its_replies(rt: HostRuntime) -> Result<(), Fail> {
         let refused = run_arena(handle, &mut arena, commands).is_err();
         assert_equal!(rt; (refused, arena.is_empty()), (true, true));
     }
-    assert_equal!(rt; log.blocks(), (1, 1, 0));
+    assert_equal!(rt; (log.given(), log.amiss()), (1, 0));
     Ok(())
 }
 
@@ -123,7 +123,7 @@ fn eleven_buckets_are_opened_in_turn(rt: HostRuntime) -> Result<(), Fail> {
         );
         assert_equal!(rt; (log.requests(), log.bytes()), (11, 524_032));
     }
-    assert_equal!(rt; log.blocks(), (11, 11, 0));
+    assert_equal!(rt; (log.given(), log.amiss()), (11, 0));
     Ok(())
 }
 
@@ -155,7 +155,7 @@ fn each_large_bucket_refused_once(rt: HostRuntime) -> Result<(), Fail> {
             let lens = (vec.len(), vec.iter().len(), vec.open_buckets());
             assert_equal!(rt; (refused, lens), (1, (40_000, 40_000, 11)));
         }
-        assert_equal!(rt; (log.requests(), log.blocks()), (12, (11, 11, 0)));
+        assert_equal!(rt; (log.requests(), log.given(), log.amiss()), (12, 11, 0));
     }
     Ok(())
 }
@@ -418,8 +418,20 @@ fn a_run_asks_for_its_replies_alone(rt: HostRuntime) -> Result<(), Fail> {
     let requests = log.requests();
     let replies = run_arena(handle, &mut arena, commands)?;
     assert_equal!(rt;
-        (replies.len(), log.requests()),
-        (2, requests.wrapping_add(1))
+        (replies.len(), replies.capacity(), log.requests()),
+        (2, 2, requests.wrapping_add(1))
     );
+    Ok(())
+}
+
+// Items of 4,096 bytes.
+#[test]
+fn large_items_have_a_bucket(rt: HostRuntime) -> Result<(), Fail> {
+    let log = Log::new();
+    {
+        let mut vec = StableVec::new(Observed::new(rt.alloc(), &log));
+        assert_equal!(rt; (vec.push([7u64; 512]), log.bytes()), (Ok(0), 131_072));
+    }
+    assert_equal!(rt; (log.given(), log.amiss()), (1, 0));
     Ok(())
 }

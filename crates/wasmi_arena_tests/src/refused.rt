@@ -150,6 +150,6 @@ fn a_handle_that_cannot_be_cloned_opens_no_bucket(rt: HostRuntime) -> Result<(),
         log.refuse_none();
         assert_equal!(rt; (vec.push(32), vec.open_buckets()), (Ok(32), 2));
     }
-    assert_equal!(rt; log.blocks(), (2, 2, 0));
+    assert_equal!(rt; (log.given(), log.amiss()), (2, 0));
     Ok(())
 }

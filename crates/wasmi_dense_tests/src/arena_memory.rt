@@ -21,6 +21,7 @@ fn reserved_room_needs_no_more_memory(rt: HostRuntime) -> Result<(), Fail> {
         assert_equal!(rt; (arena.len(), arena.room()), (0, 0));
         log.refuse_none();
         arena.reserve(10)?;
+        assert_equal!(rt; arena.room(), 10);
         log.refuse_from(1);
         for i in 0..10u64 {
             assert_equal!(rt; arena.alloc(i)?, i as usize);
@@ -62,7 +63,7 @@ fn each_growth_refused_in_turn(rt: HostRuntime) -> Result<(), Fail> {
             assert_equal!(rt; arena.len(), 100, "at {nth}");
         }
         assert_equal!(rt; log.requests(), 7);
-        assert_equal!(rt; log.blocks(), (6, 6, 0));
+        assert_equal!(rt; (log.given(), log.amiss()), (6, 0));
     }
     Ok(())
 }
@@ -249,5 +250,17 @@ fn a_pair_needs_no_memory(rt: HostRuntime) -> Result<(), Fail> {
         Some(ArenaError::AliasingPairAccess)
     );
     assert_equal!(rt; (arena.room(), log.requests()), (0, requests));
+    Ok(())
+}
+
+// The block has 4 slots, then 8, 16 and so on up to 1,024.
+#[test]
+fn many_that_come_one_by_one_ask_seldom(rt: HostRuntime) -> Result<(), Fail> {
+    let log = Log::new();
+    let mut arena: Arena<usize, u64, Observed<'_>> = Arena::new(Observed::new(rt.alloc(), &log));
+    for number in 0..1_000usize {
+        assert_equal!(rt; arena.alloc_many(1)?.start, number);
+    }
+    assert_equal!(rt; log.requests(), 9);
     Ok(())
 }

@@ -238,7 +238,7 @@ fn a_far_number_asks_once(rt: HostRuntime) -> Result<(), Fail> {
         components.clear();
         assert_equal!(rt; log.requests(), 1);
     }
-    assert_equal!(rt; log.blocks(), (1, 1, 0));
+    assert_equal!(rt; (log.given(), log.amiss()), (1, 0));
     Ok(())
 }
 
@@ -302,5 +302,19 @@ fn components_without_size(rt: HostRuntime) -> Result<(), Fail> {
     );
     assert_equal!(rt; marked.unset(5), Some(()));
     assert_equal!(rt; (marked.get(5), marked.extent()), (None, 6));
+    Ok(())
+}
+
+// 100,000 places of 16 bytes, whatever was there.
+#[test]
+fn a_far_number_asks_for_its_places_alone(rt: HostRuntime) -> Result<(), Fail> {
+    let log = Log::new();
+    let handle = Observed::new(rt.alloc(), &log);
+    let mut components: ComponentVec<usize, u64, Observed<'_>> = ComponentVec::new(handle);
+    components.set(999, 7)?;
+    let bytes = log.bytes();
+    components.set(99_999, 7)?;
+    let asked = log.bytes().wrapping_sub(bytes);
+    assert_equal!(rt; (log.requests(), asked), (2, 1_600_000));
     Ok(())
 }

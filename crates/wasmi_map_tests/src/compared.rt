@@ -1,6 +1,8 @@
-//! How often calls of ordered maps and sets compare.
+//! How often calls of maps and sets compare and clone.
+use std::alloc::Global;
 use std::test::Fail;
 use wasmi_arena::ArenaError;
+use wasmi_hashed as hashed;
 use wasmi_ordered::map::Entry;
 use wasmi_ordered::{Map, Set};
 use wasmi_vectors::assert_equal;
@@ -73,5 +75,60 @@ fn a_place_compares_nothing(rt: HostRuntime) -> Result<(), Fail> {
         assert_equal!(rt; compared_by_a_place(&mut map, &notes, key), Ok(0), "of {number}");
     }
     assert!(rt; map.is_empty());
+    Ok(())
+}
+
+// The elements from one number on, so many of them.
+fn elements<'a>(
+    alloc: Global,
+    first: u32,
+    len: u32,
+    notes: &'a Notes,
+) -> Result<Set<Noted<'a>>, ArenaError> {
+    Set::from_iter(
+        alloc,
+        (0..len).map(|more| Noted::new(first.wrapping_add(more), notes)),
+    )
+}
+
+#[test]
+fn a_set_of_two_clones_what_it_has(rt: HostRuntime) -> Result<(), Fail> {
+    let notes = Notes::new();
+    let one = elements(rt.alloc(), 0, 100, &notes)?;
+    let other = elements(rt.alloc(), 50, 100, &notes)?;
+    assert_equal!(rt; (one.bitor(&other)?.len(), notes.cloned()), (150, 150));
+    assert_equal!(rt; (one.bitand(&other)?.len(), notes.cloned()), (50, 50));
+    assert_equal!(rt; (one.bitxor(&other)?.len(), notes.cloned()), (100, 100));
+    assert_equal!(rt; (one.sub(&other)?.len(), notes.cloned()), (50, 50));
+    Ok(())
+}
+
+#[test]
+fn each_key_is_cloned_once(rt: HostRuntime) -> Result<(), Fail> {
+    let notes = Notes::new();
+    let pairs = (0..100u32).map(|key| (Noted::new(key, &notes), key));
+    let mut map = Map::from_iter(rt.alloc(), pairs)?;
+    assert_equal!(rt; (map.clone()?.len(), notes.cloned()), (100, 100));
+    let mut other: hashed::Map<Noted<'_>, u32> = hashed::Map::new(rt.alloc());
+    while let Some((key, value)) = map.pop_last() {
+        other.insert(key, value)?;
+    }
+    assert_equal!(rt; (other.clone()?.len(), notes.cloned()), (100, 100));
+    Ok(())
+}
+
+#[test]
+fn a_test_of_two_sets_is_linear(rt: HostRuntime) -> Result<(), Fail> {
+    let notes = Notes::new();
+    let one = elements(rt.alloc(), 0, 100, &notes)?;
+    let other = elements(rt.alloc(), 0, 101, &notes)?;
+    let behind = elements(rt.alloc(), 100, 100, &notes)?;
+    notes.compared();
+    let answers = (one.is_subset(&other), notes.compared() <= 201);
+    assert_equal!(rt; answers, (true, true));
+    let answers = (other.is_superset(&one), notes.compared() <= 201);
+    assert_equal!(rt; answers, (true, true));
+    let answers = (one.is_disjoint(&behind), notes.compared() <= 200);
+    assert_equal!(rt; answers, (true, true));
     Ok(())
 }

@@ -1,10 +1,9 @@
 //! What entries of both backings drop, how often they search, and when they ask for memory.
 use std::cell::Cell;
-use std::hash::{BuildHasher, Hasher};
 use std::rc::Rc;
 use std::test::Fail;
 use wasmi_hashed::hash::FixedState;
-use wasmi_hashed::map as hashed;
+use wasmi_hashed::{Set, map as hashed};
 use wasmi_ordered::map as ordered;
 use wasmi_vectors::assert_equal;
 use wasmi_vectors::counted::Counted;
@@ -154,46 +153,22 @@ fn an_ordered_entry_compares_as_a_read_does(rt: HostRuntime) -> Result<(), Fail>
     Ok(())
 }
 
-// A state by which all keys have one hash, and which counts the hashes.
-#[derive(Clone, Copy)]
-struct Counts<'a> {
-    hashes: &'a Cell<u64>,
-}
-
-impl Hasher for Counts<'_> {
-    ghost write = { λ state _. state };
-
-    ghost finish = { λ _. 1 };
-
-    fn finish(&self) -> u64 {
-        1
-    }
-
-    fn write(&mut self, _bytes: &[u8]) {}
-}
-
-impl BuildHasher for Counts<'_> {
-    type Hasher = Self;
-
-    ghost build_hasher = { λ state. state };
-
-    fn build_hasher(&self) -> Self {
-        self.hashes.set(self.hashes.get().wrapping_add(1));
-        *self
-    }
-}
-
 #[test]
-fn a_hashed_entry_hashes_its_key_once(rt: HostRuntime) -> Result<(), Fail> {
-    let hashes = Cell::new(0);
-    let state = Counts { hashes: &hashes };
-    let mut map: hashed::Map<u32, u32, Counts<'_>> = hashed::Map::with_hasher(rt.alloc(), state);
-    for key in 0..50 {
-        for _kept in [false, true] {
-            hashes.set(0);
-            map.entry(key)?.or_insert(key)?;
-            assert_equal!(rt; hashes.get(), 1, "at {key}");
+fn a_hashed_call_hashes_its_key_once(rt: HostRuntime) -> Result<(), Fail> {
+    let notes = Notes::new();
+    let mut map: hashed::Map<Noted<'_>, u32> = hashed::Map::new(rt.alloc());
+    let mut set: Set<Noted<'_>> = Set::new(rt.alloc());
+    // Each key comes new and once more, by either call.
+    for number in 0..200u32 {
+        let key = Noted::new(number / 2, &notes);
+        if number % 4 == 0 || number % 4 == 3 {
+            map.entry(key)?.or_insert(number)?;
+        } else {
+            map.insert(key, number)?;
         }
+        assert_equal!(rt; notes.hashed(), 1, "at {number}");
+        set.insert(Noted::new(number / 2, &notes))?;
+        assert_equal!(rt; notes.hashed(), 1, "at {number}");
     }
     Ok(())
 }

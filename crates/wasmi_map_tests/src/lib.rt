@@ -4,6 +4,8 @@
 #[cfg(test)]
 mod compared;
 #[cfg(test)]
+mod dropped;
+#[cfg(test)]
 mod entries;
 #[cfg(test)]
 mod hashed;

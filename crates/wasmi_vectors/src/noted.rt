@@ -1,4 +1,4 @@
-//! A key that counts its comparisons and its drops.
+//! A key that counts its comparisons, hashes, clones and drops.
 ghost use Rattle.std.specs.Prelude.{Some, refl};
 ghost use Rattle.std.specs.Cmp.{on_equiv, on_per, on_po, on_total, partial_equiv_from_equiv, partial_order_from_total};
 ghost use Rattle.std.specs.Cmp.Rules.{hashing};
@@ -7,14 +7,17 @@ ghost use Rattle.std.specs.Ordering.{eq_by_cmp, nat_cmp};
 ghost use Rattle.std.proofs.Common.{rules};
 ghost use Rattle.std.proofs.lemmas.Cmp.{eq_by_cmp_equiv, nat_cmp_total};
 
+use std::alloc::AllocError;
 use std::cell::Cell;
 use std::cmp::Ordering;
 use std::hash::{Hash, Hasher};
 
-/// How often the keys that note it here were compared, and how many were dropped.
+/// How often the keys that note it here were compared, hashed, cloned and dropped.
 #[derive(Drop)]
 pub struct Notes {
     compared: Cell<u64>,
+    hashed: Cell<u64>,
+    cloned: Cell<u64>,
     dropped: Cell<u64>,
 }
 
@@ -22,6 +25,8 @@ impl Notes {
     pub fn new() -> Notes {
         Notes {
             compared: Cell::new(0),
+            hashed: Cell::new(0),
+            cloned: Cell::new(0),
             dropped: Cell::new(0),
         }
     }
@@ -31,13 +36,27 @@ impl Notes {
         self.compared.replace(0)
     }
 
+    /// The number of hashes since it was asked for last.
+    pub fn hashed(&self) -> u64 {
+        self.hashed.replace(0)
+    }
+
+    /// The number of clones since it was asked for last.
+    pub fn cloned(&self) -> u64 {
+        self.cloned.replace(0)
+    }
+
     /// The number of keys dropped since it was asked for last.
     pub fn dropped(&self) -> u64 {
         self.dropped.replace(0)
     }
 }
 
-/// A number that notes its comparisons and its drop.
+fn count(cell: &Cell<u64>) {
+    cell.set(cell.get().wrapping_add(1));
+}
+
+/// A number that notes its comparisons, its hashes, its clones and its drop.
 pub struct Noted<'a> {
     number: u32,
     notes: &'a Notes,
@@ -49,10 +68,16 @@ impl<'a> Noted<'a> {
     }
 }
 
+impl Clone for Noted<'_> {
+    fn clone(&self) -> Result<Self, AllocError> {
+        count(&self.notes.cloned);
+        Ok(Noted::new(self.number, self.notes))
+    }
+}
+
 impl Drop for Noted<'_> {
     fn drop(self) {
-        let dropped = self.notes.dropped.get();
-        self.notes.dropped.set(dropped.wrapping_add(1));
+        count(&self.notes.dropped);
         let Noted {
             number: _,
             notes: _,
@@ -66,7 +91,7 @@ impl PartialEq for Noted<'_> {
     ghost laws = { on_per (λ x. x.number) (partial_equiv_from_equiv (eq_by_cmp_equiv nat_cmp_total)) };
 
     fn eq(&self, other: &Self) -> bool {
-        self.number.cmp(&other.number) == Ordering::Equal
+        self.cmp(other) == Ordering::Equal
     }
 }
 
@@ -94,8 +119,7 @@ impl Ord for Noted<'_> {
     ghost matches_eq = { λ a b. refl };
 
     fn cmp(&self, other: &Self) -> Ordering {
-        let compared = self.notes.compared.get();
-        self.notes.compared.set(compared.wrapping_add(1));
+        count(&self.notes.compared);
         self.number.cmp(&other.number)
     }
 }
@@ -106,6 +130,7 @@ impl Hash for Noted<'_> {
     ghost respects_eq = { Prim.search (hashing, rules) };
 
     fn hash<H: Hasher>(&self, state: &mut H) {
+        count(&self.notes.hashed);
         self.number.hash(state);
     }
 }

@@ -22,6 +22,7 @@ pub struct Log {
     refusals: Cell<Refusals>,
     clones_refused: Cell<bool>,
     clones: Cell<u64>,
+    handles: Cell<u64>,
     requests: Cell<u64>,
     bytes: Cell<u64>,
     given: Cell<u64>,
@@ -36,6 +37,7 @@ impl Log {
             refusals: Cell::new(Refusals::None),
             clones_refused: Cell::new(false),
             clones: Cell::new(0),
+            handles: Cell::new(0),
             requests: Cell::new(0),
             bytes: Cell::new(0),
             given: Cell::new(0),
@@ -96,16 +98,12 @@ impl Log {
         self.misplaced.get()
     }
 
-    /// The numbers of blocks that were given, that came back, and that were misplaced.
-    pub fn blocks(&self) -> (u64, u64, u64) {
-        (self.given(), self.returned(), self.misplaced())
-    }
-
-    /// The number of blocks that are out or were misplaced: 0 once each came back as it should.
+    /// The number of blocks that are out or were misplaced, and of handles that are there: 0 once each
+    /// block came back as it should, and each handle was dropped.
     pub fn amiss(&self) -> u64 {
-        self.given()
-            .abs_diff(self.returned())
-            .saturating_add(self.misplaced())
+        let out = self.given().abs_diff(self.returned());
+        out.saturating_add(self.misplaced())
+            .saturating_add(self.handles.get())
     }
 
     // Writes a request down, and answers whether it is refused.
@@ -123,6 +121,11 @@ impl Log {
     // Writes down that a handle was cloned.
     pub(crate) fn counts_a_clone(&self) {
         add(&self.clones, 1);
+    }
+
+    // Writes down that a handle was dropped.
+    fn drops_a_handle(&self) {
+        self.handles.set(self.handles.get().wrapping_sub(1));
     }
 
     // Writes down that a block was given.
@@ -154,6 +157,7 @@ pub struct Observed<'a> {
 impl<'a> Observed<'a> {
     /// A handle with no blocks out.
     pub fn new(heap: Global, log: &'a Log) -> Observed<'a> {
+        add(&log.handles, 1);
         Observed {
             heap,
             log,
@@ -202,6 +206,7 @@ impl Clone for Observed<'_> {
 impl Drop for Observed<'_> {
     fn drop(self) {
         add(&self.log.misplaced, self.out.get());
+        self.log.drops_a_handle();
         let Observed {
             heap: _,
             log: _,

@@ -159,3 +159,22 @@ fn what_is_empty_needs_no_memory(rt: HostRuntime) -> Result<(), Fail> {
     }
     Ok(())
 }
+
+#[test]
+fn an_extend_by_what_is_there_asks_for_nothing(rt: HostRuntime) -> Result<(), Fail> {
+    let log = Log::new();
+    let mut map: Map<u32, u32, FixedState, Observed<'_>> = Map::new(Observed::new(
+        rt.alloc(),
+        &log,
+    ));
+    let mut set: Set<u32, FixedState, Observed<'_>> = Set::new(Observed::new(rt.alloc(), &log));
+    for key in 0..100u32 {
+        map.insert(key, key)?;
+        set.insert(key)?;
+        let requests = log.requests();
+        map.extend((0..=key).map(|key| (key, key)))?;
+        set.extend(0..=key)?;
+        assert_equal!(rt; log.requests(), requests, "at {key}");
+    }
+    Ok(())
+}
