@@ -42,6 +42,34 @@ fn components_are_visited_from_both_ends(rt: HostRuntime) -> Result<(), Fail> {
     Ok(())
 }
 
+// Few and many more than are there, where some places are free and where none is.
+#[test]
+fn reserved_places_need_no_memory(rt: HostRuntime) -> Result<(), Fail> {
+    for (held, more) in [
+        (1, 3),
+        (1, 4),
+        (4, 1),
+        (4, 4),
+        (7, 1),
+        (7, 4),
+        (40, 30),
+        (40, 40),
+    ] {
+        let log = Log::new();
+        let handle = Observed::new(rt.alloc(), &log);
+        let mut components: ComponentVec<usize, u64, Observed<'_>> = ComponentVec::new(handle);
+        for number in 0..held {
+            components.set(number, 7)?;
+        }
+        components.reserve(more)?;
+        log.refuse_from(1);
+        for number in held..held + more {
+            assert_equal!(rt; components.set(number, 8), Ok(None), "{held} and {more}");
+        }
+    }
+    Ok(())
+}
+
 #[test]
 fn a_refused_clone_or_reserve_changes_nothing(rt: HostRuntime) -> Result<(), Fail> {
     let log = Log::new();
