@@ -93,16 +93,18 @@ fn two_hundred_items_in_three_buckets(rt: HostRuntime) -> Result<(), Fail> {
         let open = vec.bucket(bucket).ok_or("not open")?;
         assert_equal!(rt; (open.slice().len(), open.capacity()), (len, capacity));
     }
-    let (fourth, none) = (vec.bucket(3).is_none(), vec.bucket(27).is_none());
-    assert_equal!(rt; (fourth, none, vec.room()), (true, true, 24));
+    let absent = (vec.bucket(3).is_none(), vec.bucket(27).is_none());
+    assert_equal!(rt; (absent, vec.room()), ((true, true), 24));
     Ok(())
 }
 
 #[test]
 fn an_empty_vector_has_no_item(rt: HostRuntime) -> Result<(), Fail> {
     let vec: StableVec<u32> = StableVec::new(rt.alloc());
-    assert_equal!(rt; (vec.len(), vec.iter().len(), vec.get(0)), (0, 0, None));
-    assert_equal!(rt; (vec.iter().next(), vec.iter().next_back()), (None, None));
+    assert_equal!(rt; (vec.len(), vec.iter().len()), (0, 0));
+    assert!(rt; vec.get(0).is_none());
+    assert!(rt; vec.iter().next().is_none());
+    assert!(rt; vec.iter().next_back().is_none());
     Ok(())
 }
 

@@ -106,13 +106,13 @@ fn a_set_of_two_clones_what_it_has(rt: HostRuntime) -> Result<(), Fail> {
 #[test]
 fn each_key_is_cloned_once(rt: HostRuntime) -> Result<(), Fail> {
     let notes = Notes::new();
-    let pairs = (0..100u32).map(|key| (Noted::new(key, &notes), key));
-    let mut map = Map::from_iter(rt.alloc(), pairs)?;
-    assert_equal!(rt; (map.clone()?.len(), notes.cloned()), (100, 100));
+    let mut map = Map::new(rt.alloc());
     let mut other: hashed::Map<Noted<'_>, u32> = hashed::Map::new(rt.alloc());
-    while let Some((key, value)) = map.pop_last() {
-        other.insert(key, value)?;
+    for key in 0..100u32 {
+        map.insert(Noted::new(key, &notes), key)?;
+        other.insert(Noted::new(key, &notes), key)?;
     }
+    assert_equal!(rt; (map.clone()?.len(), notes.cloned()), (100, 100));
     assert_equal!(rt; (other.clone()?.len(), notes.cloned()), (100, 100));
     Ok(())
 }
