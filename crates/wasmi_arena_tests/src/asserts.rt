@@ -1,5 +1,5 @@
 //! `assert_equal!` passes equal values, and ends a test with a text of both where they differ.
-use std::test::Fail;
+use crate::or_abort::OrAbort;
 use wasmi_vectors::assert_equal;
 use wasmi_vectors::asserts::{equal, equal_at};
 
@@ -22,12 +22,11 @@ fn values_that_differ_at_a_place_end_the_test(rt: HostRuntime) {
 }
 
 #[test]
-fn the_text_has_the_place_and_both_values(rt: HostRuntime) -> Result<(), Fail> {
-    let told = equal(Some(1), None).err().ok_or("equal")?;
-    let text = format!(in rt.alloc(); "{told:?}")?;
+fn the_text_has_the_place_and_both_values(rt: HostRuntime) {
+    let told = equal(Some(1), None).err().expect(&rt, "equal");
+    let text = format!(in rt.alloc(); "{told:?}").or_abort(&rt);
     assert!(rt; text.as_str() == "\n  left: Some(1)\n right: None");
-    let told = equal_at(7, "a", "b").err().ok_or("equal")?;
-    let text = format!(in rt.alloc(); "{told:?}")?;
+    let told = equal_at(7, "a", "b").err().expect(&rt, "equal");
+    let text = format!(in rt.alloc(); "{told:?}").or_abort(&rt);
     assert!(rt; text.as_str() == "7\n  left: \"a\"\n right: \"b\"");
-    Ok(())
 }

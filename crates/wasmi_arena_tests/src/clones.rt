@@ -1,7 +1,7 @@
 //! Clones of vectors and arenas: how often an item is cloned, and a clone that fails.
+use crate::or_abort::OrAbort;
 use std::alloc::AllocError;
 use std::cell::Cell;
-use std::test::Fail;
 use wasmi_arena::{ArenaError, StableArena, StableVec};
 use wasmi_vectors::assert_equal;
 use wasmi_vectors::observed::{Log, Observed};
@@ -69,36 +69,36 @@ fn hundred<'a, 'l>(
 }
 
 #[test]
-fn each_item_of_an_arena_is_cloned_once(rt: HostRuntime) -> Result<(), Fail> {
+fn each_item_of_an_arena_is_cloned_once(rt: HostRuntime) {
     let log = Log::new();
     let counts = Counts::new();
     {
-        let arena = hundred(Observed::new(rt.alloc(), &log), &counts)?;
+        let arena = hundred(Observed::new(rt.alloc(), &log), &counts).or_abort(&rt);
         assert_equal!(rt; log.requests(), 3);
-        let twin = arena.clone()?;
+        let twin = arena.clone().or_abort(&rt);
         assert_equal!(rt; (twin.len(), counts.get()), (100, (100, 0)));
         assert_equal!(rt; log.requests(), 6);
     }
     assert_equal!(rt; counts.get(), (100, 200));
-    Ok(())
 }
 
 #[test]
-fn a_clone_in_another_allocator_clones_each_item_once(rt: HostRuntime) -> Result<(), Fail> {
+fn a_clone_in_another_allocator_clones_each_item_once(rt: HostRuntime) {
     let log = Log::new();
     let counts = Counts::new();
     {
-        let arena = hundred(Observed::new(rt.alloc(), &log), &counts)?;
-        let other = arena.clone_in(Observed::new(rt.alloc(), &log))?;
+        let arena = hundred(Observed::new(rt.alloc(), &log), &counts).or_abort(&rt);
+        let other = arena
+            .clone_in(Observed::new(rt.alloc(), &log))
+            .or_abort(&rt);
         assert_equal!(rt; (other.len(), counts.get()), (100, (100, 0)));
         assert_equal!(rt; log.requests(), 6);
     }
     assert_equal!(rt; counts.get(), (100, 200));
-    Ok(())
 }
 
 #[test]
-fn a_clone_that_fails_drops_what_was_made(rt: HostRuntime) -> Result<(), Fail> {
+fn a_clone_that_fails_drops_what_was_made(rt: HostRuntime) {
     let log = Log::new();
     let counts = Counts::new();
     {
@@ -107,27 +107,26 @@ fn a_clone_that_fails_drops_what_was_made(rt: HostRuntime) -> Result<(), Fail> {
             vec.push(Item {
                 counts: &counts,
                 bare: number == 39,
-            })?;
+            })
+            .or_abort(&rt);
         }
         assert_equal!(rt; vec.clone().err(), Some(ArenaError::OutOfSystemMemory));
         assert_equal!(rt; counts.get(), (39, 39));
     }
     assert_equal!(rt; counts.get(), (39, 79));
     assert_equal!(rt; (log.given(), log.amiss()), (4, 0));
-    Ok(())
 }
 
 #[test]
-fn a_clone_of_no_items_needs_no_memory(rt: HostRuntime) -> Result<(), Fail> {
+fn a_clone_of_no_items_needs_no_memory(rt: HostRuntime) {
     let log = Log::new();
     log.refuse_from(1);
     let vec: StableVec<u64, Observed<'_>> = StableVec::new(Observed::new(rt.alloc(), &log));
-    assert!(rt; vec.clone()?.is_empty());
+    assert!(rt; vec.clone().or_abort(&rt).is_empty());
     let arena: StableArena<usize, u64, Observed<'_>> = StableArena::new(Observed::new(
         rt.alloc(),
         &log,
     ));
-    assert!(rt; arena.clone()?.is_empty());
+    assert!(rt; arena.clone().or_abort(&rt).is_empty());
     assert_equal!(rt; log.requests(), 0);
-    Ok(())
 }

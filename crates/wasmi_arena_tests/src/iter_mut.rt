@@ -1,14 +1,14 @@
 //! Items that are written one after another.
+use crate::or_abort::OrAbort;
 use crate::vectors::counted;
 use std::cell::Cell;
-use std::test::Fail;
 use wasmi_arena::{StableArena, StableVec};
 use wasmi_vectors::assert_equal;
 
 #[test]
-fn each_item_is_written_in_place(rt: HostRuntime) -> Result<(), Fail> {
+fn each_item_is_written_in_place(rt: HostRuntime) {
     for len in [0, 1, 2, 32, 33, 34, 98, 100, 300] {
-        let mut vec = counted(rt.alloc(), len)?;
+        let mut vec = counted(rt.alloc(), len).or_abort(&rt);
         let (open_buckets, slots) = (vec.open_buckets(), vec.slots());
         for item in &mut vec {
             *item = item.wrapping_mul(2);
@@ -29,19 +29,18 @@ fn each_item_is_written_in_place(rt: HostRuntime) -> Result<(), Fail> {
                 .eq((0..len).map(|n| n.wrapping_mul(2).wrapping_add(1)))
         );
     }
-    Ok(())
 }
 
 #[test]
-fn an_iterator_that_is_left_early(rt: HostRuntime) -> Result<(), Fail> {
-    let mut vec = counted(rt.alloc(), 100)?;
+fn an_iterator_that_is_left_early(rt: HostRuntime) {
+    let mut vec = counted(rt.alloc(), 100).or_abort(&rt);
     {
         let mut items = vec.iter_mut();
         for _ in 0..3 {
-            *items.next().ok_or("front")? = 7;
+            *items.next().expect(&rt, "front") = 7;
         }
         for _ in 0..2 {
-            *items.next_back().ok_or("back")? = 7;
+            *items.next_back().expect(&rt, "back") = 7;
         }
         assert_equal!(rt; items.len(), 95);
     }
@@ -50,14 +49,13 @@ fn an_iterator_that_is_left_early(rt: HostRuntime) -> Result<(), Fail> {
         let wanted = if index < 3 || index >= 98 { 7 } else { index };
         assert_equal!(rt; *item, wanted, "at {index}");
     }
-    assert_equal!(rt; vec.push(5)?, 100);
-    Ok(())
+    assert_equal!(rt; vec.push(5).or_abort(&rt), 100);
 }
 
 #[test]
-fn both_ends_meet(rt: HostRuntime) -> Result<(), Fail> {
+fn both_ends_meet(rt: HostRuntime) {
     // Each end takes three at a time, over all buckets.
-    let mut vec = counted(rt.alloc(), 225)?;
+    let mut vec = counted(rt.alloc(), 225).or_abort(&rt);
     let taken = Cell::new(0u32);
     {
         let mut items = vec.iter_mut();
@@ -82,29 +80,27 @@ fn both_ends_meet(rt: HostRuntime) -> Result<(), Fail> {
         let added = if index < 114 { 1000 } else { 2000 };
         assert_equal!(rt; *item as usize, index.wrapping_add(added));
     }
-    Ok(())
 }
 
 #[test]
-fn slices_are_written(rt: HostRuntime) -> Result<(), Fail> {
-    let mut vec = counted(rt.alloc(), 100)?;
+fn slices_are_written(rt: HostRuntime) {
+    let mut vec = counted(rt.alloc(), 100).or_abort(&rt);
     let mut lens = Vec::new(rt.alloc());
     for part in vec.slices_mut() {
-        lens.push(part.len())?;
+        lens.push(part.len()).or_abort(&rt);
         part.fill(7);
     }
-    assert_equal!(rt; format!(in rt.alloc(); "{lens:?}")?.as_str(), "[32, 64, 4]");
+    assert_equal!(rt; format!(in rt.alloc(); "{lens:?}").or_abort(&rt).as_str(), "[32, 64, 4]");
     assert!(rt; vec.iter().all(|item| *item == 7));
-    Ok(())
 }
 
 #[test]
-fn slices_are_written_from_both_ends(rt: HostRuntime) -> Result<(), Fail> {
-    let mut vec = counted(rt.alloc(), 100)?;
+fn slices_are_written_from_both_ends(rt: HostRuntime) {
+    let mut vec = counted(rt.alloc(), 100).or_abort(&rt);
     let mut slices = vec.slices_mut();
     assert_equal!(rt; slices.len(), 3);
-    slices.next_back().ok_or("last")?.fill(9);
-    slices.next().ok_or("first")?.fill(8);
+    slices.next_back().expect(&rt, "last").fill(9);
+    slices.next().expect(&rt, "first").fill(8);
     drop(slices);
     let read = [
         vec.get(0),
@@ -116,13 +112,12 @@ fn slices_are_written_from_both_ends(rt: HostRuntime) -> Result<(), Fail> {
     ];
     assert!(rt; read == [Some(&8), Some(&8), Some(&32), Some(&95), Some(&9), Some(&9)]);
     assert_equal!(rt; vec.len(), 100);
-    Ok(())
 }
 
 #[test]
-fn each_item_of_an_arena_is_written(rt: HostRuntime) -> Result<(), Fail> {
+fn each_item_of_an_arena_is_written(rt: HostRuntime) {
     let tens = (0..100u32).map(|item| item.wrapping_mul(10));
-    let mut arena: StableArena<u32, u32> = StableArena::from_iter(rt.alloc(), tens)?;
+    let mut arena: StableArena<u32, u32> = StableArena::from_iter(rt.alloc(), tens).or_abort(&rt);
     for (key, item) in &mut arena {
         *item = item.wrapping_add(key);
     }
@@ -131,9 +126,9 @@ fn each_item_of_an_arena_is_written(rt: HostRuntime) -> Result<(), Fail> {
     }
     let mut entries = arena.iter_mut();
     assert_equal!(rt; entries.len(), 100);
-    let (first, item) = entries.next().ok_or("first")?;
+    let (first, item) = entries.next().expect(&rt, "first");
     *item = 1;
-    let (last, item) = entries.next_back().ok_or("last")?;
+    let (last, item) = entries.next_back().expect(&rt, "last");
     *item = 2;
     assert_equal!(rt; (first, last, entries.len()), (0, 99, 98));
     drop(entries);
@@ -141,17 +136,16 @@ fn each_item_of_an_arena_is_written(rt: HostRuntime) -> Result<(), Fail> {
         (arena.get(0), arena.get(99), arena.len()),
         (Ok(&1), Ok(&2), 100)
     );
-    Ok(())
 }
 
 #[test]
-fn an_iterator_of_an_arena_that_is_left_early(rt: HostRuntime) -> Result<(), Fail> {
-    let mut arena: StableArena<u32, u32> = StableArena::from_iter(rt.alloc(), 0..300)?;
+fn an_iterator_of_an_arena_that_is_left_early(rt: HostRuntime) {
+    let mut arena: StableArena<u32, u32> = StableArena::from_iter(rt.alloc(), 0..300).or_abort(&rt);
     {
         let mut entries = arena.iter_mut();
-        let (_, first) = entries.next().ok_or("first")?;
+        let (_, first) = entries.next().expect(&rt, "first");
         *first = 1000;
-        let (_, last) = entries.next_back().ok_or("last")?;
+        let (_, last) = entries.next_back().expect(&rt, "last");
         *last = 2000;
         assert_equal!(rt; entries.len(), 298);
     }
@@ -163,17 +157,15 @@ fn an_iterator_of_an_arena_that_is_left_early(rt: HostRuntime) -> Result<(), Fai
         };
         assert_equal!(rt; *item, wanted, "at {key}");
     }
-    Ok(())
 }
 
 #[test]
-fn items_without_size_are_written(rt: HostRuntime) -> Result<(), Fail> {
-    let mut vec = StableVec::from_iter(rt.alloc(), (0..100).map(|_| ()))?;
+fn items_without_size_are_written(rt: HostRuntime) {
+    let mut vec = StableVec::from_iter(rt.alloc(), (0..100).map(|_| ())).or_abort(&rt);
     let mut count = 0;
     for item in vec.iter_mut() {
         *item = ();
         count = 1u32.wrapping_add(count);
     }
     assert_equal!(rt; (count, vec.len()), (100, 100));
-    Ok(())
 }

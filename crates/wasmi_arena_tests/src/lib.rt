@@ -26,6 +26,8 @@ mod memory;
 #[cfg(test)]
 mod observed;
 #[cfg(test)]
+mod or_abort;
+#[cfg(test)]
 mod pairs;
 #[cfg(test)]
 mod refused;

@@ -1,7 +1,7 @@
 //! Vectors, arenas and runs over an allocator that refuses requests.
+use crate::or_abort::OrAbort;
 use std::alloc::{AllocError, Allocator, Global};
 use std::cell::Cell;
-use std::test::Fail;
 use wasmi_arena::{
     ArenaCommand, ArenaError, ArenaKey, ArenaReply, StableArena, StableVec, run_arena,
 };
@@ -11,24 +11,23 @@ use wasmi_vectors::observed::{Log, Observed};
 use wasmi_vectors::tiny::Tiny;
 
 #[test]
-fn a_refused_bucket_can_be_opened_later(rt: HostRuntime) -> Result<(), Fail> {
+fn a_refused_bucket_can_be_opened_later(rt: HostRuntime) {
     let log = Log::new();
     {
-        let mut vec = StableVec::from_iter(Observed::new(rt.alloc(), &log), 0..31u64)?;
+        let mut vec = StableVec::from_iter(Observed::new(rt.alloc(), &log), 0..31u64).or_abort(&rt);
         log.refuse_from(1);
         let refused = Err(ArenaError::OutOfSystemMemory);
         assert_equal!(rt; (vec.push(31), vec.push(32)), (Ok(31), refused));
         assert_equal!(rt; (vec.len(), vec.open_buckets(), vec.slots()), (32, 1, 32));
         log.refuse_none();
-        assert_equal!(rt; vec.push(32)?, 32);
+        assert_equal!(rt; vec.push(32).or_abort(&rt), 32);
         assert_equal!(rt; (vec.len(), vec.open_buckets(), vec.slots()), (33, 2, 96));
     }
     assert_equal!(rt; (log.requests(), log.given(), log.amiss()), (3, 2, 0));
-    Ok(())
 }
 
 #[test]
-fn each_request_refused_in_turn(rt: HostRuntime) -> Result<(), Fail> {
+fn each_request_refused_in_turn(rt: HostRuntime) {
     for (nth, len, open) in [(1, 0, 0), (2, 32, 1), (3, 96, 2), (4, 224, 3)] {
         let log = Log::new();
         {
@@ -38,7 +37,7 @@ fn each_request_refused_in_turn(rt: HostRuntime) -> Result<(), Fail> {
                 if let Err(error) = vec.push(i) {
                     assert_equal!(rt; error, ArenaError::OutOfSystemMemory);
                     assert_equal!(rt; (vec.len(), vec.open_buckets()), (len, open), "at {nth}");
-                    vec.push(i)?;
+                    vec.push(i).or_abort(&rt);
                 }
                 assert_equal!(rt; vec.iter().len(), vec.len());
             }
@@ -49,27 +48,32 @@ fn each_request_refused_in_turn(rt: HostRuntime) -> Result<(), Fail> {
         }
         assert_equal!(rt; (log.requests(), log.given(), log.amiss()), (5, 4, 0));
     }
-    Ok(())
 }
 
 #[test]
-fn items_without_size_need_no_memory(rt: HostRuntime) -> Result<(), Fail> {
+fn items_without_size_need_no_memory(rt: HostRuntime) {
     let log = Log::new();
     log.refuse_from(1);
-    let vec = StableVec::from_iter(Observed::new(rt.alloc(), &log), (0..40).map(|_| ()))?;
+    let vec = StableVec::from_iter(Observed::new(rt.alloc(), &log), (0..40).map(|_| ())).or_abort(
+        &rt,
+    );
     assert_equal!(rt; (vec.len(), vec.open_buckets(), vec.slots()), (40, 2, 96));
     assert_equal!(rt; log.requests(), 0);
-    Ok(())
 }
 
 #[test]
-fn a_run_goes_on_after_a_refusal(rt: HostRuntime) -> Result<(), Fail> {
+fn a_run_goes_on_after_a_refusal(rt: HostRuntime) {
     let log = Log::new();
     {
-        let mut arena = StableArena::from_iter(Observed::new(rt.alloc(), &log), 0..32u8)?;
-        let commands = vec![in rt.alloc(); ArenaCommand::Alloc(1), ArenaCommand::Has(0usize)]?;
+        let mut arena = StableArena::from_iter(Observed::new(rt.alloc(), &log), 0..32u8).or_abort(
+            &rt,
+        );
+        let commands = vec![in rt.alloc();
+            ArenaCommand::Alloc(1),
+            ArenaCommand::Has(0usize),
+        ].or_abort(&rt);
         log.refuse_from(1);
-        let replies = run_arena(rt.alloc(), &mut arena, commands)?;
+        let replies = run_arena(rt.alloc(), &mut arena, commands).or_abort(&rt);
         assert_equal!(rt;
             replies.as_slice(),
             [
@@ -81,37 +85,40 @@ fn a_run_goes_on_after_a_refusal(rt: HostRuntime) -> Result<(), Fail> {
         assert_equal!(rt; (arena.len(), arena.room()), (32, 0));
     }
     assert_equal!(rt; (log.given(), log.amiss()), (1, 0));
-    Ok(())
 }
 
 #[test]
-fn a_run_without_room_for_its_replies(rt: HostRuntime) -> Result<(), Fail> {
+fn a_run_without_room_for_its_replies(rt: HostRuntime) {
     let log = Log::new();
     {
         let mut arena: StableArena<usize, u8> = StableArena::new(rt.alloc());
         let handle = Observed::new(rt.alloc(), &log);
-        let commands = vec![in handle.clone()?; ArenaCommand::Alloc(1), ArenaCommand::Has(0)]?;
+        let commands = vec![in handle.clone().or_abort(&rt);
+            ArenaCommand::Alloc(1),
+            ArenaCommand::Has(0),
+        ].or_abort(&rt);
         log.refuse_from(1);
         let refused = run_arena(handle, &mut arena, commands).is_err();
         assert_equal!(rt; (refused, arena.is_empty()), (true, true));
     }
     assert_equal!(rt; (log.given(), log.amiss()), (1, 0));
-    Ok(())
 }
 
 // The buckets have 32, 64, 128, .. slots, so the first ten have 32,736 and the first eleven 65,504.
 #[test]
-fn eleven_buckets_are_opened_in_turn(rt: HostRuntime) -> Result<(), Fail> {
+fn eleven_buckets_are_opened_in_turn(rt: HostRuntime) {
     let log = Log::new();
     {
-        let mut vec = StableVec::from_iter(Observed::new(rt.alloc(), &log), 0..32_736u64)?;
+        let mut vec = StableVec::from_iter(Observed::new(rt.alloc(), &log), 0..32_736u64).or_abort(
+            &rt,
+        );
         assert_equal!(rt;
             (vec.open_buckets(), vec.slots(), vec.room()),
             (10, 32_736, 0)
         );
         assert_equal!(rt; (log.requests(), log.bytes()), (10, 261_888));
         for i in 32_736..40_000u64 {
-            vec.push(i)?;
+            vec.push(i).or_abort(&rt);
         }
         assert_equal!(rt;
             (vec.len(), vec.open_buckets(), vec.slots()),
@@ -124,11 +131,10 @@ fn eleven_buckets_are_opened_in_turn(rt: HostRuntime) -> Result<(), Fail> {
         assert_equal!(rt; (log.requests(), log.bytes()), (11, 524_032));
     }
     assert_equal!(rt; (log.given(), log.amiss()), (11, 0));
-    Ok(())
 }
 
 #[test]
-fn each_large_bucket_refused_once(rt: HostRuntime) -> Result<(), Fail> {
+fn each_large_bucket_refused_once(rt: HostRuntime) {
     let refusals = [
         (6, 992, 5),
         (7, 2_016, 6),
@@ -149,7 +155,7 @@ fn each_large_bucket_refused_once(rt: HostRuntime) -> Result<(), Fail> {
                     assert_equal!(rt; error, ArenaError::OutOfSystemMemory);
                     let found = (vec.len(), vec.slots(), vec.room(), vec.open_buckets());
                     assert_equal!(rt; found, (slots, slots, 0, open), "at bucket {bucket}");
-                    assert_equal!(rt; vec.push(i)?, slots);
+                    assert_equal!(rt; vec.push(i).or_abort(&rt), slots);
                 }
             }
             let lens = (vec.len(), vec.iter().len(), vec.open_buckets());
@@ -157,18 +163,17 @@ fn each_large_bucket_refused_once(rt: HostRuntime) -> Result<(), Fail> {
         }
         assert_equal!(rt; (log.requests(), log.given(), log.amiss()), (12, 11, 0));
     }
-    Ok(())
 }
 
 #[test]
-fn an_item_whose_push_is_refused_is_dropped(rt: HostRuntime) -> Result<(), Fail> {
+fn an_item_whose_push_is_refused_is_dropped(rt: HostRuntime) {
     let log = Log::new();
-    let stored = counts(rt.alloc(), 32)?;
+    let stored = counts(rt.alloc(), 32).or_abort(&rt);
     let refused = Cell::new(0);
     {
         let mut vec = StableVec::new(Observed::new(rt.alloc(), &log));
         for drops in &stored {
-            vec.push(Counted::new(drops))?;
+            vec.push(Counted::new(drops)).or_abort(&rt);
         }
         log.refuse_from(1);
         let error = vec.push(Counted::new(&refused)).err();
@@ -177,20 +182,19 @@ fn an_item_whose_push_is_refused_is_dropped(rt: HostRuntime) -> Result<(), Fail>
     }
     assert_equal!(rt; refused.get(), 1);
     assert!(rt; each_is(&stored, 1));
-    Ok(())
 }
 
 #[test]
-fn an_item_that_finds_no_memory_is_dropped(rt: HostRuntime) -> Result<(), Fail> {
+fn an_item_that_finds_no_memory_is_dropped(rt: HostRuntime) {
     let log = Log::new();
-    let stored = counts(rt.alloc(), 32)?;
+    let stored = counts(rt.alloc(), 32).or_abort(&rt);
     let refused = Cell::new(0);
     {
         let mut arena: StableArena<usize, Counted<'_>, Observed<'_>> = StableArena::new(
             Observed::new(rt.alloc(), &log),
         );
         for drops in &stored {
-            arena.alloc(Counted::new(drops))?;
+            arena.alloc(Counted::new(drops)).or_abort(&rt);
         }
         log.refuse_from(1);
         let error = arena.alloc(Counted::new(&refused)).err();
@@ -200,21 +204,20 @@ fn an_item_that_finds_no_memory_is_dropped(rt: HostRuntime) -> Result<(), Fail> 
     }
     assert_equal!(rt; refused.get(), 1);
     assert!(rt; each_is(&stored, 1));
-    Ok(())
 }
 
 // A fifth item has no key, and asks for no memory.
 #[test]
-fn an_item_that_finds_no_key_is_dropped(rt: HostRuntime) -> Result<(), Fail> {
+fn an_item_that_finds_no_key_is_dropped(rt: HostRuntime) {
     let log = Log::new();
-    let stored = counts(rt.alloc(), 4)?;
+    let stored = counts(rt.alloc(), 4).or_abort(&rt);
     let refused = Cell::new(0);
     {
         let mut arena: StableArena<Tiny, Counted<'_>, Observed<'_>> = StableArena::new(
             Observed::new(rt.alloc(), &log),
         );
         for drops in &stored {
-            arena.alloc(Counted::new(drops))?;
+            arena.alloc(Counted::new(drops)).or_abort(&rt);
         }
         log.refuse_from(1);
         let error = arena.alloc(Counted::new(&refused)).err();
@@ -225,7 +228,6 @@ fn an_item_that_finds_no_key_is_dropped(rt: HostRuntime) -> Result<(), Fail> {
     }
     assert_equal!(rt; refused.get(), 1);
     assert!(rt; each_is(&stored, 1));
-    Ok(())
 }
 
 // A command for each count, to put an item that counts there.
@@ -257,14 +259,14 @@ fn replies_with<Key: PartialEq + Drop, T>(
 
 // The second bucket is opened for item 32, which is refused, and then for item 33.
 #[test]
-fn a_run_drops_the_item_that_finds_no_memory(rt: HostRuntime) -> Result<(), Fail> {
+fn a_run_drops_the_item_that_finds_no_memory(rt: HostRuntime) {
     let log = Log::new();
-    let counts = counts(rt.alloc(), 34)?;
+    let counts = counts(rt.alloc(), 34).or_abort(&rt);
     {
-        let commands = allocs(rt.alloc(), &counts)?;
+        let commands = allocs(rt.alloc(), &counts).or_abort(&rt);
         let mut arena = StableArena::new(Observed::new(rt.alloc(), &log));
         log.refuse_once(2);
-        let replies = run_arena(rt.alloc(), &mut arena, commands)?;
+        let replies = run_arena(rt.alloc(), &mut arena, commands).or_abort(&rt);
         assert_equal!(rt; (replies.len(), arena.len()), (34, 33));
         for (item, reply) in replies.iter().enumerate() {
             let expected = match item {
@@ -279,16 +281,15 @@ fn a_run_drops_the_item_that_finds_no_memory(rt: HostRuntime) -> Result<(), Fail
         }
     }
     assert!(rt; each_is(&counts, 1));
-    Ok(())
 }
 
 #[test]
-fn a_run_drops_the_items_that_find_no_key(rt: HostRuntime) -> Result<(), Fail> {
-    let counts = counts(rt.alloc(), 6)?;
+fn a_run_drops_the_items_that_find_no_key(rt: HostRuntime) {
+    let counts = counts(rt.alloc(), 6).or_abort(&rt);
     {
-        let commands = allocs(rt.alloc(), &counts)?;
+        let commands = allocs(rt.alloc(), &counts).or_abort(&rt);
         let mut arena = StableArena::new(rt.alloc());
-        let replies = run_arena(rt.alloc(), &mut arena, commands)?;
+        let replies = run_arena(rt.alloc(), &mut arena, commands).or_abort(&rt);
         assert_equal!(rt; (replies.len(), arena.len()), (6, 4));
         for (item, reply) in replies.iter().enumerate() {
             let expected = Tiny::from_usize(item).ok_or(ArenaError::NotEnoughKeys);
@@ -299,23 +300,21 @@ fn a_run_drops_the_items_that_find_no_key(rt: HostRuntime) -> Result<(), Fail> {
         }
     }
     assert!(rt; each_is(&counts, 1));
-    Ok(())
 }
 
 #[test]
-fn a_run_without_room_for_its_replies_drops_its_items(rt: HostRuntime) -> Result<(), Fail> {
+fn a_run_without_room_for_its_replies_drops_its_items(rt: HostRuntime) {
     let log = Log::new();
-    let counts = counts(rt.alloc(), 2)?;
+    let counts = counts(rt.alloc(), 2).or_abort(&rt);
     {
         let handle = Observed::new(rt.alloc(), &log);
-        let commands = allocs(handle.clone()?, &counts)?;
+        let commands = allocs(handle.clone().or_abort(&rt), &counts).or_abort(&rt);
         let mut arena: StableArena<Tiny, Counted<'_>> = StableArena::new(rt.alloc());
         log.refuse_from(1);
         let refused = run_arena(handle, &mut arena, commands).is_err();
         assert_equal!(rt; (refused, each_is(&counts, 1)), (true, true));
     }
     assert!(rt; each_is(&counts, 1));
-    Ok(())
 }
 
 // Commands to put in an item, to put one under a key that reads nothing, and one in the place of the first.
@@ -337,19 +336,18 @@ fn alloc_and_puts<'a>(
 
 // A refused item is dropped with its command, one that makes way comes back in its reply.
 #[test]
-fn a_run_hands_back_what_makes_way(rt: HostRuntime) -> Result<(), Fail> {
-    let counts = counts(rt.alloc(), 3)?;
+fn a_run_hands_back_what_makes_way(rt: HostRuntime) {
+    let counts = counts(rt.alloc(), 3).or_abort(&rt);
     {
-        let commands = alloc_and_puts(rt.alloc(), &counts)?;
+        let commands = alloc_and_puts(rt.alloc(), &counts).or_abort(&rt);
         let mut arena = StableArena::new(rt.alloc());
-        let replies = run_arena(rt.alloc(), &mut arena, commands)?;
+        let replies = run_arena(rt.alloc(), &mut arena, commands).or_abort(&rt);
         assert_equal!(rt; (replies.len(), arena.len()), (3, 1));
         assert!(rt; counts_are(&counts, &[0, 1, 0]));
         drop(replies);
         assert!(rt; counts_are(&counts, &[1, 1, 0]));
     }
     assert!(rt; each_is(&counts, 1));
-    Ok(())
 }
 
 // A vector of 0 to 95, whose slots are all filled.
@@ -358,26 +356,24 @@ fn full<'l>(handle: Observed<'l>) -> Result<StableVec<u64, Observed<'l>>, ArenaE
 }
 
 #[test]
-fn a_vector_lends_two_items_without_memory(rt: HostRuntime) -> Result<(), Fail> {
+fn a_vector_lends_two_items_without_memory(rt: HostRuntime) {
     let log = Log::new();
-    let mut vec = full(Observed::new(rt.alloc(), &log))?;
+    let mut vec = full(Observed::new(rt.alloc(), &log)).or_abort(&rt);
     log.refuse_from(1);
-    assert_equal!(rt; vec.get_disjoint_mut([32, 31])?, (&mut 32, &mut 31));
+    assert_equal!(rt; vec.get_disjoint_mut([32, 31]).or_abort(&rt), (&mut 32, &mut 31));
     assert!(rt; vec.get_disjoint_mut([32, 96]).is_err());
     assert_equal!(rt; log.requests(), 2);
-    Ok(())
 }
 
 #[test]
-fn a_vector_lends_its_items_without_memory(rt: HostRuntime) -> Result<(), Fail> {
+fn a_vector_lends_its_items_without_memory(rt: HostRuntime) {
     let log = Log::new();
-    let mut vec = full(Observed::new(rt.alloc(), &log))?;
+    let mut vec = full(Observed::new(rt.alloc(), &log)).or_abort(&rt);
     log.refuse_from(1);
-    vec.swap(0, 95)?;
+    vec.swap(0, 95).or_abort(&rt);
     assert_equal!(rt; vec.get_mut(95), Some(&mut 0));
     let len = vec.iter_mut().len();
     assert_equal!(rt; (len, vec.slices_mut().len(), log.requests()), (96, 2, 2));
-    Ok(())
 }
 
 // An arena of 0 to 95, whose slots are all filled.
@@ -388,50 +384,49 @@ fn full_arena<'l>(
 }
 
 #[test]
-fn an_arena_lends_two_items_without_memory(rt: HostRuntime) -> Result<(), Fail> {
+fn an_arena_lends_two_items_without_memory(rt: HostRuntime) {
     let log = Log::new();
-    let mut arena = full_arena(Observed::new(rt.alloc(), &log))?;
+    let mut arena = full_arena(Observed::new(rt.alloc(), &log)).or_abort(&rt);
     log.refuse_from(1);
-    assert_equal!(rt; arena.get_disjoint_mut([32, 31])?, (&mut 32, &mut 31));
+    assert_equal!(rt; arena.get_disjoint_mut([32, 31]).or_abort(&rt), (&mut 32, &mut 31));
     assert!(rt; arena.get_disjoint_mut([32, 32]).is_err());
     assert_equal!(rt; log.requests(), 2);
-    Ok(())
 }
 
 #[test]
-fn an_arena_lends_its_items_without_memory(rt: HostRuntime) -> Result<(), Fail> {
+fn an_arena_lends_its_items_without_memory(rt: HostRuntime) {
     let log = Log::new();
-    let mut arena = full_arena(Observed::new(rt.alloc(), &log))?;
+    let mut arena = full_arena(Observed::new(rt.alloc(), &log)).or_abort(&rt);
     log.refuse_from(1);
-    arena.swap(0, 95)?;
+    arena.swap(0, 95).or_abort(&rt);
     assert_equal!(rt; arena.put(95, 7), Ok(0));
     assert_equal!(rt; (arena.iter_mut().len(), log.requests()), (96, 2));
-    Ok(())
 }
 
 #[test]
-fn a_run_asks_for_its_replies_alone(rt: HostRuntime) -> Result<(), Fail> {
+fn a_run_asks_for_its_replies_alone(rt: HostRuntime) {
     let log = Log::new();
     let mut arena: StableArena<usize, u8> = StableArena::new(rt.alloc());
     let handle = Observed::new(rt.alloc(), &log);
-    let commands = vec![in handle.clone()?; ArenaCommand::Alloc(1), ArenaCommand::Has(0)]?;
+    let commands = vec![in handle.clone().or_abort(&rt);
+        ArenaCommand::Alloc(1),
+        ArenaCommand::Has(0),
+    ].or_abort(&rt);
     let requests = log.requests();
-    let replies = run_arena(handle, &mut arena, commands)?;
+    let replies = run_arena(handle, &mut arena, commands).or_abort(&rt);
     assert_equal!(rt;
         (replies.len(), replies.capacity(), log.requests()),
         (2, 2, requests.wrapping_add(1))
     );
-    Ok(())
 }
 
 // Items of 4,096 bytes.
 #[test]
-fn large_items_have_a_bucket(rt: HostRuntime) -> Result<(), Fail> {
+fn large_items_have_a_bucket(rt: HostRuntime) {
     let log = Log::new();
     {
         let mut vec = StableVec::new(Observed::new(rt.alloc(), &log));
         assert_equal!(rt; (vec.push([7u64; 512]), log.bytes()), (Ok(0), 131_072));
     }
     assert_equal!(rt; (log.given(), log.amiss()), (1, 0));
-    Ok(())
 }

@@ -1,12 +1,12 @@
 //! The allocator of the tests: it counts and refuses what it says.
+use crate::or_abort::OrAbort;
 use std::alloc::{AllocError, Allocator};
 use std::ptr::null_mut;
-use std::test::Fail;
 use wasmi_vectors::assert_equal;
 use wasmi_vectors::observed::{Log, Observed};
 
 #[test]
-fn a_vec_goes_on_after_a_refusal(rt: HostRuntime) -> Result<(), Fail> {
+fn a_vec_goes_on_after_a_refusal(rt: HostRuntime) {
     let log = Log::new();
     {
         let mut numbers: Vec<u64, Observed<'_>> = Vec::new(Observed::new(rt.alloc(), &log));
@@ -15,7 +15,7 @@ fn a_vec_goes_on_after_a_refusal(rt: HostRuntime) -> Result<(), Fail> {
         for number in 0..9u64 {
             if numbers.push(number).is_err() {
                 refusals = refusals.wrapping_add(1);
-                numbers.push(number)?;
+                numbers.push(number).or_abort(&rt);
             }
         }
         assert_equal!(rt; refusals, 1);
@@ -25,7 +25,6 @@ fn a_vec_goes_on_after_a_refusal(rt: HostRuntime) -> Result<(), Fail> {
     assert!(rt; log.requests() > 2);
     assert_equal!(rt; log.given().wrapping_add(1), log.requests());
     assert_equal!(rt; log.amiss(), 0);
-    Ok(())
 }
 
 fn boxes<A: Allocator + Clone>(alloc: A, count: u64) -> Result<Vec<Box<u64, A>, A>, AllocError> {
@@ -50,31 +49,30 @@ fn what_was_given_comes_back_after_a_refusal(rt: HostRuntime) {
 }
 
 #[test]
-fn all_requests_are_refused_from_one_on(rt: HostRuntime) -> Result<(), Fail> {
+fn all_requests_are_refused_from_one_on(rt: HostRuntime) {
     let log = Log::new();
     {
         let handle = Observed::new(rt.alloc(), &log);
-        let first = Box::new(handle.clone()?, 1u64)?;
+        let first = Box::new(handle.clone().or_abort(&rt), 1u64).or_abort(&rt);
         log.refuse_from(2);
-        let second = Box::new(handle.clone()?, 2u32)?;
-        assert!(rt; Box::new(handle.clone()?, 3u64).is_err());
-        assert!(rt; Box::new(handle.clone()?, 4u64).is_err());
+        let second = Box::new(handle.clone().or_abort(&rt), 2u32).or_abort(&rt);
+        assert!(rt; Box::new(handle.clone().or_abort(&rt), 3u64).is_err());
+        assert!(rt; Box::new(handle.clone().or_abort(&rt), 4u64).is_err());
         log.refuse_none();
-        let fifth = Box::new(handle, 5u64)?;
+        let fifth = Box::new(handle, 5u64).or_abort(&rt);
         assert_equal!(rt; (*first, *second, *fifth), (1, 2, 5));
         assert_equal!(rt; log.returned(), 0);
     }
     assert_equal!(rt; (log.requests(), log.bytes()), (5, 36));
     assert_equal!(rt; (log.given(), log.amiss()), (3, 0));
-    Ok(())
 }
 
 // Two handles are told of one block, which the second is said to have taken back.
 #[test]
-fn a_block_that_comes_to_another_handle_is_misplaced(rt: HostRuntime) -> Result<(), Fail> {
+fn a_block_that_comes_to_another_handle_is_misplaced(rt: HostRuntime) {
     let log = Log::new();
     let one = Observed::new(rt.alloc(), &log);
-    let other = one.clone()?;
+    let other = one.clone().or_abort(&rt);
     assert!(rt; one.gives(Ok(null_mut())).is_ok());
     other.takes_back();
     assert_equal!(rt; log.misplaced(), 1);
@@ -82,5 +80,4 @@ fn a_block_that_comes_to_another_handle_is_misplaced(rt: HostRuntime) -> Result<
     assert_equal!(rt; log.misplaced(), 1);
     drop(one);
     assert_equal!(rt; (log.given(), log.returned(), log.misplaced()), (1, 1, 2));
-    Ok(())
 }

@@ -1,6 +1,6 @@
 //! Two items that are written at once, or exchanged.
+use crate::or_abort::OrAbort;
 use crate::vectors::counted;
-use std::test::Fail;
 use wasmi_arena::{ArenaError, StableArena, StableVec};
 use wasmi_vectors::assert_equal;
 
@@ -18,11 +18,13 @@ const PAIRS: [(u32, u32); 9] = [
 ];
 
 #[test]
-fn two_items_are_written_and_no_other(rt: HostRuntime) -> Result<(), Fail> {
+fn two_items_are_written_and_no_other(rt: HostRuntime) {
     for (low, high) in PAIRS {
         for (first, second) in [(low, high), (high, low)] {
-            let mut vec = counted(rt.alloc(), 300)?;
-            let (one, other) = vec.get_disjoint_mut([first as usize, second as usize])?;
+            let mut vec = counted(rt.alloc(), 300).or_abort(&rt);
+            let (one, other) = vec
+                .get_disjoint_mut([first as usize, second as usize])
+                .or_abort(&rt);
             assert_equal!(rt; (*one, *other), (first, second));
             *one = 1000;
             *other = 2000;
@@ -39,15 +41,17 @@ fn two_items_are_written_and_no_other(rt: HostRuntime) -> Result<(), Fail> {
             }
         }
     }
-    Ok(())
 }
 
 #[test]
-fn two_items_of_an_arena_are_written_and_no_other(rt: HostRuntime) -> Result<(), Fail> {
+fn two_items_of_an_arena_are_written_and_no_other(rt: HostRuntime) {
     for (low, high) in PAIRS {
         for (first, second) in [(low, high), (high, low)] {
-            let mut arena: StableArena<u32, u32> = StableArena::from_iter(rt.alloc(), 0..300)?;
-            let (one, other) = arena.get_disjoint_mut([first, second])?;
+            let mut arena: StableArena<u32, u32> = StableArena::from_iter(
+                rt.alloc(),
+                0..300,
+            ).or_abort(&rt);
+            let (one, other) = arena.get_disjoint_mut([first, second]).or_abort(&rt);
             assert_equal!(rt; (*one, *other), (first, second));
             *one = 1000;
             *other = 2000;
@@ -64,7 +68,6 @@ fn two_items_of_an_arena_are_written_and_no_other(rt: HostRuntime) -> Result<(),
             }
         }
     }
-    Ok(())
 }
 
 // What `get_disjoint_mut` of the vector and of an arena with these items fails with.
@@ -80,9 +83,9 @@ fn errors(
 }
 
 #[test]
-fn equal_indices_are_refused_before_those_out_of_bounds(rt: HostRuntime) -> Result<(), Fail> {
-    let mut vec = counted(rt.alloc(), 3)?;
-    let mut arena = StableArena::from_iter(rt.alloc(), 0..3)?;
+fn equal_indices_are_refused_before_those_out_of_bounds(rt: HostRuntime) {
+    let mut vec = counted(rt.alloc(), 3).or_abort(&rt);
+    let mut arena = StableArena::from_iter(rt.alloc(), 0..3).or_abort(&rt);
     for (indices, error) in [
         ([1, 1], Some(ArenaError::AliasingPairAccess)),
         ([3, 3], Some(ArenaError::AliasingPairAccess)),
@@ -97,14 +100,13 @@ fn equal_indices_are_refused_before_those_out_of_bounds(rt: HostRuntime) -> Resu
         assert!(rt; vec.iter().eq([0, 1, 2].iter()));
         assert!(rt; arena.items().iter().eq([0, 1, 2].iter()));
     }
-    Ok(())
 }
 
 // In each bucket, and at its ends.
 #[test]
-fn a_refused_pair_changes_no_item(rt: HostRuntime) -> Result<(), Fail> {
-    let mut vec = counted(rt.alloc(), 300)?;
-    let mut arena = StableArena::from_iter(rt.alloc(), 0..300)?;
+fn a_refused_pair_changes_no_item(rt: HostRuntime) {
+    let mut vec = counted(rt.alloc(), 300).or_abort(&rt);
+    let mut arena = StableArena::from_iter(rt.alloc(), 0..300).or_abort(&rt);
     for index in [0, 1, 31, 32, 33, 95, 96, 223, 224, 299] {
         for (indices, error) in [
             ([index, index], ArenaError::AliasingPairAccess),
@@ -120,48 +122,44 @@ fn a_refused_pair_changes_no_item(rt: HostRuntime) -> Result<(), Fail> {
             }
         }
     }
-    Ok(())
 }
 
 #[test]
-fn two_items_without_size(rt: HostRuntime) -> Result<(), Fail> {
-    let mut vec = StableVec::from_iter(rt.alloc(), (0..40).map(|_| ()))?;
-    assert_equal!(rt; vec.get_disjoint_mut([39, 0])?, (&mut (), &mut ()));
+fn two_items_without_size(rt: HostRuntime) {
+    let mut vec = StableVec::from_iter(rt.alloc(), (0..40).map(|_| ())).or_abort(&rt);
+    assert_equal!(rt; vec.get_disjoint_mut([39, 0]).or_abort(&rt), (&mut (), &mut ()));
     assert_equal!(rt;
         vec.get_disjoint_mut([40, 0]),
         Err(ArenaError::KeyOutOfBounds)
     );
     assert_equal!(rt; vec.len(), 40);
-    Ok(())
 }
 
 #[test]
-fn items_change_places(rt: HostRuntime) -> Result<(), Fail> {
-    let mut vec: StableVec<usize> = StableVec::from_iter(rt.alloc(), 0..100)?;
+fn items_change_places(rt: HostRuntime) {
+    let mut vec: StableVec<usize> = StableVec::from_iter(rt.alloc(), 0..100).or_abort(&rt);
     // In one bucket, in two, in either order.
     for (first, second) in [(0, 31), (31, 32), (96, 5), (99, 98)] {
-        vec.swap(first, second)?;
+        vec.swap(first, second).or_abort(&rt);
         assert_equal!(rt;
             (vec.get(first), vec.get(second)),
             (Some(&second), Some(&first))
         );
-        vec.swap(second, first)?;
+        vec.swap(second, first).or_abort(&rt);
         assert_equal!(rt;
             (vec.get(first), vec.get(second)),
             (Some(&first), Some(&second))
         );
     }
-    Ok(())
 }
 
 #[test]
-fn a_refused_exchange_changes_nothing(rt: HostRuntime) -> Result<(), Fail> {
-    let mut vec: StableVec<usize> = StableVec::from_iter(rt.alloc(), 0..100)?;
+fn a_refused_exchange_changes_nothing(rt: HostRuntime) {
+    let mut vec: StableVec<usize> = StableVec::from_iter(rt.alloc(), 0..100).or_abort(&rt);
     for index in [5, 100] {
         assert_equal!(rt; vec.swap(index, index), Err(ArenaError::AliasingPairAccess));
         assert_equal!(rt; vec.swap(index, 101), Err(ArenaError::KeyOutOfBounds));
         assert_equal!(rt; vec.swap(101, index), Err(ArenaError::KeyOutOfBounds));
     }
     assert!(rt; vec.iter().copied().eq(0..100));
-    Ok(())
 }

@@ -1,5 +1,5 @@
 //! Each request for memory of a call refused in turn, and then the call made again.
-use std::test::Fail;
+use crate::or_abort::OrAbort;
 use wasmi_arena::{ArenaError, StableArena, StableVec};
 use wasmi_vectors::assert_equal;
 use wasmi_vectors::observed::{Log, Observed};
@@ -63,12 +63,15 @@ const CALLS: [(Call, u64, usize); 4] = [
 ];
 
 #[test]
-fn a_vector_goes_on_after_each_refusal(rt: HostRuntime) -> Result<(), Fail> {
+fn a_vector_goes_on_after_each_refusal(rt: HostRuntime) {
     for (call, requests, made) in CALLS {
         for nth in 1..=3u64 {
             let log = Log::new();
             {
-                let mut vec = StableVec::from_iter(Observed::new(rt.alloc(), &log), 0..96u64)?;
+                let mut vec = StableVec::from_iter(
+                    Observed::new(rt.alloc(), &log),
+                    0..96u64,
+                ).or_abort(&rt);
                 log.refuse_once(nth);
                 let first = call_vector(call, &mut vec, Observed::new(rt.alloc(), &log));
                 if nth <= requests {
@@ -90,16 +93,18 @@ fn a_vector_goes_on_after_each_refusal(rt: HostRuntime) -> Result<(), Fail> {
             assert_equal!(rt; log.amiss(), 0);
         }
     }
-    Ok(())
 }
 
 #[test]
-fn an_arena_goes_on_after_each_refusal(rt: HostRuntime) -> Result<(), Fail> {
+fn an_arena_goes_on_after_each_refusal(rt: HostRuntime) {
     for (call, requests, made) in CALLS {
         for nth in 1..=3u64 {
             let log = Log::new();
             {
-                let mut arena = StableArena::from_iter(Observed::new(rt.alloc(), &log), 0..96u64)?;
+                let mut arena = StableArena::from_iter(
+                    Observed::new(rt.alloc(), &log),
+                    0..96u64,
+                ).or_abort(&rt);
                 log.refuse_once(nth);
                 let first = call_arena(call, &mut arena, Observed::new(rt.alloc(), &log));
                 if nth <= requests {
@@ -116,32 +121,30 @@ fn an_arena_goes_on_after_each_refusal(rt: HostRuntime) -> Result<(), Fail> {
             assert_equal!(rt; log.amiss(), 0);
         }
     }
-    Ok(())
 }
 
 #[test]
-fn an_arena_with_room_needs_no_memory(rt: HostRuntime) -> Result<(), Fail> {
+fn an_arena_with_room_needs_no_memory(rt: HostRuntime) {
     let log = Log::new();
     let mut arena: StableArena<usize, u64, Observed<'_>> = StableArena::new(Observed::new(
         rt.alloc(),
         &log,
     ));
-    arena.alloc(0)?;
+    arena.alloc(0).or_abort(&rt);
     log.refuse_from(1);
-    let keys = arena.alloc_many(30)?;
+    let keys = arena.alloc_many(30).or_abort(&rt);
     assert_equal!(rt; (keys.start, keys.end, arena.alloc(31)), (1, 31, Ok(31)));
     let refused = Some(ArenaError::OutOfSystemMemory);
     assert_equal!(rt; (arena.alloc(32).err(), arena.alloc_many(1).err()), (refused, refused));
     assert_equal!(rt; (arena.len(), log.given()), (32, 1));
-    Ok(())
 }
 
 // A bucket is over a clone of the vector's handle.
 #[test]
-fn a_handle_that_cannot_be_cloned_opens_no_bucket(rt: HostRuntime) -> Result<(), Fail> {
+fn a_handle_that_cannot_be_cloned_opens_no_bucket(rt: HostRuntime) {
     let log = Log::new();
     {
-        let mut vec = StableVec::from_iter(Observed::new(rt.alloc(), &log), 0..31u64)?;
+        let mut vec = StableVec::from_iter(Observed::new(rt.alloc(), &log), 0..31u64).or_abort(&rt);
         log.refuse_clones();
         assert_equal!(rt; vec.push(31), Ok(31));
         assert_equal!(rt; vec.push(32), Err(ArenaError::OutOfSystemMemory));
@@ -151,5 +154,4 @@ fn a_handle_that_cannot_be_cloned_opens_no_bucket(rt: HostRuntime) -> Result<(),
         assert_equal!(rt; (vec.push(32), vec.open_buckets()), (Ok(32), 2));
     }
     assert_equal!(rt; (log.given(), log.amiss()), (2, 0));
-    Ok(())
 }

@@ -2,9 +2,9 @@
 ghost use Rattle.std.specs.Prelude.{◌≡◌, ◌<◌, ⊤};
 ghost use Rattle.wasmi_arena.specs.Geometry.{max_len, IsPlace};
 
+use crate::or_abort::OrAbort;
 use std::alloc::{AllocError, Global};
 use std::cell::Cell;
-use std::test::Fail;
 use wasmi_arena::{ArenaError, StableVec};
 use wasmi_vectors::assert_equal;
 
@@ -57,7 +57,7 @@ fn places_are_those_of_the_table(rt: HostRuntime) {
 }
 
 #[test]
-fn buckets_are_the_fewest(rt: HostRuntime) -> Result<(), Fail> {
+fn buckets_are_the_fewest(rt: HostRuntime) {
     for (len, open, slots) in [
         (0, 0, 0),
         (1, 1, 32),
@@ -66,100 +66,92 @@ fn buckets_are_the_fewest(rt: HostRuntime) -> Result<(), Fail> {
         (96, 2, 96),
         (97, 3, 224),
     ] {
-        let vec = counted(rt.alloc(), len)?;
+        let vec = counted(rt.alloc(), len).or_abort(&rt);
         let taken = vec.room() + vec.len();
         assert_equal!(rt; (vec.open_buckets(), vec.slots(), taken), (open, slots, slots), "at {len}");
     }
-    Ok(())
 }
 
 #[test]
-fn two_hundred_pushes(rt: HostRuntime) -> Result<(), Fail> {
+fn two_hundred_pushes(rt: HostRuntime) {
     let mut vec = StableVec::new(rt.alloc());
     assert!(rt; vec.is_empty());
     for i in 0..200usize {
-        assert_equal!(rt; vec.push(i)?, i);
+        assert_equal!(rt; vec.push(i).or_abort(&rt), i);
     }
     assert_equal!(rt; (vec.len(), vec.is_empty()), (200, false));
-    assert_equal!(rt; (vec.get(0), vec.get(199), vec.get(200)), (Some(&0), Some(&199), None));
-    assert!(rt; vec.iter().copied().eq(0..200));
-    Ok(())
+    for i in 0..200usize {
+        assert_equal!(rt; vec.get(i), Some(&i));
+    }
+    assert!(rt; vec.get(200).is_none());
 }
 
 #[test]
-fn two_hundred_items_in_three_buckets(rt: HostRuntime) -> Result<(), Fail> {
-    let vec = counted(rt.alloc(), 200)?;
+fn two_hundred_items_in_three_buckets(rt: HostRuntime) {
+    let vec = counted(rt.alloc(), 200).or_abort(&rt);
     for (bucket, len, capacity) in [(0, 32, 32), (1, 64, 64), (2, 104, 128)] {
-        let open = vec.bucket(bucket).ok_or("not open")?;
+        let open = vec.bucket(bucket).expect(&rt, "not open");
         assert_equal!(rt; (open.slice().len(), open.capacity()), (len, capacity));
     }
     let absent = (vec.bucket(3).is_none(), vec.bucket(27).is_none());
     assert_equal!(rt; (absent, vec.room()), ((true, true), 24));
-    Ok(())
 }
 
 #[test]
-fn an_empty_vector_has_no_item(rt: HostRuntime) -> Result<(), Fail> {
+fn an_empty_vector_has_no_item(rt: HostRuntime) {
     let vec: StableVec<u32> = StableVec::new(rt.alloc());
     assert_equal!(rt; (vec.len(), vec.iter().len()), (0, 0));
     assert!(rt; vec.get(0).is_none());
     assert!(rt; vec.iter().next().is_none());
     assert!(rt; vec.iter().next_back().is_none());
-    Ok(())
 }
 
 #[test]
-fn a_clone_equals_its_source(rt: HostRuntime) -> Result<(), Fail> {
-    let vec = counted(rt.alloc(), 100)?;
-    let mut copy = vec.clone()?;
-    assert!(rt; copy == vec && vec != counted(rt.alloc(), 99)?);
+fn a_clone_equals_its_source(rt: HostRuntime) {
+    let vec = counted(rt.alloc(), 100).or_abort(&rt);
+    let mut copy = vec.clone().or_abort(&rt);
+    assert!(rt; copy == vec && vec != counted(rt.alloc(), 99).or_abort(&rt));
     assert_equal!(rt; copy.push(100), Ok(100));
     assert!(rt; copy != vec);
-    Ok(())
 }
 
 #[test]
-fn alternating_ends_give_each_item_once(rt: HostRuntime) -> Result<(), Fail> {
-    let vec = counted(rt.alloc(), 100)?;
+fn alternating_ends_give_each_item_once(rt: HostRuntime) {
+    let vec = counted(rt.alloc(), 100).or_abort(&rt);
     let mut items = vec.iter();
     for front in 0..50u32 {
         assert_equal!(rt; items.len(), 100 - 2 * front as usize);
         assert_equal!(rt; (items.next(), items.next_back()), (Some(&front), Some(&(99 - front))));
     }
     assert_equal!(rt; (items.len(), items.next(), items.next_back()), (0, None, None));
-    Ok(())
 }
 
 #[test]
-fn a_walk_knows_its_length(rt: HostRuntime) -> Result<(), Fail> {
-    let vec = counted(rt.alloc(), 200)?;
+fn a_walk_knows_its_length(rt: HostRuntime) {
+    let vec = counted(rt.alloc(), 200).or_abort(&rt);
     let mut items = vec.iter();
     assert_equal!(rt; (items.len(), items.next(), items.len()), (200, Some(&0), 199));
     assert_equal!(rt; items.filter(|i| **i % 2 == 1).count(), 100);
-    Ok(())
 }
 
 #[test]
-fn writes_through_references(rt: HostRuntime) -> Result<(), Fail> {
-    let mut vec = counted(rt.alloc(), 200)?;
+fn writes_through_references(rt: HostRuntime) {
+    let mut vec = counted(rt.alloc(), 200).or_abort(&rt);
     for i in 0..200 {
         if let Some(item) = vec.get_mut(i) {
             *item = item.wrapping_mul(2);
         }
     }
-    assert!(rt;
-        vec.iter()
-            .copied()
-            .eq((0..200u32).map(|i| i.wrapping_mul(2)))
-    );
+    for i in 0..200usize {
+        assert_equal!(rt; vec.get(i), Some(&(i as u32).wrapping_mul(2)));
+    }
     assert!(rt; vec.get_mut(200).is_none());
     assert_equal!(rt; (vec.len(), vec.open_buckets(), vec.slots()), (200, 3, 224));
-    Ok(())
 }
 
 #[test]
-fn walks_from_both_ends(rt: HostRuntime) -> Result<(), Fail> {
-    let vec = counted(rt.alloc(), 200)?;
+fn walks_from_both_ends(rt: HostRuntime) {
+    let vec = counted(rt.alloc(), 200).or_abort(&rt);
     let mut items = vec.iter();
     for (front, back) in [(0, 199), (1, 198)] {
         assert_equal!(rt; (items.next(), items.next_back()), (Some(&front), Some(&back)));
@@ -167,7 +159,7 @@ fn walks_from_both_ends(rt: HostRuntime) -> Result<(), Fail> {
     assert_equal!(rt; (items.len(), items.next_back()), (196, Some(&197)));
     assert!(rt; vec.iter().rev().copied().eq((0..200).rev()));
     // The front has left the first bucket when the back comes from the third.
-    let three = counted(rt.alloc(), 97)?;
+    let three = counted(rt.alloc(), 97).or_abort(&rt);
     let mut ends = three.iter();
     for wanted in 0..32u32 {
         assert_equal!(rt; ends.next(), Some(&wanted));
@@ -175,18 +167,16 @@ fn walks_from_both_ends(rt: HostRuntime) -> Result<(), Fail> {
     assert_equal!(rt; (ends.next_back(), ends.next()), (Some(&96), Some(&32)));
     assert_equal!(rt; (ends.next_back(), ends.len()), (Some(&95), 62));
     // One end comes to the last item of the other's bucket.
-    let few = counted(rt.alloc(), 3)?;
+    let few = counted(rt.alloc(), 3).or_abort(&rt);
     let mut ends = few.iter();
     assert_equal!(rt; (ends.next_back(), ends.next()), (Some(&2), Some(&0)));
     assert_equal!(rt; (ends.next(), ends.next_back()), (Some(&1), None));
-    Ok(())
 }
 
 #[test]
-fn items_without_size(rt: HostRuntime) -> Result<(), Fail> {
-    let vec = StableVec::from_iter(rt.alloc(), (0..40).map(|_| ()))?;
+fn items_without_size(rt: HostRuntime) {
+    let vec = StableVec::from_iter(rt.alloc(), (0..40).map(|_| ())).or_abort(&rt);
     assert_equal!(rt; (vec.len(), vec.open_buckets(), vec.slots()), (40, 2, 96));
-    Ok(())
 }
 
 // Counts its drop: how many were dropped so far, and the sum of their numbers.
@@ -204,19 +194,19 @@ impl Drop for DropCount<'_> {
 }
 
 #[test]
-fn each_item_is_dropped_once(rt: HostRuntime) -> Result<(), Fail> {
+fn each_item_is_dropped_once(rt: HostRuntime) {
     let drops = Cell::new((0, 0));
     let mut vec = StableVec::new(rt.alloc());
     for number in 0..100 {
         vec.push(DropCount {
             drops: &drops,
             number,
-        })?;
+        })
+        .or_abort(&rt);
     }
     assert_equal!(rt; (vec.open_buckets(), drops.get()), (3, (0, 0)));
     drop(vec);
     assert_equal!(rt; drops.get(), (100, 4950));
-    Ok(())
 }
 
 // Counts its clones.
@@ -239,31 +229,29 @@ impl Clone for CloneCount<'_> {
 }
 
 #[test]
-fn each_item_is_cloned_once(rt: HostRuntime) -> Result<(), Fail> {
+fn each_item_is_cloned_once(rt: HostRuntime) {
     let clones = Cell::new(0);
     let mut vec = StableVec::new(rt.alloc());
     for _ in 0..100 {
-        vec.push(CloneCount { clones: &clones })?;
+        vec.push(CloneCount { clones: &clones }).or_abort(&rt);
     }
     assert_equal!(rt; clones.get(), 0);
-    let twin = vec.clone()?;
+    let twin = vec.clone().or_abort(&rt);
     assert_equal!(rt; (twin.len(), clones.get()), (100, 100));
-    Ok(())
 }
 
 // A push may be refused for memory, once: then nothing has changed, and the next try goes on.
 #[test]
-fn refused_pushes_change_nothing(rt: HostRuntime) -> Result<(), Fail> {
+fn refused_pushes_change_nothing(rt: HostRuntime) {
     let mut vec = StableVec::new(rt.alloc());
     for i in 0..100usize {
         let before = (vec.len(), vec.open_buckets(), vec.slots());
         if let Err(error) = vec.push(i) {
             assert_equal!(rt; (error, vec.room()), (ArenaError::OutOfSystemMemory, 0));
             assert_equal!(rt; (vec.len(), vec.open_buckets(), vec.slots()), before);
-            assert_equal!(rt; vec.push(i)?, before.0);
+            assert_equal!(rt; vec.push(i).or_abort(&rt), before.0);
         }
         assert_equal!(rt; vec.get(i), Some(&i));
     }
     assert_equal!(rt; (vec.len(), vec.open_buckets(), vec.slots()), (100, 3, 224));
-    Ok(())
 }

@@ -1,8 +1,8 @@
 //! Deduplicating arenas: the worked rows, and an allocator that refuses requests.
+use crate::or_abort::OrAbort;
 use std::alloc::{AllocError, Allocator, Global};
 use std::fmt::Write;
 use std::hash::{Hash, Hasher};
-use std::test::Fail;
 use wasmi_arena::ArenaKey;
 use wasmi_collections::StringInterner;
 use wasmi_collections::arena::{Arena, ArenaError, DedupArena};
@@ -28,44 +28,44 @@ impl Clone for Even {
 }
 
 #[test]
-fn equal_values_have_one_key(rt: HostRuntime) -> Result<(), Fail> {
+fn equal_values_have_one_key(rt: HostRuntime) {
     let mut arena: DedupArena<usize, &str> = DedupArena::new(rt.alloc());
     let nothing = Err(ArenaError::KeyOutOfBounds);
     assert_equal!(rt; (arena.is_empty(), arena.get(0)), (true, nothing));
     for _ in 0..2 {
         for (nth, value) in ["a", "b", "c", "d"].iter().enumerate() {
-            assert_equal!(rt; arena.alloc(*value)?, nth);
+            assert_equal!(rt; arena.alloc(*value).or_abort(&rt), nth);
         }
     }
     assert_equal!(rt; (arena.len(), arena.get(4)), (4, nothing));
-    let made = DedupArena::from_iter(rt.alloc(), ["a", "b", "c", "d"])?;
+    let made = DedupArena::from_iter(rt.alloc(), ["a", "b", "c", "d"]).or_abort(&rt);
     assert!(rt; made == arena);
     arena.clear();
     assert_equal!(rt; (arena.len(), arena.get(0)), (0, nothing));
-    Ok(())
 }
 
 // As a deduplicating arena would, if it always appended.
 #[test]
-fn a_plain_arena_keeps_equal_values(rt: HostRuntime) -> Result<(), Fail> {
+fn a_plain_arena_keeps_equal_values(rt: HostRuntime) {
     let mut plain: Arena<usize, &str> = Arena::new(rt.alloc());
     for first in [0usize, 4] {
         for (nth, value) in ["a", "b", "c", "d"].iter().enumerate() {
-            assert_equal!(rt; plain.alloc(*value)?, nth.wrapping_add(first));
+            assert_equal!(rt; plain.alloc(*value).or_abort(&rt), nth.wrapping_add(first));
         }
     }
     assert_equal!(rt; plain.len(), 8);
-    Ok(())
 }
 
 #[test]
-fn equal_values_of_an_iterator_have_one_key(rt: HostRuntime) -> Result<(), Fail> {
-    let mut made: DedupArena<usize, &str> = DedupArena::from_iter(rt.alloc(), ["a", "b", "a"])?;
+fn equal_values_of_an_iterator_have_one_key(rt: HostRuntime) {
+    let mut made: DedupArena<usize, &str> = DedupArena::from_iter(
+        rt.alloc(),
+        ["a", "b", "a"],
+    ).or_abort(&rt);
     assert_equal!(rt; made.len(), 2);
-    assert_equal!(rt; made.alloc("a")?, 0);
+    assert_equal!(rt; made.alloc("a").or_abort(&rt), 0);
     assert_equal!(rt; made.get(1), Ok(&"b"));
     assert_equal!(rt; made.get(2), Err(ArenaError::KeyOutOfBounds));
-    Ok(())
 }
 
 // An arena that was handed "x" and "y". Its item under the key of "x" was written over by "y".
@@ -78,46 +78,46 @@ fn written(alloc: Global) -> Result<DedupArena<usize, &'static str>, ArenaError>
 }
 
 #[test]
-fn writes_change_no_key(rt: HostRuntime) -> Result<(), Fail> {
-    let mut arena = written(rt.alloc())?;
-    assert_equal!(rt; (arena.alloc("x")?, arena.alloc("y")?), (0, 1));
+fn writes_change_no_key(rt: HostRuntime) {
+    let mut arena = written(rt.alloc()).or_abort(&rt);
+    assert_equal!(rt; (arena.alloc("x").or_abort(&rt), arena.alloc("y").or_abort(&rt)), (0, 1));
     assert_equal!(rt;
         (arena.get(0), arena.get(1), arena.len()),
         (Ok(&"y"), Ok(&"y"), 2)
     );
-    Ok(())
 }
 
 #[test]
-fn writes_do_not_reach_the_index(rt: HostRuntime) -> Result<(), Fail> {
-    let arena = written(rt.alloc())?;
+fn writes_do_not_reach_the_index(rt: HostRuntime) {
+    let arena = written(rt.alloc()).or_abort(&rt);
     let index = arena.index();
     assert_equal!(rt;
         (index.len(), index.get(&"x"), index.get(&"y")),
         (2, Some(&0), Some(&1))
     );
-    Ok(())
 }
 
 #[test]
-fn writes_in_a_loop_change_no_key(rt: HostRuntime) -> Result<(), Fail> {
-    let mut arena: DedupArena<usize, &str> = DedupArena::from_iter(rt.alloc(), ["a", "b", "c"])?;
+fn writes_in_a_loop_change_no_key(rt: HostRuntime) {
+    let mut arena: DedupArena<usize, &str> = DedupArena::from_iter(
+        rt.alloc(),
+        ["a", "b", "c"],
+    ).or_abort(&rt);
     for (_, item) in &mut arena {
         *item = "z";
     }
     for (key, value) in ["a", "b", "c", "z"].iter().enumerate() {
-        assert_equal!(rt; arena.alloc(*value)?, key);
+        assert_equal!(rt; arena.alloc(*value).or_abort(&rt), key);
     }
     assert_equal!(rt; (arena.get(0), arena.get(2)), (Ok(&"z"), Ok(&"z")));
-    Ok(())
 }
 
 #[test]
-fn a_repeat_needs_no_key(rt: HostRuntime) -> Result<(), Fail> {
+fn a_repeat_needs_no_key(rt: HostRuntime) {
     let mut arena: DedupArena<Tiny, &str> = DedupArena::from_iter(
         rt.alloc(),
         ["p", "q", "r", "s"],
-    )?;
+    ).or_abort(&rt);
     assert_equal!(rt; arena.alloc("q").map(|key| key.into_usize()), Ok(1));
     assert_equal!(rt; arena.alloc("t").err(), Some(ArenaError::NotEnoughKeys));
     assert_equal!(rt; (arena.len(), arena.is_empty()), (4, false));
@@ -134,11 +134,10 @@ fn a_repeat_needs_no_key(rt: HostRuntime) -> Result<(), Fail> {
         [0, 1, 0, 2, 3, 1, 4],
     );
     assert_equal!(rt; full.err(), Some(ArenaError::NotEnoughKeys));
-    Ok(())
 }
 
 #[test]
-fn one_key_is_enough_for_equal_values(rt: HostRuntime) -> Result<(), Fail> {
+fn one_key_is_enough_for_equal_values(rt: HostRuntime) {
     let mut arena: DedupArena<One, &str> = DedupArena::new(rt.alloc());
     for (value, key) in [
         ("a", Ok(0)),
@@ -151,12 +150,11 @@ fn one_key_is_enough_for_equal_values(rt: HostRuntime) -> Result<(), Fail> {
         let made = DedupArena::<One, &str>::from_iter(rt.alloc(), ["a", "a", last]);
         assert_equal!(rt; made.map(|made| made.len()), wanted, "with {last}");
     }
-    Ok(())
 }
 
 #[test]
-fn a_look_hands_nothing_in(rt: HostRuntime) -> Result<(), Fail> {
-    let mut arena = written(rt.alloc())?;
+fn a_look_hands_nothing_in(rt: HostRuntime) {
+    let mut arena = written(rt.alloc()).or_abort(&rt);
     for (value, key) in [("x", Some(0)), ("y", Some(1)), ("z", None)] {
         assert_equal!(rt; arena.key_of(&value), key, "of {value}");
     }
@@ -168,11 +166,10 @@ fn a_look_hands_nothing_in(rt: HostRuntime) -> Result<(), Fail> {
     assert_equal!(rt; arena.put(2, "z"), Err(ArenaError::KeyOutOfBounds));
     assert_equal!(rt; (arena.key_of(&"y"), arena.key_of(&"z")), (Some(1), None));
     assert_equal!(rt; (arena.get(1), arena.has(1), arena.has(2)), (Ok(&"z"), true, false));
-    Ok(())
 }
 
 #[test]
-fn commands_and_replies(rt: HostRuntime) -> Result<(), Fail> {
+fn commands_and_replies(rt: HostRuntime) {
     let mut arena: DedupArena<usize, &str> = DedupArena::new(rt.alloc());
     let commands = vec![in rt.alloc();
         DedupCommand::Alloc("x"),
@@ -184,8 +181,9 @@ fn commands_and_replies(rt: HostRuntime) -> Result<(), Fail> {
         DedupCommand::Put(2, "z"),
         DedupCommand::Clear,
         DedupCommand::Alloc("y"),
-    ]?;
-    let replies = run_dedup(rt.alloc(), &mut arena, commands)?;
+    ]
+    .or_abort(&rt);
+    let replies = run_dedup(rt.alloc(), &mut arena, commands).or_abort(&rt);
     assert_equal!(rt;
         replies.as_slice(),
         [
@@ -201,20 +199,18 @@ fn commands_and_replies(rt: HostRuntime) -> Result<(), Fail> {
         ]
         .as_slice()
     );
-    Ok(())
 }
 
 #[test]
-fn items_alone_are_compared(rt: HostRuntime) -> Result<(), Fail> {
-    let mut one: DedupArena<usize, i32> = DedupArena::from_iter(rt.alloc(), [1, 2])?;
-    let other: DedupArena<usize, i32> = DedupArena::from_iter(rt.alloc(), [7, 2])?;
+fn items_alone_are_compared(rt: HostRuntime) {
+    let mut one: DedupArena<usize, i32> = DedupArena::from_iter(rt.alloc(), [1, 2]).or_abort(&rt);
+    let other: DedupArena<usize, i32> = DedupArena::from_iter(rt.alloc(), [7, 2]).or_abort(&rt);
     assert!(rt; one != other);
-    *one.get_mut(0)? = 7;
+    *one.get_mut(0).or_abort(&rt) = 7;
     assert_equal!(rt; &one, &other);
     let mut text = String::new(rt.alloc());
-    write!(text, "{one:?}")?;
+    write!(text, "{one:?}").or_abort(&rt);
     assert_equal!(rt; text.as_str(), "{0: 7, 1: 2}");
-    Ok(())
 }
 
 // Whether the keys of 0, 1, .. are these numbers, and the items are those values.
@@ -228,7 +224,7 @@ fn has_first<A: Allocator>(arena: &DedupArena<usize, u32, A>, len: u32) -> bool 
 }
 
 #[test]
-fn each_request_refused_in_turn(rt: HostRuntime) -> Result<(), Fail> {
+fn each_request_refused_in_turn(rt: HostRuntime) {
     for nth in 1..30 {
         let log = Log::new();
         {
@@ -239,14 +235,13 @@ fn each_request_refused_in_turn(rt: HostRuntime) -> Result<(), Fail> {
                 if let Err(error) = arena.alloc(value) {
                     assert_equal!(rt; error, ArenaError::OutOfSystemMemory);
                     assert!(rt; has_first(&arena, value), "at {nth}");
-                    assert_equal!(rt; arena.alloc(value)?, value as usize);
+                    assert_equal!(rt; arena.alloc(value).or_abort(&rt), value as usize);
                 }
             }
             assert!(rt; has_first(&arena, 100), "at {nth}");
         }
         assert_equal!(rt; log.amiss(), 0);
     }
-    Ok(())
 }
 
 // An arena of 0 to 99. A value that is refused is handed in again.
@@ -262,13 +257,13 @@ fn hundred<'l>(heap: Logged<'l>) -> Result<DedupArena<usize, u32, Logged<'l>>, A
 
 // What is there needs no memory, whichever request was refused before.
 #[test]
-fn a_value_that_is_there_needs_no_memory(rt: HostRuntime) -> Result<(), Fail> {
+fn a_value_that_is_there_needs_no_memory(rt: HostRuntime) {
     for nth in 1..30 {
         let log = Log::new();
         {
             let heap = Logged::new(rt.alloc(), &log);
             log.refuse_once(nth);
-            let mut arena = hundred(heap)?;
+            let mut arena = hundred(heap).or_abort(&rt);
             log.refuse_from(1);
             let asked = log.requests();
             assert_equal!(rt; (arena.alloc(0), arena.alloc(99)), (Ok(0), Ok(99)));
@@ -277,12 +272,14 @@ fn a_value_that_is_there_needs_no_memory(rt: HostRuntime) -> Result<(), Fail> {
         }
         assert_equal!(rt; log.amiss(), 0);
     }
-    Ok(())
 }
 
 #[test]
-fn a_refused_clone_changes_nothing(rt: HostRuntime) -> Result<(), Fail> {
-    let mut arena: DedupArena<usize, Even> = DedupArena::from_iter(rt.alloc(), [Even(0), Even(2)])?;
+fn a_refused_clone_changes_nothing(rt: HostRuntime) {
+    let mut arena: DedupArena<usize, Even> = DedupArena::from_iter(
+        rt.alloc(),
+        [Even(0), Even(2)],
+    ).or_abort(&rt);
     assert_equal!(rt; arena.alloc(Even(1)), Err(ArenaError::OutOfSystemMemory));
     assert_equal!(rt;
         (
@@ -292,8 +289,7 @@ fn a_refused_clone_changes_nothing(rt: HostRuntime) -> Result<(), Fail> {
         ),
         (2, 2, None)
     );
-    assert_equal!(rt; (arena.alloc(Even(2))?, arena.alloc(Even(4))?), (1, 2));
-    Ok(())
+    assert_equal!(rt; (arena.alloc(Even(2)).or_abort(&rt), arena.alloc(Even(4)).or_abort(&rt)), (1, 2));
 }
 
 // How many values were refused of a run that handed in those from 0 on, of which each other one has its key; nothing
@@ -318,7 +314,7 @@ fn refused_of(
 
 // Each request of a run refused in turn. The first is for the replies.
 #[test]
-fn a_run_goes_on_after_a_refusal(rt: HostRuntime) -> Result<(), Fail> {
+fn a_run_goes_on_after_a_refusal(rt: HostRuntime) {
     for nth in 1..20 {
         let log = Log::new();
         {
@@ -326,7 +322,8 @@ fn a_run_goes_on_after_a_refusal(rt: HostRuntime) -> Result<(), Fail> {
             let mut arena: DedupArena<usize, u32, Logged<'_>> = DedupArena::new(heap);
             let commands = (0..20u32)
                 .map(|value| DedupCommand::Alloc(value))
-                .collect(heap)?;
+                .collect(heap)
+                .or_abort(&rt);
             log.refuse_once(nth);
             match run_dedup(heap, &mut arena, commands) {
                 Ok(replies) => assert!(rt;
@@ -339,13 +336,12 @@ fn a_run_goes_on_after_a_refusal(rt: HostRuntime) -> Result<(), Fail> {
                 ),
             }
             for value in 0..20u32 {
-                arena.alloc(value)?;
+                arena.alloc(value).or_abort(&rt);
             }
             assert_equal!(rt; arena.len(), 20, "at {nth}");
         }
         assert_equal!(rt; log.amiss(), 0);
     }
-    Ok(())
 }
 
 // An arena of "a" and "b". Each text is one request, and so is each clone of one.
@@ -360,111 +356,106 @@ fn two_texts<'l>(
 }
 
 #[test]
-fn a_new_value_is_cloned_once(rt: HostRuntime) -> Result<(), Fail> {
+fn a_new_value_is_cloned_once(rt: HostRuntime) {
     let log = Log::new();
     {
         let heap = Logged::new(rt.alloc(), &log);
-        let mut arena = two_texts(heap)?;
+        let mut arena = two_texts(heap).or_abort(&rt);
         let (asked, returned) = (log.requests(), log.returned());
-        assert_equal!(rt; arena.alloc(String::from_str(heap, "a")?)?, 0);
+        assert_equal!(rt; arena.alloc(String::from_str(heap, "a").or_abort(&rt)).or_abort(&rt), 0);
         assert_equal!(rt;
             (log.requests(), log.returned()),
             (asked.wrapping_add(1), returned.wrapping_add(1))
         );
-        assert_equal!(rt; arena.alloc(String::from_str(heap, "c")?)?, 2);
+        assert_equal!(rt; arena.alloc(String::from_str(heap, "c").or_abort(&rt)).or_abort(&rt), 2);
         assert_equal!(rt; log.requests(), asked.wrapping_add(3));
     }
     assert_equal!(rt; log.amiss(), 0);
-    Ok(())
 }
 
 // The value is given memory, and its clone is refused.
 #[test]
-fn a_value_whose_clone_is_refused_is_dropped(rt: HostRuntime) -> Result<(), Fail> {
+fn a_value_whose_clone_is_refused_is_dropped(rt: HostRuntime) {
     let log = Log::new();
     {
         let heap = Logged::new(rt.alloc(), &log);
-        let mut arena = two_texts(heap)?;
+        let mut arena = two_texts(heap).or_abort(&rt);
         log.refuse_once(2);
-        let refused = arena.alloc(String::from_str(heap, "d")?);
+        let refused = arena.alloc(String::from_str(heap, "d").or_abort(&rt));
         assert_equal!(rt; refused, Err(ArenaError::OutOfSystemMemory));
         arena.clear();
-        assert_equal!(rt; arena.alloc(String::from_str(heap, "b")?)?, 0);
+        assert_equal!(rt; arena.alloc(String::from_str(heap, "b").or_abort(&rt)).or_abort(&rt), 0);
     }
     assert_equal!(rt; log.amiss(), 0);
-    Ok(())
 }
 
 // Both clones of a new value are refused in turn. Nothing is asked for a value that is there.
 #[test]
-fn a_value_by_reference_is_cloned_twice(rt: HostRuntime) -> Result<(), Fail> {
+fn a_value_by_reference_is_cloned_twice(rt: HostRuntime) {
     let log = Log::new();
     {
         let heap = Logged::new(rt.alloc(), &log);
-        let mut arena = two_texts(heap)?;
-        let known = String::from_str(heap, "a")?;
-        let new = String::from_str(heap, "c")?;
+        let mut arena = two_texts(heap).or_abort(&rt);
+        let known = String::from_str(heap, "a").or_abort(&rt);
+        let new = String::from_str(heap, "c").or_abort(&rt);
         let asked = log.requests();
-        assert_equal!(rt; (arena.alloc_ref(&known)?, log.requests()), (0, asked));
+        assert_equal!(rt; (arena.alloc_ref(&known).or_abort(&rt), log.requests()), (0, asked));
         for nth in [1, 2] {
             log.refuse_once(nth);
             assert_equal!(rt; arena.alloc_ref(&new), Err(ArenaError::OutOfSystemMemory));
             assert_equal!(rt; (arena.key_of(&new), arena.len()), (None, 2), "at {nth}");
         }
-        assert_equal!(rt; arena.alloc_ref(&new)?, 2);
+        assert_equal!(rt; arena.alloc_ref(&new).or_abort(&rt), 2);
         assert_equal!(rt; log.requests(), asked.wrapping_add(5));
         assert_equal!(rt; (arena.key_of(&new), arena.len()), (Some(2), 3));
     }
     assert_equal!(rt; log.amiss(), 0);
-    Ok(())
 }
 
 // A new text is copied twice, and both copies are refused in turn. Nothing is asked for one that is there.
 #[test]
-fn a_text_that_is_there_is_not_copied(rt: HostRuntime) -> Result<(), Fail> {
+fn a_text_that_is_there_is_not_copied(rt: HostRuntime) {
     let log = Log::new();
     {
         let heap = Logged::new(rt.alloc(), &log);
-        let mut arena = two_texts(heap)?;
+        let mut arena = two_texts(heap).or_abort(&rt);
         let asked = log.requests();
-        assert_equal!(rt; (arena.alloc_str(heap, "b")?, log.requests()), (1, asked));
+        assert_equal!(rt; (arena.alloc_str(heap, "b").or_abort(&rt), log.requests()), (1, asked));
         for nth in [1, 2] {
             log.refuse_once(nth);
             assert_equal!(rt; arena.alloc_str(heap, "c"), Err(ArenaError::OutOfSystemMemory));
             assert_equal!(rt; (arena.key_of_str("c"), arena.len()), (None, 2), "at {nth}");
         }
-        assert_equal!(rt; (arena.alloc_str(heap, "c")?, arena.key_of_str("c")), (2, Some(2)));
+        assert_equal!(rt; (arena.alloc_str(heap, "c").or_abort(&rt), arena.key_of_str("c")), (2, Some(2)));
         assert_equal!(rt; log.requests(), asked.wrapping_add(5));
     }
     assert_equal!(rt; log.amiss(), 0);
-    Ok(())
 }
 
 // However long it is.
 #[test]
-fn a_long_text_that_is_there_is_not_copied(rt: HostRuntime) -> Result<(), Fail> {
+fn a_long_text_that_is_there_is_not_copied(rt: HostRuntime) {
     let mut long = String::new(rt.alloc());
     for _ in 0..7_000 {
-        long.push_str("0123456789")?;
+        long.push_str("0123456789").or_abort(&rt);
     }
     let log = Log::new();
     let heap = Logged::new(rt.alloc(), &log);
-    let mut texts = two_texts(heap)?;
+    let mut texts = two_texts(heap).or_abort(&rt);
     let mut interner = StringInterner::new(heap);
-    let key = texts.alloc_str(heap, long.as_str())?;
-    let symbol = interner.get_or_intern(long.as_str())?;
+    let key = texts.alloc_str(heap, long.as_str()).or_abort(&rt);
+    let symbol = interner.get_or_intern(long.as_str()).or_abort(&rt);
     log.refuse_from(1);
     let asked = log.requests();
     assert_equal!(rt; texts.alloc_str(heap, long.as_str()), Ok(key));
     assert_equal!(rt; interner.get_or_intern(long.as_str()), Ok(symbol));
     assert_equal!(rt; interner.extend([long.as_str()]), Ok(()));
     assert_equal!(rt; log.requests(), asked);
-    Ok(())
 }
 
 // A value without a key or without memory, and an item without a place.
 #[test]
-fn what_is_refused_is_dropped(rt: HostRuntime) -> Result<(), Fail> {
+fn what_is_refused_is_dropped(rt: HostRuntime) {
     for nth in 1..12 {
         let log = Log::new();
         {
@@ -478,22 +469,22 @@ fn what_is_refused_is_dropped(rt: HostRuntime) -> Result<(), Fail> {
             }
             log.refuse_none();
             assert!(rt; arena.len() > 2, "at {nth}");
-            let mut texts = two_texts(heap)?;
-            let refused = texts.put(9, String::from_str(heap, "z")?).err();
+            let mut texts = two_texts(heap).or_abort(&rt);
+            let refused = texts
+                .put(9, String::from_str(heap, "z").or_abort(&rt))
+                .err();
             assert_equal!(rt; refused, Some(ArenaError::KeyOutOfBounds));
         }
         assert_equal!(rt; log.amiss(), 0, "at {nth}");
     }
-    Ok(())
 }
 
 // As any other.
 #[test]
-fn an_empty_text_has_a_key(rt: HostRuntime) -> Result<(), Fail> {
+fn an_empty_text_has_a_key(rt: HostRuntime) {
     let mut texts: DedupArena<usize, String> = DedupArena::new(rt.alloc());
     for (text, key) in [("a", 0), ("", 1), ("a", 0), ("", 1)] {
-        assert_equal!(rt; texts.alloc_str(rt.alloc(), text)?, key);
+        assert_equal!(rt; texts.alloc_str(rt.alloc(), text).or_abort(&rt), key);
         assert_equal!(rt; texts.key_of_str(text), Some(key));
     }
-    Ok(())
 }

@@ -1,7 +1,7 @@
-//! Whatever comes to a run is dropped once: put in, kept out, taken out, refused, or not reached.
+//! What comes to a run is dropped once: put in, kept out, taken out, refused, or not reached. What memory runs ask for.
+use crate::or_abort::OrAbort;
 use std::alloc::AllocError;
 use std::cell::Cell;
-use std::test::Fail;
 use wasmi_collections::arena::{ArenaError, DedupArena};
 use wasmi_collections::run::{
     DedupCommand, InternCommand, MapCommand, SetCommand, run_dedup, run_interner, run_map, run_set,
@@ -82,26 +82,30 @@ fn set_runs(is_hashed: bool, log: &Log, nth: u64, commands: SetCommands<'_, '_>)
 
 // The first request is that for the replies.
 #[test]
-fn runs_drop_each_key_and_value_once(rt: HostRuntime) -> Result<(), Fail> {
+fn runs_drop_each_key_and_value_once(rt: HostRuntime) {
     let (log, keys, values) = (Log::new(), Notes::new(), Cell::new(0u64));
     let heap = Logged::new(rt.alloc(), &log);
     for nth in 1..=5u64 {
         for is_hashed in [false, true] {
-            let commands = map_commands(heap, &keys, &values)?;
+            let commands = map_commands(heap, &keys, &values).or_abort(&rt);
             let ran = map_runs(is_hashed, &log, nth, commands);
             assert_equal!(rt; ran, nth != 1, "{is_hashed} {nth}");
             assert_equal!(rt; (keys.dropped(), values.replace(0)), (28, 20), "{is_hashed} {nth}");
-            let ran = set_runs(is_hashed, &log, nth, set_commands(heap, &keys)?);
+            let ran = set_runs(
+                is_hashed,
+                &log,
+                nth,
+                set_commands(heap, &keys).or_abort(&rt),
+            );
             assert_equal!(rt; (ran, keys.dropped()), (nth != 1, 24), "{is_hashed} {nth}");
         }
     }
     assert_equal!(rt; log.amiss(), 0);
-    Ok(())
 }
 
 // There is no key for the fifth value. From the first request on, each is refused in turn.
 #[test]
-fn a_list_that_is_refused_gives_its_memory_back(rt: HostRuntime) -> Result<(), Fail> {
+fn a_list_that_is_refused_gives_its_memory_back(rt: HostRuntime) {
     for nth in 0..8u64 {
         let log = Log::new();
         log.refuse_once(nth);
@@ -111,7 +115,6 @@ fn a_list_that_is_refused_gives_its_memory_back(rt: HostRuntime) -> Result<(), F
         );
         assert_equal!(rt; (made.is_err(), log.amiss()), (true, 0), "at {nth}");
     }
-    Ok(())
 }
 
 // Whether all bytes that were asked for since there were `before` of them are those of a list of the
@@ -127,26 +130,35 @@ fn asks_for_these<T: Drop>(
 }
 
 #[test]
-fn a_run_asks_for_its_replies_alone(rt: HostRuntime) -> Result<(), Fail> {
+fn a_run_asks_for_its_replies_alone(rt: HostRuntime) {
     let log = Log::new();
     let heap = Logged::new(rt.alloc(), &log);
-    let commands = (0..9).map(|_| InternCommand::Len).collect(heap)?;
+    let commands = (0..9)
+        .map(|_| InternCommand::Len)
+        .collect(heap)
+        .or_abort(&rt);
     let before = log.bytes();
-    let replies = run_interner(heap, &mut StringInterner::new(rt.alloc()), commands)?;
-    assert!(rt; asks_for_these(&log, before, &replies)?);
-    let commands = (0..9).map(|_| MapCommand::<u32, i64>::Len).collect(heap)?;
+    let replies = run_interner(heap, &mut StringInterner::new(rt.alloc()), commands).or_abort(&rt);
+    assert!(rt; asks_for_these(&log, before, &replies).or_abort(&rt));
+    let commands = (0..9)
+        .map(|_| MapCommand::<u32, i64>::Len)
+        .collect(heap)
+        .or_abort(&rt);
     let before = log.bytes();
-    let replies = run_map(heap, &mut ordered::Map::new(rt.alloc()), commands)?;
-    assert!(rt; asks_for_these(&log, before, &replies)?);
-    let commands = (0..9).map(|_| SetCommand::<u32>::Len).collect(heap)?;
+    let replies = run_map(heap, &mut ordered::Map::new(rt.alloc()), commands).or_abort(&rt);
+    assert!(rt; asks_for_these(&log, before, &replies).or_abort(&rt));
+    let commands = (0..9)
+        .map(|_| SetCommand::<u32>::Len)
+        .collect(heap)
+        .or_abort(&rt);
     let before = log.bytes();
-    let replies = run_set(heap, &mut ordered::Set::new(rt.alloc()), commands)?;
-    assert!(rt; asks_for_these(&log, before, &replies)?);
+    let replies = run_set(heap, &mut ordered::Set::new(rt.alloc()), commands).or_abort(&rt);
+    assert!(rt; asks_for_these(&log, before, &replies).or_abort(&rt));
     let commands = (0..9)
         .map(|_| DedupCommand::<Tiny, i32>::Clear)
-        .collect(heap)?;
+        .collect(heap)
+        .or_abort(&rt);
     let before = log.bytes();
-    let replies = run_dedup(heap, &mut DedupArena::new(rt.alloc()), commands)?;
-    assert!(rt; asks_for_these(&log, before, &replies)?);
-    Ok(())
+    let replies = run_dedup(heap, &mut DedupArena::new(rt.alloc()), commands).or_abort(&rt);
+    assert!(rt; asks_for_these(&log, before, &replies).or_abort(&rt));
 }

@@ -1,7 +1,8 @@
 //! Interners: worked rows and runs, how many texts a search compares, and each request for memory refused
 //! in turn.
+use crate::or_abort::OrAbort;
 use std::alloc::{AllocError, Global};
-use std::test::Fail;
+use std::process::Abort;
 use wasmi_arena::ArenaError;
 use wasmi_collections::StringInterner;
 use wasmi_collections::run::{InternCommand, InternReply, run_interner};
@@ -25,55 +26,50 @@ fn five_texts(alloc: Global) -> Result<StringInterner, ArenaError> {
 }
 
 #[test]
-fn five_texts_have_the_first_symbols(rt: HostRuntime) -> Result<(), Fail> {
+fn five_texts_have_the_first_symbols(rt: HostRuntime) {
     let mut interner = StringInterner::new(rt.alloc());
     assert!(rt; interner.is_empty());
     for (text, number) in [("b", 0), ("a", 1), ("bb", 2), ("", 3), ("é", 4)] {
         let symbol = Sym::from_u32(number);
         assert!(rt; interner.get(text).is_none(), "of {text}");
-        assert_equal!(rt; interner.get_or_intern(text)?, symbol, "of {text}");
+        assert_equal!(rt; interner.get_or_intern(text).or_abort(&rt), symbol, "of {text}");
         assert_equal!(rt; interner.get(text), Some(symbol), "of {text}");
     }
     assert_equal!(rt; (interner.len(), interner.is_empty()), (5, false));
-    Ok(())
 }
 
 #[test]
-fn a_hint_changes_nothing(rt: HostRuntime) -> Result<(), Fail> {
-    let mut interner = five_texts(rt.alloc())?;
+fn a_hint_changes_nothing(rt: HostRuntime) {
+    let mut interner = five_texts(rt.alloc()).or_abort(&rt);
     for hint in HINTS {
-        let symbol = interner.get_or_intern_with_hint("b", hint)?;
+        let symbol = interner.get_or_intern_with_hint("b", hint).or_abort(&rt);
         assert_equal!(rt; (symbol.into_u32(), interner.len()), (0, 5));
     }
-    Ok(())
 }
 
 #[test]
-fn a_symbol_has_its_text(rt: HostRuntime) -> Result<(), Fail> {
-    let interner = five_texts(rt.alloc())?;
+fn a_symbol_has_its_text(rt: HostRuntime) {
+    let interner = five_texts(rt.alloc()).or_abort(&rt);
     for (number, text) in [(0, Some("b")), (4, Some("é")), (5, None), (u32::MAX, None)] {
         assert_equal!(rt; interner.resolve(Sym::from_u32(number)), text);
     }
-    Ok(())
 }
 
 #[test]
-fn five_texts_take_three_steps_at_most(rt: HostRuntime) -> Result<(), Fail> {
-    let interner = five_texts(rt.alloc())?;
+fn five_texts_take_three_steps_at_most(rt: HostRuntime) {
+    let interner = five_texts(rt.alloc()).or_abort(&rt);
     for text in ["", "a", "b", "c", "aa", "bb", "bc", "é", "zz", "bbb"] {
         let mut steps = Steps::new();
         assert_equal!(rt; interner.get_counted(text, &mut steps), interner.get(text));
         assert!(rt; 1 <= steps.count() && steps.count() <= 3, "of {text}");
     }
-    Ok(())
 }
 
 #[test]
-fn texts_are_shown_as_a_list(rt: HostRuntime) -> Result<(), Fail> {
-    let interner = five_texts(rt.alloc())?;
-    let text = format!(in rt.alloc(); "{interner:?}")?;
+fn texts_are_shown_as_a_list(rt: HostRuntime) {
+    let interner = five_texts(rt.alloc()).or_abort(&rt);
+    let text = format!(in rt.alloc(); "{interner:?}").or_abort(&rt);
     assert_equal!(rt; text.as_str(), "[\"b\", \"a\", \"bb\", \"\", \"é\"]");
-    Ok(())
 }
 
 #[test]
@@ -116,9 +112,9 @@ fn letters(alloc: Global, count: usize) -> Result<StringInterner, ArenaError> {
 }
 
 #[test]
-fn a_search_is_binary(rt: HostRuntime) -> Result<(), Fail> {
+fn a_search_is_binary(rt: HostRuntime) {
     for (count, most) in [(0, 0), (1, 1), (2, 2), (3, 2), (4, 3), (7, 3), (8, 4)] {
-        let interner = letters(rt.alloc(), count)?;
+        let interner = letters(rt.alloc(), count).or_abort(&rt);
         assert_equal!(rt; interner.len(), count);
         let mut greatest = 0;
         for text in [
@@ -132,12 +128,11 @@ fn a_search_is_binary(rt: HostRuntime) -> Result<(), Fail> {
         }
         assert_equal!(rt; greatest, most, "among {count}");
     }
-    Ok(())
 }
 
 #[test]
-fn the_middle_is_compared_first(rt: HostRuntime) -> Result<(), Fail> {
-    let interner = letters(rt.alloc(), 7)?;
+fn the_middle_is_compared_first(rt: HostRuntime) {
+    let interner = letters(rt.alloc(), 7).or_abort(&rt);
     for (text, count) in [
         ("h", 1),
         ("d", 2),
@@ -151,7 +146,6 @@ fn the_middle_is_compared_first(rt: HostRuntime) -> Result<(), Fail> {
         let _symbol = interner.get_counted(text, &mut steps);
         assert_equal!(rt; steps.count(), count, "of {text}");
     }
-    Ok(())
 }
 
 fn commands(alloc: Global) -> Result<Vec<InternCommand>, AllocError> {
@@ -176,9 +170,14 @@ fn commands(alloc: Global) -> Result<Vec<InternCommand>, AllocError> {
 }
 
 #[test]
-fn a_run_replies_as_the_table_says(rt: HostRuntime) -> Result<(), Fail> {
+fn a_run_replies_as_the_table_says(rt: HostRuntime) {
     let mut interner = StringInterner::new(rt.alloc());
-    let replies = run_interner(rt.alloc(), &mut interner, commands(rt.alloc())?)?;
+    let replies = run_interner(
+        rt.alloc(),
+        &mut interner,
+        commands(rt.alloc()).or_abort(&rt),
+    )
+    .or_abort(&rt);
     let expected = [
         InternReply::Sym(Sym::from_u32(0)),
         InternReply::Sym(Sym::from_u32(1)),
@@ -190,33 +189,31 @@ fn a_run_replies_as_the_table_says(rt: HostRuntime) -> Result<(), Fail> {
     ];
     assert_equal!(rt; replies.as_slice(), expected.as_slice());
     assert_equal!(rt; interner.len(), 3);
-    Ok(())
 }
 
 // A text of its own for each number below 3,001, in no order.
-fn scattered(alloc: Global, number: u32) -> Result<String, Fail> {
-    Ok(format!(in alloc; "{}", number.wrapping_mul(7919) % 3001)?)
+fn scattered(rt: &impl Abort, alloc: Global, number: u32) -> String {
+    format!(in alloc; "{}", number.wrapping_mul(7919) % 3001).or_abort(rt)
 }
 
 // The index has three blocks then. The number 3,001 has twelve binary digits.
 #[test]
-fn three_thousand_texts_are_found(rt: HostRuntime) -> Result<(), Fail> {
+fn three_thousand_texts_are_found(rt: HostRuntime) {
     let mut interner = StringInterner::new(rt.alloc());
     for number in 0..3001 {
-        let text = scattered(rt.alloc(), number)?;
-        let symbol = interner.get_or_intern(text.as_str())?;
+        let text = scattered(&rt, rt.alloc(), number);
+        let symbol = interner.get_or_intern(text.as_str()).or_abort(&rt);
         assert_equal!(rt; symbol.into_u32(), number);
     }
     for number in 0..3001 {
-        let text = scattered(rt.alloc(), number)?;
+        let text = scattered(&rt, rt.alloc(), number);
         let mut steps = Steps::new();
         let symbol = interner.get_counted(text.as_str(), &mut steps);
         assert_equal!(rt; symbol, Some(Sym::from_u32(number)));
         assert!(rt; steps.count() <= 12, "of {number}");
     }
     assert!(rt; interner.get("3001").is_none());
-    assert_equal!(rt; &interner.clone()?, &interner);
-    Ok(())
+    assert_equal!(rt; &interner.clone().or_abort(&rt), &interner);
 }
 
 const NAMES: [&str; 10] = [
@@ -244,7 +241,7 @@ fn goes_on(
 }
 
 #[test]
-fn a_refused_text_changes_nothing(rt: HostRuntime) -> Result<(), Fail> {
+fn a_refused_text_changes_nothing(rt: HostRuntime) {
     let mut refusals = 0u64;
     for nth in 1..30 {
         let log = Log::new();
@@ -255,7 +252,7 @@ fn a_refused_text_changes_nothing(rt: HostRuntime) -> Result<(), Fail> {
             for (len, name) in NAMES.into_iter().enumerate() {
                 if let Err(error) = interner.get_or_intern(name) {
                     assert_equal!(rt; error, ArenaError::OutOfSystemMemory);
-                    assert!(rt; goes_on(&mut interner, len, name)?, "at {nth}");
+                    assert!(rt; goes_on(&mut interner, len, name).or_abort(&rt), "at {nth}");
                     refusals = refusals.wrapping_add(1);
                 }
             }
@@ -266,40 +263,40 @@ fn a_refused_text_changes_nothing(rt: HostRuntime) -> Result<(), Fail> {
     // A block for each text that has a byte, three for the growing texts, three for the first block of the
     // index as it grows, and one for the list of blocks.
     assert_equal!(rt; refusals, 16);
-    Ok(())
 }
 
 // An interner whose index has one block, which is full.
 fn with_a_full_block<'l>(
+    rt: &impl Abort,
     handle: Logged<'l>,
     alloc: Global,
-) -> Result<StringInterner<Logged<'l>>, Fail> {
+) -> StringInterner<Logged<'l>> {
     let mut interner = StringInterner::new(handle);
     for number in 0..1024 {
-        let text = scattered(alloc, number)?;
-        let _symbol = interner.get_or_intern(text.as_str())?;
+        let text = scattered(rt, alloc, number);
+        let _symbol = interner.get_or_intern(text.as_str()).or_abort(rt);
     }
-    Ok(interner)
+    interner
 }
 
 // One text more asks for a larger list of texts, for a block of the index, and for its copy.
 #[test]
-fn a_refused_block_of_the_index_is_opened_later(rt: HostRuntime) -> Result<(), Fail> {
+fn a_refused_block_of_the_index_is_opened_later(rt: HostRuntime) {
     let mut refusals = 0u64;
     for nth in 1..6 {
         let log = Log::new();
         {
             let handle = Logged::new(rt.alloc(), &log);
-            let mut interner = with_a_full_block(handle, rt.alloc())?;
+            let mut interner = with_a_full_block(&rt, handle, rt.alloc());
             log.refuse_once(nth);
             if interner.get_or_intern("memory").is_err() {
                 assert_equal!(rt; (interner.get("memory"), interner.len()), (None, 1024));
                 refusals = refusals.wrapping_add(1);
             }
-            let symbol = interner.get_or_intern("memory")?;
+            let symbol = interner.get_or_intern("memory").or_abort(&rt);
             assert_equal!(rt; symbol.into_u32(), 1024);
             for number in 0..1024 {
-                let text = scattered(rt.alloc(), number)?;
+                let text = scattered(&rt, rt.alloc(), number);
                 let found = interner.get(text.as_str());
                 assert_equal!(rt; found, Some(Sym::from_u32(number)), "at {nth}");
             }
@@ -307,7 +304,6 @@ fn a_refused_block_of_the_index_is_opened_later(rt: HostRuntime) -> Result<(), F
         assert_equal!(rt; log.amiss(), 0);
     }
     assert_equal!(rt; refusals, 3);
-    Ok(())
 }
 
 // An interner of the names. One that is refused is interned again.
@@ -323,13 +319,13 @@ fn with_names<'l>(handle: Logged<'l>) -> Result<StringInterner<Logged<'l>>, Aren
 
 // What is there needs no memory, whatever the hint, and whichever request was refused before.
 #[test]
-fn a_text_that_is_there_needs_no_memory(rt: HostRuntime) -> Result<(), Fail> {
+fn a_text_that_is_there_needs_no_memory(rt: HostRuntime) {
     for nth in 1..30 {
         let log = Log::new();
         {
             let handle = Logged::new(rt.alloc(), &log);
             log.refuse_once(nth);
-            let mut interner = with_names(handle)?;
+            let mut interner = with_names(handle).or_abort(&rt);
             log.refuse_from(1);
             let asked = log.requests();
             for hint in HINTS {
@@ -341,16 +337,15 @@ fn a_text_that_is_there_needs_no_memory(rt: HostRuntime) -> Result<(), Fail> {
         }
         assert_equal!(rt; log.amiss(), 0);
     }
-    Ok(())
 }
 
 #[test]
-fn a_third_text_is_refused(rt: HostRuntime) -> Result<(), Fail> {
+fn a_third_text_is_refused(rt: HostRuntime) {
     let log = Log::new();
     let handle = Logged::new(rt.alloc(), &log);
     let mut interner = StringInterner::new(handle);
-    let _a = interner.get_or_intern("a")?;
-    let _b = interner.get_or_intern("b")?;
+    let _a = interner.get_or_intern("a").or_abort(&rt);
+    let _b = interner.get_or_intern("b").or_abort(&rt);
     log.refuse_from(1);
     assert_equal!(rt;
         interner.get_or_intern("c"),
@@ -358,50 +353,46 @@ fn a_third_text_is_refused(rt: HostRuntime) -> Result<(), Fail> {
     );
     assert_equal!(rt; (interner.get("c"), interner.len()), (None, 2));
     log.refuse_none();
-    assert_equal!(rt; interner.get_or_intern("c")?, Sym::from_u32(2));
-    Ok(())
+    assert_equal!(rt; interner.get_or_intern("c").or_abort(&rt), Sym::from_u32(2));
 }
 
 // A block for each text that has a byte, one for the texts, and two for the index.
 #[test]
-fn a_clone_asks_for_twelve_blocks(rt: HostRuntime) -> Result<(), Fail> {
+fn a_clone_asks_for_twelve_blocks(rt: HostRuntime) {
     let log = Log::new();
     let handle = Logged::new(rt.alloc(), &log);
-    let interner = with_names(handle)?;
+    let interner = with_names(handle).or_abort(&rt);
     let before = log.requests();
-    let copy = interner.clone()?;
+    let copy = interner.clone().or_abort(&rt);
     assert_equal!(rt; log.requests().wrapping_sub(before), 12);
     assert_equal!(rt; &copy, &interner);
-    Ok(())
 }
 
 #[test]
-fn a_clone_has_texts_of_its_own(rt: HostRuntime) -> Result<(), Fail> {
+fn a_clone_has_texts_of_its_own(rt: HostRuntime) {
     let log = Log::new();
     let handle = Logged::new(rt.alloc(), &log);
-    let interner = with_names(handle)?;
-    let mut copy = interner.clone()?;
-    let _more = copy.get_or_intern("import")?;
+    let interner = with_names(handle).or_abort(&rt);
+    let mut copy = interner.clone().or_abort(&rt);
+    let _more = copy.get_or_intern("import").or_abort(&rt);
     assert!(rt; copy != interner && has_first(&interner, 10));
-    Ok(())
 }
 
 #[test]
-fn a_refused_clone_leaves_its_source(rt: HostRuntime) -> Result<(), Fail> {
+fn a_refused_clone_leaves_its_source(rt: HostRuntime) {
     let log = Log::new();
     {
         let handle = Logged::new(rt.alloc(), &log);
-        let interner = with_names(handle)?;
+        let interner = with_names(handle).or_abort(&rt);
         for nth in 1..13 {
             log.refuse_once(nth);
             let refused = interner.clone().err();
             assert_equal!(rt; refused, Some(ArenaError::OutOfSystemMemory), "at {nth}");
             assert!(rt; has_first(&interner, 10), "at {nth}");
         }
-        assert_equal!(rt; &interner.clone()?, &interner);
+        assert_equal!(rt; &interner.clone().or_abort(&rt), &interner);
     }
     assert_equal!(rt; log.amiss(), 0);
-    Ok(())
 }
 
 // Commands that hand in each name.
@@ -440,13 +431,13 @@ fn refused_of(
 
 // Each request of a run refused in turn. The first is for the replies.
 #[test]
-fn a_run_goes_on_after_a_refusal(rt: HostRuntime) -> Result<(), Fail> {
+fn a_run_goes_on_after_a_refusal(rt: HostRuntime) {
     for nth in 1..20 {
         let log = Log::new();
         {
             let handle = Logged::new(rt.alloc(), &log);
             let mut interner = StringInterner::new(handle);
-            let commands = hand_ins(rt.alloc(), handle)?;
+            let commands = hand_ins(rt.alloc(), handle).or_abort(&rt);
             log.refuse_once(nth);
             match run_interner(handle, &mut interner, commands) {
                 Ok(replies) => assert!(rt;
@@ -459,40 +450,39 @@ fn a_run_goes_on_after_a_refusal(rt: HostRuntime) -> Result<(), Fail> {
                 ),
             }
             for name in NAMES {
-                let _symbol = interner.get_or_intern(name)?;
+                let _symbol = interner.get_or_intern(name).or_abort(&rt);
             }
             assert_equal!(rt; interner.len(), 10, "at {nth}");
         }
         assert_equal!(rt; log.amiss(), 0);
     }
-    Ok(())
 }
 
 #[test]
-fn an_empty_interner_is_cloned(rt: HostRuntime) -> Result<(), Fail> {
+fn an_empty_interner_is_cloned(rt: HostRuntime) {
     let log = Log::new();
     let mut interner = StringInterner::new(Logged::new(rt.alloc(), &log));
-    interner.get_or_intern("a")?;
+    interner.get_or_intern("a").or_abort(&rt);
     interner.clear();
     log.refuse_from(1);
-    let mut copy = interner.clone()?;
+    let mut copy = interner.clone().or_abort(&rt);
     assert_equal!(rt; &copy, &interner);
     log.refuse_none();
-    assert_equal!(rt; copy.get_or_intern("b")?, Sym::from_u32(0));
-    Ok(())
+    assert_equal!(rt; copy.get_or_intern("b").or_abort(&rt), Sym::from_u32(0));
 }
 
 // A new one is one clone, and so is a block that it opens.
 #[test]
-fn a_text_that_is_there_clones_no_handle(rt: HostRuntime) -> Result<(), Fail> {
+fn a_text_that_is_there_clones_no_handle(rt: HostRuntime) {
     let log = Log::new();
-    let mut interner = with_names(Logged::new(rt.alloc(), &log))?;
+    let mut interner = with_names(Logged::new(rt.alloc(), &log)).or_abort(&rt);
     let clones = log.clones();
     for hint in HINTS {
-        interner.get_or_intern_with_hint("global", hint)?;
+        interner
+            .get_or_intern_with_hint("global", hint)
+            .or_abort(&rt);
     }
     assert_equal!(rt; log.clones(), clones);
-    interner.get_or_intern("import")?;
+    interner.get_or_intern("import").or_abort(&rt);
     assert_equal!(rt; log.clones(), clones.wrapping_add(1));
-    Ok(())
 }

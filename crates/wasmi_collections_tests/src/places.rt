@@ -1,5 +1,5 @@
 //! Many values and texts, and the places that they ask for.
-use std::test::Fail;
+use crate::or_abort::OrAbort;
 use wasmi_collections::StringInterner;
 use wasmi_collections::arena::{Arena, ArenaError, DedupArena};
 use wasmi_collections::hash::FixedState;
@@ -10,16 +10,16 @@ use wasmi_vectors::observed::Log;
 
 // From empty on, past the growths of each part.
 #[test]
-fn many_values_and_texts(rt: HostRuntime) -> Result<(), Fail> {
+fn many_values_and_texts(rt: HostRuntime) {
     let mut numbers: DedupArena<usize, u32> = DedupArena::new(rt.alloc());
     let mut texts: DedupArena<usize, String> = DedupArena::new(rt.alloc());
     let mut interner = StringInterner::new(rt.alloc());
     let mut long = String::new(rt.alloc());
     for _ in 0..7_000 {
-        long.push_str("0123456789")?;
+        long.push_str("0123456789").or_abort(&rt);
     }
     for number in 0..5_000u32 {
-        let short = format!(in rt.alloc(); "{number}")?;
+        let short = format!(in rt.alloc(); "{number}").or_abort(&rt);
         let text = if number == 4_500 {
             long.as_str()
         } else {
@@ -33,7 +33,6 @@ fn many_values_and_texts(rt: HostRuntime) -> Result<(), Fail> {
     assert_equal!(rt; (texts.key_of_str(long.as_str()), texts.key_of_str("4500")), (Some(4_500), None));
     let symbol = interner.get(long.as_str()).map(|symbol| symbol.into_u32());
     assert_equal!(rt; symbol, Some(4_500));
-    Ok(())
 }
 
 // Adds a number, puts another in its place, and then that one again, by both calls.
@@ -68,7 +67,7 @@ fn add_apart(
 
 // Whichever call adds a value, and for nothing where the value is there.
 #[test]
-fn a_value_asks_for_its_places_alone(rt: HostRuntime) -> Result<(), Fail> {
+fn a_value_asks_for_its_places_alone(rt: HostRuntime) {
     let (log, apart) = (Log::new(), Log::new());
     let heap = Logged::new(rt.alloc(), &log);
     let other = Logged::new(rt.alloc(), &apart);
@@ -76,11 +75,10 @@ fn a_value_asks_for_its_places_alone(rt: HostRuntime) -> Result<(), Fail> {
     let mut items = Arena::new(other);
     let mut index = Map::new(other);
     for number in 0..5_000u32 {
-        add_number(&mut arena, number)?;
-        add_apart(&mut items, &mut index, number)?;
+        add_number(&mut arena, number).or_abort(&rt);
+        add_apart(&mut items, &mut index, number).or_abort(&rt);
         assert_equal!(rt; (log.requests(), log.bytes()), (apart.requests(), apart.bytes()), "of {number}");
     }
-    Ok(())
 }
 
 type Texts<'l> = DedupArena<usize, String<Logged<'l>>, Logged<'l>>;
@@ -102,14 +100,13 @@ fn asked_for_text<'l>(
 
 // The two copies of a new one, and a block of the items and of the index at the most. The last fills the items.
 #[test]
-fn a_text_asks_for_its_places_alone(rt: HostRuntime) -> Result<(), Fail> {
+fn a_text_asks_for_its_places_alone(rt: HostRuntime) {
     let log = Log::new();
     let heap = Logged::new(rt.alloc(), &log);
     let mut arena: Texts<'_> = DedupArena::new(heap);
     for text in ["a", "b", "c", "d"] {
-        let (requests, bytes) = asked_for_text(&mut arena, heap, &log, text)?;
+        let (requests, bytes) = asked_for_text(&mut arena, heap, &log, text).or_abort(&rt);
         assert!(rt; requests < 8 && bytes < 1_200, "of {text}");
-        assert_equal!(rt; asked_for_text(&mut arena, heap, &log, text)?, (0, 0), "of {text}");
+        assert_equal!(rt; asked_for_text(&mut arena, heap, &log, text).or_abort(&rt), (0, 0), "of {text}");
     }
-    Ok(())
 }

@@ -1,7 +1,7 @@
 //! Each container's `{:#?}`: a line for each item.
+use crate::or_abort::OrAbort;
 use std::alloc::{AllocError, Global};
 use std::fmt::{self, Debug, Write};
-use std::test::Fail;
 use wasmi_collections::arena::{
     Arena, ArenaError, ComponentVec, DedupArena, StableArena, StableVec,
 };
@@ -88,21 +88,20 @@ fn component_vec(alloc: Global) -> Result<String, ArenaError> {
 }
 
 #[test]
-fn containers_print_a_line_for_each_item(rt: HostRuntime) -> Result<(), Fail> {
+fn containers_print_a_line_for_each_item(rt: HostRuntime) {
     let (list, entries, set) = ("[\n    7,\n]", "{\n    0: 7,\n}", "{\n    7,\n}");
-    assert_equal!(rt; stable_vec(rt.alloc())?.as_str(), list);
-    assert_equal!(rt; stable_arena(rt.alloc())?.as_str(), entries);
-    assert_equal!(rt; arena(rt.alloc())?.as_str(), entries);
-    assert_equal!(rt; dedup_arena(rt.alloc())?.as_str(), entries);
-    assert_equal!(rt; head_vec(rt.alloc())?.as_str(), list);
-    assert_equal!(rt; ordered_map(rt.alloc())?.as_str(), entries);
-    assert_equal!(rt; hashed_map(rt.alloc())?.as_str(), entries);
-    assert_equal!(rt; ordered_set(rt.alloc())?.as_str(), set);
-    assert_equal!(rt; hashed_set(rt.alloc())?.as_str(), set);
-    assert_equal!(rt; interner(rt.alloc())?.as_str(), "[\n    \"x\",\n]");
+    assert_equal!(rt; stable_vec(rt.alloc()).or_abort(&rt).as_str(), list);
+    assert_equal!(rt; stable_arena(rt.alloc()).or_abort(&rt).as_str(), entries);
+    assert_equal!(rt; arena(rt.alloc()).or_abort(&rt).as_str(), entries);
+    assert_equal!(rt; dedup_arena(rt.alloc()).or_abort(&rt).as_str(), entries);
+    assert_equal!(rt; head_vec(rt.alloc()).or_abort(&rt).as_str(), list);
+    assert_equal!(rt; ordered_map(rt.alloc()).or_abort(&rt).as_str(), entries);
+    assert_equal!(rt; hashed_map(rt.alloc()).or_abort(&rt).as_str(), entries);
+    assert_equal!(rt; ordered_set(rt.alloc()).or_abort(&rt).as_str(), set);
+    assert_equal!(rt; hashed_set(rt.alloc()).or_abort(&rt).as_str(), set);
+    assert_equal!(rt; interner(rt.alloc()).or_abort(&rt).as_str(), "[\n    \"x\",\n]");
     assert_equal!(rt;
-        component_vec(rt.alloc())?.as_str(),
+        component_vec(rt.alloc()).or_abort(&rt).as_str(),
         "ComponentVec {\n    components: {\n        0: 7,\n    },\n}"
     );
-    Ok(())
 }

@@ -6,10 +6,10 @@ ghost use Rattle.std.specs.Cmp.Rules.{hashing};
 ghost use Rattle.std.specs.Hash as fed;
 ghost use Rattle.std.proofs.Common.{rules};
 
+use crate::or_abort::OrAbort;
 use std::alloc::{AllocError, Global};
 use std::cell::Cell;
 use std::hash::{Hash, Hasher};
-use std::test::Fail;
 use wasmi_collections::arena::{ArenaError, DedupArena};
 use wasmi_collections::run::{DedupCommand, DedupReply, run_dedup};
 use wasmi_vectors::assert_equal;
@@ -126,7 +126,7 @@ fn costs(alloc: Global, len: u32, key: usize, number: u32) -> Result<(u64, u64, 
 // The value and the one that it takes the place of are looked up, and that one is taken out; where another
 // item was written, it is cloned to be looked up. What isn't returned is dropped.
 #[test]
-fn a_call_costs_the_same_in_any_arena(rt: HostRuntime) -> Result<(), Fail> {
+fn a_call_costs_the_same_in_any_arena(rt: HostRuntime) {
     for len in [100, 4_096, 5_000] {
         for (key, number, want) in [
             (5, 9_999, (2, 1, 1)),
@@ -135,20 +135,19 @@ fn a_call_costs_the_same_in_any_arena(rt: HostRuntime) -> Result<(), Fail> {
             (5, 8, (1, 0, 1)),
             (50_000, 8, (0, 0, 1)),
         ] {
-            assert_equal!(rt; costs(rt.alloc(), len, key, number)?, want, "{number} at {key} of {len}");
+            assert_equal!(rt; costs(rt.alloc(), len, key, number).or_abort(&rt), want, "{number} at {key} of {len}");
         }
     }
-    Ok(())
 }
 
 // A value that is looked up is compared with no other that was handed in.
 #[test]
-fn a_look_compares_one_value(rt: HostRuntime) -> Result<(), Fail> {
+fn a_look_compares_one_value(rt: HostRuntime) {
     let counts = Counts::new();
     let mut arena: DedupArena<usize, Counting<'_>> = DedupArena::new(rt.alloc());
     for number in 0..1_000u32 {
         let counts = &counts;
-        let _key = arena.alloc(Counting { number, counts })?;
+        let _key = arena.alloc(Counting { number, counts }).or_abort(&rt);
     }
     let value = Counting {
         number: 500,
@@ -157,11 +156,10 @@ fn a_look_compares_one_value(rt: HostRuntime) -> Result<(), Fail> {
     let _before = counts.taken();
     assert_equal!(rt; (arena.key_of(&value), counts.taken()), (Some(500), (1, 0, 0)));
     assert_equal!(rt; (arena.alloc_ref(&value), counts.taken()), (Ok(500), (1, 0, 0)));
-    Ok(())
 }
 
 #[test]
-fn the_worked_rows(rt: HostRuntime) -> Result<(), Fail> {
+fn the_worked_rows(rt: HostRuntime) {
     let mut arena: DedupArena<usize, &str> = DedupArena::new(rt.alloc());
     let commands = vec![in rt.alloc();
         DedupCommand::Alloc("a"),
@@ -179,8 +177,9 @@ fn the_worked_rows(rt: HostRuntime) -> Result<(), Fail> {
         DedupCommand::Put(2, "q"),
         DedupCommand::Replace(2, "a"),
         DedupCommand::Alloc("a"),
-    ]?;
-    let replies = run_dedup(rt.alloc(), &mut arena, commands)?;
+    ]
+    .or_abort(&rt);
+    let replies = run_dedup(rt.alloc(), &mut arena, commands).or_abort(&rt);
     assert_equal!(rt;
         replies.as_slice(),
         [
@@ -202,19 +201,17 @@ fn the_worked_rows(rt: HostRuntime) -> Result<(), Fail> {
         ]
         .as_slice()
     );
-    Ok(())
 }
 
 #[test]
-fn a_new_value_needs_no_key(rt: HostRuntime) -> Result<(), Fail> {
+fn a_new_value_needs_no_key(rt: HostRuntime) {
     let mut arena: DedupArena<Tiny, &str> = DedupArena::from_iter(
         rt.alloc(),
         ["p", "q", "r", "s"],
-    )?;
-    let last = arena.alloc("s")?;
-    assert_equal!(rt; (arena.replace(last, "t")?, arena.alloc("t")?), ("s", last));
+    ).or_abort(&rt);
+    let last = arena.alloc("s").or_abort(&rt);
+    assert_equal!(rt; (arena.replace(last, "t").or_abort(&rt), arena.alloc("t").or_abort(&rt)), ("s", last));
     assert_equal!(rt; arena.alloc("s").err(), Some(ArenaError::NotEnoughKeys));
-    Ok(())
 }
 
 // A text whose clone has one more character.
@@ -235,26 +232,29 @@ fn text_to_lengthen<'l>(heap: Logged<'l>, text: &str) -> Result<Longer<'l>, Allo
 
 // What is refused is dropped, and so are the clones that were made for it.
 #[test]
-fn a_clone_that_differs_changes_nothing(rt: HostRuntime) -> Result<(), Fail> {
+fn a_clone_that_differs_changes_nothing(rt: HostRuntime) {
     let log = Log::new();
     {
         let heap = Logged::new(rt.alloc(), &log);
         let mut arena: DedupArena<usize, Longer<'_>, Logged<'_>> = DedupArena::new(heap);
         for text in ["a", "b"] {
-            let _key = arena.alloc(text_to_lengthen(heap, text)?)?;
+            let _key = arena
+                .alloc(text_to_lengthen(heap, text).or_abort(&rt))
+                .or_abort(&rt);
         }
-        let refused = arena.replace(0, text_to_lengthen(heap, "d")?).err();
+        let refused = arena
+            .replace(0, text_to_lengthen(heap, "d").or_abort(&rt))
+            .err();
         assert_equal!(rt; refused, Some(ArenaError::OutOfSystemMemory));
         for (key, item) in ["ax", "bx"].iter().enumerate() {
             assert_equal!(rt; arena.get(key).map(|there| there.0.as_str()), Ok(*item));
         }
         for (key, text) in ["a", "b", "d"].iter().enumerate() {
-            assert_equal!(rt; arena.alloc(text_to_lengthen(heap, *text)?), Ok(key));
+            assert_equal!(rt; arena.alloc(text_to_lengthen(heap, *text).or_abort(&rt)), Ok(key));
         }
         assert_equal!(rt; arena.index().len(), 3);
     }
     assert_equal!(rt; log.amiss(), 0);
-    Ok(())
 }
 
 type Texts<'l> = DedupArena<usize, String<Logged<'l>>, Logged<'l>>;
@@ -288,7 +288,7 @@ fn are_handed<'l>(
 // The requests are for the clone of the value, and for that of the one that it takes the place of, where
 // an item was written there. The index has room.
 #[test]
-fn each_request_refused_in_turn(rt: HostRuntime) -> Result<(), Fail> {
+fn each_request_refused_in_turn(rt: HostRuntime) {
     for (written, text, there, requests) in [
         (false, "d", "b", 1),
         (true, "d", "z", 2),
@@ -298,8 +298,8 @@ fn each_request_refused_in_turn(rt: HostRuntime) -> Result<(), Fail> {
             let log = Log::new();
             {
                 let heap = Logged::new(rt.alloc(), &log);
-                let mut arena = three_texts(heap, written)?;
-                let value = String::from_str(heap, text)?;
+                let mut arena = three_texts(heap, written).or_abort(&rt);
+                let value = String::from_str(heap, text).or_abort(&rt);
                 log.refuse_once(nth);
                 let result = arena.replace(1, value);
                 log.refuse_none();
@@ -311,45 +311,47 @@ fn each_request_refused_in_turn(rt: HostRuntime) -> Result<(), Fail> {
                 };
                 assert_equal!(rt; result.as_ref().map(|there| there.as_str()).map_err(|error| *error), want, "{text} at {nth}");
                 let handed = ["a", if refused { "b" } else { text }, "c"];
-                assert!(rt; are_handed(&mut arena, heap, handed)?, "{text} at {nth}");
+                assert!(rt;
+                    are_handed(&mut arena, heap, handed).or_abort(&rt),
+                    "{text} at {nth}"
+                );
             }
             assert_equal!(rt; log.amiss(), 0);
         }
     }
-    Ok(())
 }
 
 // The first request is for the replies, the second for the clone of the first value.
 #[test]
-fn a_run_goes_on_after_a_refusal(rt: HostRuntime) -> Result<(), Fail> {
+fn a_run_goes_on_after_a_refusal(rt: HostRuntime) {
     let log = Log::new();
     {
         let heap = Logged::new(rt.alloc(), &log);
-        let mut arena = three_texts(heap, false)?;
+        let mut arena = three_texts(heap, false).or_abort(&rt);
         let commands = vec![in heap;
-            DedupCommand::Replace(1, String::from_str(heap, "d")?),
-            DedupCommand::Replace(2, String::from_str(heap, "e")?),
-        ]?;
+            DedupCommand::Replace(1, String::from_str(heap, "d").or_abort(&rt)),
+            DedupCommand::Replace(2, String::from_str(heap, "e").or_abort(&rt)),
+        ]
+        .or_abort(&rt);
         log.refuse_once(2);
-        let replies = run_dedup(heap, &mut arena, commands)?;
+        let replies = run_dedup(heap, &mut arena, commands).or_abort(&rt);
         assert_equal!(rt;
             replies.as_slice(),
             [
                 DedupReply::Refused(ArenaError::OutOfSystemMemory),
-                DedupReply::Old(String::from_str(heap, "c")?)
+                DedupReply::Old(String::from_str(heap, "c").or_abort(&rt))
             ]
             .as_slice()
         );
-        assert!(rt; are_handed(&mut arena, heap, ["a", "b", "e"])?);
+        assert!(rt; are_handed(&mut arena, heap, ["a", "b", "e"]).or_abort(&rt));
     }
     assert_equal!(rt; log.amiss(), 0);
-    Ok(())
 }
 
 // The numbers ask for nothing, so that what is refused is a block of the index, which is asked for only where
 // it is full.
 #[test]
-fn a_refused_growth_changes_nothing(rt: HostRuntime) -> Result<(), Fail> {
+fn a_refused_growth_changes_nothing(rt: HostRuntime) {
     let mut refused = 0u64;
     for len in 1..60u32 {
         let log = Log::new();
@@ -357,7 +359,7 @@ fn a_refused_growth_changes_nothing(rt: HostRuntime) -> Result<(), Fail> {
             let heap = Logged::new(rt.alloc(), &log);
             let mut arena: DedupArena<usize, u32, Logged<'_>> = DedupArena::new(heap);
             for value in 0..len {
-                let _key = arena.alloc(value)?;
+                let _key = arena.alloc(value).or_abort(&rt);
             }
             let full = arena.index().capacity() == len as usize;
             let asked = log.requests();
@@ -379,29 +381,27 @@ fn a_refused_growth_changes_nothing(rt: HostRuntime) -> Result<(), Fail> {
         assert_equal!(rt; log.amiss(), 0);
     }
     assert!(rt; refused > 2);
-    Ok(())
 }
 
 // One entry more than there are values goes into the index, and no item.
 #[test]
-fn many_calls_ask_for_one_block(rt: HostRuntime) -> Result<(), Fail> {
+fn many_calls_ask_for_one_block(rt: HostRuntime) {
     let log = Log::new();
     let heap = Logged::new(rt.alloc(), &log);
     let mut arena: DedupArena<usize, u32, Logged<'_>> = DedupArena::new(heap);
     for value in 0..4u32 {
-        let _key = arena.alloc(value)?;
+        let _key = arena.alloc(value).or_abort(&rt);
     }
     let asked = log.requests();
     for value in 4..1_004u32 {
         assert_equal!(rt; arena.replace((value % 4) as usize, value), Ok(value.wrapping_sub(4)));
     }
     assert!(rt; log.requests().wrapping_sub(asked) < 2);
-    Ok(())
 }
 
 // The clone of the value is refused, or a block of the index.
 #[test]
-fn a_refused_text_is_dropped(rt: HostRuntime) -> Result<(), Fail> {
+fn a_refused_text_is_dropped(rt: HostRuntime) {
     let mut refused = 0u64;
     for len in 1..30u32 {
         let log = Log::new();
@@ -409,9 +409,11 @@ fn a_refused_text_is_dropped(rt: HostRuntime) -> Result<(), Fail> {
             let heap = Logged::new(rt.alloc(), &log);
             let mut arena: Texts<'_> = DedupArena::new(heap);
             for number in 0..len {
-                let _key = arena.alloc(format!(in heap; "{number}")?)?;
+                let _key = arena
+                    .alloc(format!(in heap; "{number}").or_abort(&rt))
+                    .or_abort(&rt);
             }
-            let value = String::from_str(heap, "new")?;
+            let value = String::from_str(heap, "new").or_abort(&rt);
             log.refuse_once(2);
             if arena.replace(0, value).is_err() {
                 refused = refused.wrapping_add(1);
@@ -421,17 +423,17 @@ fn a_refused_text_is_dropped(rt: HostRuntime) -> Result<(), Fail> {
         assert_equal!(rt; log.amiss(), 0);
     }
     assert!(rt; refused > 1);
-    Ok(())
 }
 
 // It was handed in under another key, which it keeps.
 #[test]
-fn an_item_that_equals_another_value_makes_way(rt: HostRuntime) -> Result<(), Fail> {
-    let mut arena: DedupArena<usize, &str> = DedupArena::from_iter(rt.alloc(), ["a", "b"])?;
-    assert_equal!(rt; arena.put(0, "b")?, "a");
+fn an_item_that_equals_another_value_makes_way(rt: HostRuntime) {
+    let mut arena: DedupArena<usize, &str> = DedupArena::from_iter(rt.alloc(), ["a", "b"]).or_abort(
+        &rt,
+    );
+    assert_equal!(rt; arena.put(0, "b").or_abort(&rt), "a");
     assert_equal!(rt; arena.replace(0, "c"), Ok("b"));
     for (value, key) in [("c", 0), ("b", 1), ("a", 2)] {
-        assert_equal!(rt; arena.alloc(value)?, key);
+        assert_equal!(rt; arena.alloc(value).or_abort(&rt), key);
     }
-    Ok(())
 }

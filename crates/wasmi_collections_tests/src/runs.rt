@@ -1,6 +1,6 @@
 //! Lists of commands to maps and sets of both backings.
+use crate::or_abort::OrAbort;
 use std::alloc::{AllocError, Global};
-use std::test::Fail;
 use wasmi_collections::arena::ArenaError;
 use wasmi_collections::hash::RandomState;
 use wasmi_collections::run::{
@@ -44,21 +44,26 @@ const MAP_REPLIES: [MapReply<&'static str>; 10] = [
 ];
 
 #[test]
-fn maps_reply_as_the_table_says(rt: HostRuntime) -> Result<(), Fail> {
+fn maps_reply_as_the_table_says(rt: HostRuntime) {
     let mut map = ordered::Map::new(rt.alloc());
-    let replies = run_map(rt.alloc(), &mut map, map_commands(rt.alloc())?)?;
+    let replies = run_map(rt.alloc(), &mut map, map_commands(rt.alloc()).or_abort(&rt)).or_abort(
+        &rt,
+    );
     assert_equal!(rt; replies.as_slice(), MAP_REPLIES.as_slice());
     assert!(rt; map.is_empty());
     let mut map = hashed::Map::new(rt.alloc());
-    let replies = run_map(rt.alloc(), &mut map, map_commands(rt.alloc())?)?;
+    let replies = run_map(rt.alloc(), &mut map, map_commands(rt.alloc()).or_abort(&rt)).or_abort(
+        &rt,
+    );
     assert_equal!(rt; replies.as_slice(), MAP_REPLIES.as_slice());
     assert!(rt; map.is_empty());
-    let state = RandomState::new(&rt)?;
+    let state = RandomState::new(&rt).or_abort(&rt);
     let mut map = hashed::Map::with_hasher(rt.alloc(), state);
-    let replies = run_map(rt.alloc(), &mut map, map_commands(rt.alloc())?)?;
+    let replies = run_map(rt.alloc(), &mut map, map_commands(rt.alloc()).or_abort(&rt)).or_abort(
+        &rt,
+    );
     assert_equal!(rt; replies.as_slice(), MAP_REPLIES.as_slice());
     assert!(rt; map.is_empty());
-    Ok(())
 }
 
 fn set_commands(alloc: Global) -> Result<Vec<SetCommand<u32>>, AllocError> {
@@ -92,18 +97,23 @@ const SET_REPLIES: [SetReply; 9] = [
 ];
 
 #[test]
-fn sets_reply_as_the_table_says(rt: HostRuntime) -> Result<(), Fail> {
+fn sets_reply_as_the_table_says(rt: HostRuntime) {
     let mut set = ordered::Set::new(rt.alloc());
-    let replies = run_set(rt.alloc(), &mut set, set_commands(rt.alloc())?)?;
+    let replies = run_set(rt.alloc(), &mut set, set_commands(rt.alloc()).or_abort(&rt)).or_abort(
+        &rt,
+    );
     assert_equal!(rt; replies.as_slice(), SET_REPLIES.as_slice());
     let mut set = hashed::Set::new(rt.alloc());
-    let replies = run_set(rt.alloc(), &mut set, set_commands(rt.alloc())?)?;
+    let replies = run_set(rt.alloc(), &mut set, set_commands(rt.alloc()).or_abort(&rt)).or_abort(
+        &rt,
+    );
     assert_equal!(rt; replies.as_slice(), SET_REPLIES.as_slice());
-    let state = RandomState::new(&rt)?;
+    let state = RandomState::new(&rt).or_abort(&rt);
     let mut set = hashed::Set::with_hasher(rt.alloc(), state);
-    let replies = run_set(rt.alloc(), &mut set, set_commands(rt.alloc())?)?;
+    let replies = run_set(rt.alloc(), &mut set, set_commands(rt.alloc()).or_abort(&rt)).or_abort(
+        &rt,
+    );
     assert_equal!(rt; replies.as_slice(), SET_REPLIES.as_slice());
-    Ok(())
 }
 
 // Inserts the keys 0 to 19 by one run of both commands for it in turn, whose nth request for memory is
@@ -196,7 +206,7 @@ fn refused_in(
 
 // The first request is that for the replies. A run whose request is refused later goes on.
 #[test]
-fn runs_over_maps_and_sets_go_on_after_a_refusal(rt: HostRuntime) -> Result<(), Fail> {
+fn runs_over_maps_and_sets_go_on_after_a_refusal(rt: HostRuntime) {
     for nth in 1..=4u64 {
         let outcome = if nth == 1 {
             Err(ArenaError::OutOfSystemMemory)
@@ -213,5 +223,4 @@ fn runs_over_maps_and_sets_go_on_after_a_refusal(rt: HostRuntime) -> Result<(), 
             assert_equal!(rt; log.amiss(), 0);
         }
     }
-    Ok(())
 }

@@ -2,7 +2,6 @@
 ghost use Rattle.std.specs.Prelude.{◌+◌, ◌<◌, ◌^◌};
 
 use std::cmp::Ordering;
-use std::test::Fail;
 use wasmi_collections::string_interner::{Probe, Steps, search};
 use wasmi_vectors::assert_equal;
 
@@ -50,7 +49,7 @@ fn searched(less: usize, is_there: bool, greater: usize) -> (Result<usize, usize
 }
 
 #[test]
-fn what_is_searched_is_found_in_few_looks(rt: HostRuntime) -> Result<(), Fail> {
+fn what_is_searched_is_found_in_few_looks(rt: HostRuntime) {
     // So many items less, whether it is there, so many greater, and the fewest and the most looks.
     let places: [(u32, bool, u32, u64, u64); 15] = [
         (0, false, 0, 0, 0),
@@ -76,5 +75,4 @@ fn what_is_searched_is_found_in_few_looks(rt: HostRuntime) -> Result<(), Fail> {
         assert_equal!(rt; found, place, "{less} less, {greater} greater");
         assert!(rt; fewest <= looks && looks <= most, "{looks} looks");
     }
-    Ok(())
 }

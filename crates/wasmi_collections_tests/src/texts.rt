@@ -1,5 +1,5 @@
 //! The texts of an interner: visited, handed in by an iterator, and dropped.
-use std::test::Fail;
+use crate::or_abort::OrAbort;
 use wasmi_arena::{ArenaError, ArenaKey};
 use wasmi_collections::StringInterner;
 use wasmi_collections::string_interner::Sym;
@@ -9,9 +9,9 @@ use wasmi_vectors::observed::{Log, Observed};
 const NAMES: [&str; 5] = ["memory", "table", "", "global", "é"];
 
 #[test]
-fn texts_are_visited_from_both_ends(rt: HostRuntime) -> Result<(), Fail> {
+fn texts_are_visited_from_both_ends(rt: HostRuntime) {
     let mut interner = StringInterner::new(rt.alloc());
-    interner.extend(NAMES)?;
+    interner.extend(NAMES).or_abort(&rt);
     let mut left = interner.iter();
     for (from_back, number, text, len) in [
         (true, 4, "é", 4),
@@ -27,22 +27,21 @@ fn texts_are_visited_from_both_ends(rt: HostRuntime) -> Result<(), Fail> {
         };
         match visited {
             Some((symbol, there)) => assert_equal!(rt; (symbol.into_u32(), there), (number, text)),
-            None => return Err("a text is left".into()),
+            None => assert!(rt; false, "a text is left"),
         }
         assert_equal!(rt; left.len(), len);
     }
     match (left.next_back(), left.next()) {
         (None, None) => assert_equal!(rt; left.len(), 0),
-        _ => return Err("no text is left".into()),
+        _ => assert!(rt; false, "no text is left"),
     }
     for (symbol, text) in &interner {
         assert_equal!(rt; interner.resolve(symbol), Some(text));
     }
-    Ok(())
 }
 
 #[test]
-fn a_symbol_is_a_key(rt: HostRuntime) -> Result<(), Fail> {
+fn a_symbol_is_a_key(rt: HostRuntime) {
     for number in [0, u32::MAX] {
         let symbol = Sym::from_u32(number);
         let key: Option<Sym> = ArenaKey::from_usize(number as usize);
@@ -51,26 +50,25 @@ fn a_symbol_is_a_key(rt: HostRuntime) -> Result<(), Fail> {
     let none: Option<Sym> = ArenaKey::from_usize(4_294_967_296);
     assert_equal!(rt; none, None);
     let symbol = Sym::from_u32(20);
-    let shown = format!(in rt.alloc(); "{symbol}{symbol:>4}")?;
+    let shown = format!(in rt.alloc(); "{symbol}{symbol:>4}").or_abort(&rt);
     assert_equal!(rt; shown.as_str(), "20  20");
-    Ok(())
 }
 
 // What is there needs no memory. After an error the texts before it stay.
 #[test]
-fn texts_of_an_iterator_are_interned(rt: HostRuntime) -> Result<(), Fail> {
+fn texts_of_an_iterator_are_interned(rt: HostRuntime) {
     let log = Log::new();
     {
         let handle = Observed::new(rt.alloc(), &log);
         let mut interner = StringInterner::new(&handle);
-        interner.extend(NAMES)?;
+        interner.extend(NAMES).or_abort(&rt);
         let asked = log.requests();
-        interner.extend(["é", "", "table", ""])?;
+        interner.extend(["é", "", "table", ""]).or_abort(&rt);
         assert_equal!(rt; (interner.len(), log.requests()), (5, asked));
         interner.clear();
         assert_equal!(rt; (interner.len(), interner.contains("table")), (0, false));
         assert_equal!(rt; log.requests(), asked);
-        interner.extend(["x"])?;
+        interner.extend(["x"]).or_abort(&rt);
         log.refuse_once(1);
         let mut more = ["", "x", "y", "z"].into_iter();
         assert_equal!(rt; interner.extend(&mut more), Err(ArenaError::OutOfSystemMemory));
@@ -78,12 +76,11 @@ fn texts_of_an_iterator_are_interned(rt: HostRuntime) -> Result<(), Fail> {
         for (text, is_there) in [("x", true), ("", true), ("y", false), ("z", false)] {
             assert_equal!(rt; interner.contains(text), is_there, "of {text}");
         }
-        interner.extend(["z", "y"])?;
+        interner.extend(["z", "y"]).or_abort(&rt);
         assert_equal!(rt; interner.get("y"), Some(Sym::from_u32(3)));
         if interner.len() > 1 {
             assert_equal!(rt; interner.text(Sym::from_u32(1)), "");
         }
     }
     assert_equal!(rt; log.amiss(), 0);
-    Ok(())
 }

@@ -1,7 +1,7 @@
 //! Arenas in one vector: worked rows, and the tests of the Rust crate's arena.
+use crate::or_abort::OrAbort;
 use std::alloc::Global;
 use std::num::NonZero;
-use std::test::Fail;
 use wasmi_arena::{
     AnyArena, ArenaCommand, ArenaError, ArenaKey, ArenaReply, StableArena, run_arena,
 };
@@ -20,21 +20,20 @@ fn four(alloc: Global) -> Result<Arena<usize, &'static str>, ArenaError> {
 }
 
 #[test]
-fn items_get_their_keys_in_turn(rt: HostRuntime) -> Result<(), Fail> {
+fn items_get_their_keys_in_turn(rt: HostRuntime) {
     let mut arena: Arena<usize, &'static str> = Arena::new(rt.alloc());
     assert!(rt; arena.is_empty());
     assert_equal!(rt; arena.get(0), Err(ArenaError::KeyOutOfBounds));
     for (index, text) in ["a", "b", "c", "d"].iter().enumerate() {
         assert_equal!(rt; arena.next_key(), Ok(index));
-        assert_equal!(rt; arena.alloc(text)?, index);
+        assert_equal!(rt; arena.alloc(text).or_abort(&rt), index);
         assert_equal!(rt; arena.len(), index + 1);
     }
-    Ok(())
 }
 
 #[test]
-fn items_come_under_their_keys(rt: HostRuntime) -> Result<(), Fail> {
-    let arena = four(rt.alloc())?;
+fn items_come_under_their_keys(rt: HostRuntime) {
+    let arena = four(rt.alloc()).or_abort(&rt);
     for (index, text) in ["a", "b", "c", "d"].iter().enumerate() {
         assert_equal!(rt; arena.get(index), Ok(text));
         if index < arena.len() {
@@ -44,25 +43,23 @@ fn items_come_under_their_keys(rt: HostRuntime) -> Result<(), Fail> {
     }
     assert_equal!(rt; arena.get(4), Err(ArenaError::KeyOutOfBounds));
     assert!(rt; !arena.has(4));
-    Ok(())
 }
 
 #[test]
-fn a_cleared_arena_begins_at_key_0(rt: HostRuntime) -> Result<(), Fail> {
-    let mut arena = four(rt.alloc())?;
+fn a_cleared_arena_begins_at_key_0(rt: HostRuntime) {
+    let mut arena = four(rt.alloc()).or_abort(&rt);
     let slots = arena.len() + arena.room();
     arena.clear();
     assert!(rt; arena.is_empty());
     assert_equal!(rt; arena.get(0), Err(ArenaError::KeyOutOfBounds));
     assert_equal!(rt; arena.room(), slots);
-    assert_equal!(rt; arena.alloc("e")?, 0);
+    assert_equal!(rt; arena.alloc("e").or_abort(&rt), 0);
     assert_equal!(rt; arena.get(0), Ok(&"e"));
-    Ok(())
 }
 
 #[test]
-fn a_walk_goes_from_both_ends(rt: HostRuntime) -> Result<(), Fail> {
-    let arena = four(rt.alloc())?;
+fn a_walk_goes_from_both_ends(rt: HostRuntime) {
+    let arena = four(rt.alloc()).or_abort(&rt);
     let mut walk = arena.iter();
     // Whether the step is from the back, what it gives, and how many entries are ahead before it.
     for (is_back, entry, ahead) in [
@@ -81,12 +78,11 @@ fn a_walk_goes_from_both_ends(rt: HostRuntime) -> Result<(), Fail> {
         };
         assert_equal!(rt; step, entry);
     }
-    Ok(())
 }
 
 #[test]
-fn walks_have_each_entry_once(rt: HostRuntime) -> Result<(), Fail> {
-    let arena = four(rt.alloc())?;
+fn walks_have_each_entry_once(rt: HostRuntime) {
+    let arena = four(rt.alloc()).or_abort(&rt);
     let mut visited = 0;
     for (key, text) in &arena {
         assert_equal!(rt; key, visited);
@@ -94,33 +90,38 @@ fn walks_have_each_entry_once(rt: HostRuntime) -> Result<(), Fail> {
         visited = key.wrapping_add(1);
     }
     assert_equal!(rt; visited, 4);
-    Ok(())
 }
 
 #[test]
-fn a_collected_arena_is_the_allocated_one(rt: HostRuntime) -> Result<(), Fail> {
-    let made: Arena<usize, &'static str> = Arena::from_iter(rt.alloc(), ["a", "b", "c", "d"])?;
-    assert_equal!(rt; &made, &four(rt.alloc())?);
-    let fewer: Arena<usize, &'static str> = Arena::from_iter(rt.alloc(), ["a", "b", "c"])?;
+fn a_collected_arena_is_the_allocated_one(rt: HostRuntime) {
+    let made: Arena<usize, &'static str> = Arena::from_iter(
+        rt.alloc(),
+        ["a", "b", "c", "d"],
+    ).or_abort(&rt);
+    assert_equal!(rt; &made, &four(rt.alloc()).or_abort(&rt));
+    let fewer: Arena<usize, &'static str> = Arena::from_iter(rt.alloc(), ["a", "b", "c"]).or_abort(
+        &rt,
+    );
     assert!(rt; made != fewer);
-    let other: Arena<usize, &'static str> = Arena::from_iter(rt.alloc(), ["a", "b", "c", "e"])?;
+    let other: Arena<usize, &'static str> = Arena::from_iter(
+        rt.alloc(),
+        ["a", "b", "c", "e"],
+    ).or_abort(&rt);
     assert!(rt; made != other);
-    Ok(())
 }
 
 #[test]
-fn equal_items_have_keys_of_their_own(rt: HostRuntime) -> Result<(), Fail> {
-    let mut arena = four(rt.alloc())?;
+fn equal_items_have_keys_of_their_own(rt: HostRuntime) {
+    let mut arena = four(rt.alloc()).or_abort(&rt);
     for (index, text) in ["a", "b", "c", "d"].iter().enumerate() {
-        assert_equal!(rt; arena.alloc(text)?, index + 4);
+        assert_equal!(rt; arena.alloc(text).or_abort(&rt), index + 4);
     }
     assert_equal!(rt; arena.len(), 8);
-    Ok(())
 }
 
 #[test]
-fn items_are_written_in_a_loop(rt: HostRuntime) -> Result<(), Fail> {
-    let mut arena: Arena<usize, u64> = Arena::from_iter(rt.alloc(), 0..10)?;
+fn items_are_written_in_a_loop(rt: HostRuntime) {
+    let mut arena: Arena<usize, u64> = Arena::from_iter(rt.alloc(), 0..10).or_abort(&rt);
     for (key, item) in &mut arena {
         *item = item.wrapping_add(key as u64);
     }
@@ -139,43 +140,41 @@ fn items_are_written_in_a_loop(rt: HostRuntime) -> Result<(), Fail> {
     }
     assert_equal!(rt; walk.len(), 8);
     assert_equal!(rt; (arena.get(0), arena.get(9)), (Ok(&200), Ok(&100)));
-    Ok(())
 }
 
 #[test]
-fn items_are_written_under_keys(rt: HostRuntime) -> Result<(), Fail> {
-    let mut arena: Arena<u32, i32> = Arena::from_iter(rt.alloc(), 0..10)?;
-    *arena.get_mut(3)? = 30;
+fn items_are_written_under_keys(rt: HostRuntime) {
+    let mut arena: Arena<u32, i32> = Arena::from_iter(rt.alloc(), 0..10).or_abort(&rt);
+    *arena.get_mut(3).or_abort(&rt) = 30;
     if 4 < arena.len() {
         arena[4] = 40;
     }
     assert_equal!(rt; arena.put(5, 50), Ok(5));
     assert_equal!(rt; arena.put(10, 0), Err(ArenaError::KeyOutOfBounds));
     assert_equal!(rt; arena.get_mut(10).err(), Some(ArenaError::KeyOutOfBounds));
-    arena.reserve(5)?;
+    arena.reserve(5).or_abort(&rt);
     let room = arena.room();
-    let (one, eight) = arena.get_disjoint_mut([1, 8])?;
+    let (one, eight) = arena.get_disjoint_mut([1, 8]).or_abort(&rt);
     *one = -1;
     *eight = -8;
     assert_equal!(rt; arena.room(), room);
-    let (nine, two) = arena.get_disjoint_mut([9, 2])?;
+    let (nine, two) = arena.get_disjoint_mut([9, 2]).or_abort(&rt);
     assert_equal!(rt; (*nine, *two), (9, 2));
     *nine = -9;
     *two = -2;
     let wanted: Arena<u32, i32> = Arena::from_iter(
         rt.alloc(),
         [0, -1, -2, 30, 40, 50, 6, 7, -8, -9],
-    )?;
+    ).or_abort(&rt);
     assert_equal!(rt; &arena, &wanted);
     assert_equal!(rt; arena.swap(1, 8), Ok(()));
     assert_equal!(rt; (arena.get(1), arena.get(8)), (Ok(&-8), Ok(&-1)));
-    Ok(())
 }
 
 // Which pairs of an arena of three items are refused, and why.
 #[test]
-fn pairs_out_of_bounds_come_before_equal_ones(rt: HostRuntime) -> Result<(), Fail> {
-    let mut arena: Arena<usize, u8> = Arena::from_iter(rt.alloc(), 0..3)?;
+fn pairs_out_of_bounds_come_before_equal_ones(rt: HostRuntime) {
+    let mut arena: Arena<usize, u8> = Arena::from_iter(rt.alloc(), 0..3).or_abort(&rt);
     let room = arena.room();
     for (first, second, error) in [
         (5, 5, ArenaError::KeyOutOfBounds),
@@ -194,41 +193,39 @@ fn pairs_out_of_bounds_come_before_equal_ones(rt: HostRuntime) -> Result<(), Fai
             (Ok(&0), Ok(&1), Ok(&2), room)
         );
     }
-    Ok(())
 }
 
 #[test]
-fn four_keys_are_enough_for_four_items(rt: HostRuntime) -> Result<(), Fail> {
+fn four_keys_are_enough_for_four_items(rt: HostRuntime) {
     let mut arena: Arena<Tiny, i32> = Arena::new(rt.alloc());
     assert_equal!(rt; arena.alloc_many(4).err(), Some(ArenaError::NotEnoughKeys));
     assert_equal!(rt; arena.len(), 0);
-    let three = arena.alloc_many(3)?;
+    let three = arena.alloc_many(3).or_abort(&rt);
     assert_equal!(rt; (three.start.into_usize(), three.end.into_usize()), (0, 3));
     assert_equal!(rt; arena.alloc_many(1).err(), Some(ArenaError::NotEnoughKeys));
     assert_equal!(rt; arena.len(), 3);
-    let none = arena.alloc_many(0)?;
+    let none = arena.alloc_many(0).or_abort(&rt);
     assert_equal!(rt; (none.start.into_usize(), none.end.into_usize()), (3, 3));
-    assert_equal!(rt; arena.alloc(9)?.into_usize(), 3);
+    assert_equal!(rt; arena.alloc(9).or_abort(&rt).into_usize(), 3);
     assert_equal!(rt; arena.alloc(9).err(), Some(ArenaError::NotEnoughKeys));
     assert_equal!(rt; arena.alloc_many(0).err(), Some(ArenaError::NotEnoughKeys));
     assert_equal!(rt; arena.next_key().err(), Some(ArenaError::NotEnoughKeys));
     assert_equal!(rt; arena.len(), 4);
-    let full: Arena<Tiny, i32> = Arena::from_iter(rt.alloc(), 0..4)?;
+    let full: Arena<Tiny, i32> = Arena::from_iter(rt.alloc(), 0..4).or_abort(&rt);
     for (index, (key, item)) in full.iter().enumerate() {
         assert_equal!(rt; (key.into_usize(), *item), (index, index as i32));
     }
     let more: Result<Arena<Tiny, i32>, ArenaError> = Arena::from_iter(rt.alloc(), 0..5);
     assert_equal!(rt; more.err(), Some(ArenaError::NotEnoughKeys));
     let mut one: Arena<One, i32> = Arena::new(rt.alloc());
-    let none = one.alloc_many(0)?;
+    let none = one.alloc_many(0).or_abort(&rt);
     assert_equal!(rt; (none.start.into_usize(), none.end.into_usize()), (0, 0));
     assert_equal!(rt; one.alloc_many(1).err(), Some(ArenaError::NotEnoughKeys));
     assert_equal!(rt; one.len(), 0);
-    Ok(())
 }
 
 #[test]
-fn many_items_come_at_once(rt: HostRuntime) -> Result<(), Fail> {
+fn many_items_come_at_once(rt: HostRuntime) {
     let mut arena: Arena<usize, i32> = Arena::new(rt.alloc());
     assert_equal!(rt;
         arena.alloc_many(usize::MAX).err(),
@@ -239,7 +236,7 @@ fn many_items_come_at_once(rt: HostRuntime) -> Result<(), Fail> {
         arena.alloc_many(usize::MAX).err(),
         Some(ArenaError::NotEnoughKeys)
     );
-    let keys = arena.alloc_many(9)?;
+    let keys = arena.alloc_many(9).or_abort(&rt);
     assert_equal!(rt; (keys.start, keys.end, arena.len()), (1, 10, 10));
     for (_, item) in &arena {
         assert_equal!(rt; *item, 0);
@@ -249,7 +246,6 @@ fn many_items_come_at_once(rt: HostRuntime) -> Result<(), Fail> {
         Some(ArenaError::NotEnoughKeys)
     );
     assert_equal!(rt; arena.len(), 10);
-    Ok(())
 }
 
 // The replies of an empty arena to one list of commands.
@@ -273,11 +269,11 @@ fn replies_of<S: AnyArena<usize, i32>>(
 
 // The two arenas differ in the last reply alone.
 #[test]
-fn one_run_for_both_arenas(rt: HostRuntime) -> Result<(), Fail> {
+fn one_run_for_both_arenas(rt: HostRuntime) {
     let mut dense: Arena<usize, i32> = Arena::new(rt.alloc());
     let mut stable: StableArena<usize, i32> = StableArena::new(rt.alloc());
-    let of_dense = replies_of(rt.alloc(), &mut dense)?;
-    let of_stable = replies_of(rt.alloc(), &mut stable)?;
+    let of_dense = replies_of(rt.alloc(), &mut dense).or_abort(&rt);
+    let of_stable = replies_of(rt.alloc(), &mut stable).or_abort(&rt);
     for (replies, last) in [
         (&of_dense, ArenaError::KeyOutOfBounds),
         (&of_stable, ArenaError::AliasingPairAccess),
@@ -306,23 +302,21 @@ fn one_run_for_both_arenas(rt: HostRuntime) -> Result<(), Fail> {
         (stable.len(), stable.get(0), stable.get(1)),
         (2, Ok(&9), Ok(&7))
     );
-    Ok(())
 }
 
 #[test]
-fn an_arena_prints_as_a_map(rt: HostRuntime) -> Result<(), Fail> {
-    let arena: Arena<usize, i32> = Arena::from_iter(rt.alloc(), 7..9)?;
+fn an_arena_prints_as_a_map(rt: HostRuntime) {
+    let arena: Arena<usize, i32> = Arena::from_iter(rt.alloc(), 7..9).or_abort(&rt);
     assert_equal!(rt;
-        format!(in rt.alloc(); "{arena:?}")?.as_str(),
+        format!(in rt.alloc(); "{arena:?}").or_abort(&rt).as_str(),
         "{0: 7, 1: 8}"
     );
     let empty: Arena<usize, i32> = Arena::new(rt.alloc());
-    assert_equal!(rt; format!(in rt.alloc(); "{empty:?}")?.as_str(), "{}");
+    assert_equal!(rt; format!(in rt.alloc(); "{empty:?}").or_abort(&rt).as_str(), "{}");
     // Its keys, and not its positions.
-    let keyed: Arena<NonZero<u32>, i32> = Arena::from_iter(rt.alloc(), 7..9)?;
+    let keyed: Arena<NonZero<u32>, i32> = Arena::from_iter(rt.alloc(), 7..9).or_abort(&rt);
     assert_equal!(rt;
-        format!(in rt.alloc(); "{keyed:?}")?.as_str(),
+        format!(in rt.alloc(); "{keyed:?}").or_abort(&rt).as_str(),
         "{1: 7, 2: 8}"
     );
-    Ok(())
 }

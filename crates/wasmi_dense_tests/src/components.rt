@@ -1,8 +1,8 @@
 //! Component vectors: the carried tests, the worked rows, and an allocator that refuses requests.
+use crate::or_abort::OrAbort;
 use std::alloc::{AllocError, Allocator, Global};
 use std::cell::Cell;
 use std::num::NonZero;
-use std::test::Fail;
 use wasmi_arena::{ArenaError, ArenaKey};
 use wasmi_dense::ComponentVec;
 use wasmi_vectors::assert_equal;
@@ -24,68 +24,67 @@ fn texts(alloc: Global) -> Result<ComponentVec<usize, String>, ArenaError> {
 }
 
 #[test]
-fn it_works(rt: HostRuntime) -> Result<(), Fail> {
+fn it_works(rt: HostRuntime) {
     let mut components: ComponentVec<usize, String> = ComponentVec::new(rt.alloc());
     for number in 0..10usize {
-        let mut shown = text(rt.alloc(), number)?;
+        let mut shown = text(rt.alloc(), number).or_abort(&rt);
         assert_equal!(rt; components.get(number), None);
         assert!(rt; components.get_mut(number).is_none());
-        assert_equal!(rt; components.set(number, shown.clone()?)?, None);
+        assert_equal!(rt; components.set(number, shown.clone().or_abort(&rt)).or_abort(&rt), None);
         assert_equal!(rt; components.get(number), Some(&shown));
         assert_equal!(rt; components.get_mut(number), Some(&mut shown));
         assert_equal!(rt; &components[number], &shown);
     }
     for number in (0..10usize).rev() {
-        let shown = text(rt.alloc(), number)?;
+        let shown = text(rt.alloc(), number).or_abort(&rt);
         assert_equal!(rt; components.unset(number), Some(shown));
         assert_equal!(rt; components.unset(number), None);
         assert_equal!(rt; components.get(number), None);
     }
-    Ok(())
 }
 
 #[test]
-fn clear_works(rt: HostRuntime) -> Result<(), Fail> {
-    let mut components = texts(rt.alloc())?;
+fn clear_works(rt: HostRuntime) {
+    let mut components = texts(rt.alloc()).or_abort(&rt);
     components.clear();
     for number in 0..10usize {
         assert_equal!(rt; components.get(number), None);
         assert!(rt; components.get_mut(number).is_none());
     }
     assert_equal!(rt; components, ComponentVec::new(rt.alloc()));
-    Ok(())
 }
 
 #[test]
-fn debug_works(rt: HostRuntime) -> Result<(), Fail> {
+fn debug_works(rt: HostRuntime) {
     let mut components: ComponentVec<usize, String> = ComponentVec::new(rt.alloc());
     assert_equal!(rt;
-        format!(in rt.alloc(); "{components:?}")?.as_str(),
+        format!(in rt.alloc(); "{components:?}").or_abort(&rt).as_str(),
         "ComponentVec { components: {} }"
     );
     for number in 0..4usize {
-        components.set(number, text(rt.alloc(), number)?)?;
+        components
+            .set(number, text(rt.alloc(), number).or_abort(&rt))
+            .or_abort(&rt);
     }
     assert_equal!(rt;
-        format!(in rt.alloc(); "{components:?}")?.as_str(),
+        format!(in rt.alloc(); "{components:?}").or_abort(&rt).as_str(),
         r#"ComponentVec { components: {0: "0", 1: "1", 2: "2", 3: "3"} }"#
     );
     let mut sparse: ComponentVec<usize, i32> = ComponentVec::new(rt.alloc());
-    sparse.set(3, 9)?;
-    sparse.set(0, 7)?;
+    sparse.set(3, 9).or_abort(&rt);
+    sparse.set(0, 7).or_abort(&rt);
     assert_equal!(rt;
-        format!(in rt.alloc(); "{sparse:?}")?.as_str(),
+        format!(in rt.alloc(); "{sparse:?}").or_abort(&rt).as_str(),
         "ComponentVec { components: {0: 7, 3: 9} }"
     );
-    Ok(())
 }
 
 #[test]
-fn an_extent_stays(rt: HostRuntime) -> Result<(), Fail> {
+fn an_extent_stays(rt: HostRuntime) {
     let mut components: ComponentVec<usize, i32> = ComponentVec::new(rt.alloc());
-    assert_equal!(rt; components.set(3, 9)?, None);
-    assert_equal!(rt; components.set(3, 8)?, Some(9));
-    assert_equal!(rt; components.set(1, 7)?, None);
+    assert_equal!(rt; components.set(3, 9).or_abort(&rt), None);
+    assert_equal!(rt; components.set(3, 8).or_abort(&rt), Some(9));
+    assert_equal!(rt; components.set(1, 7).or_abort(&rt), None);
     assert_equal!(rt; components.extent(), 4);
     components[1] = 6;
     if let Some(there) = components.get_mut(3) {
@@ -95,50 +94,47 @@ fn an_extent_stays(rt: HostRuntime) -> Result<(), Fail> {
     assert_equal!(rt; components.unset(3), Some(5));
     assert_equal!(rt; components.unset(4), None);
     assert_equal!(rt; components.extent(), 4);
-    Ok(())
 }
 
 #[test]
-fn clear_takes_the_extent_back(rt: HostRuntime) -> Result<(), Fail> {
+fn clear_takes_the_extent_back(rt: HostRuntime) {
     let mut components: ComponentVec<usize, i32> = ComponentVec::new(rt.alloc());
-    components.set(3, 9)?;
+    components.set(3, 9).or_abort(&rt);
     components.unset(3);
     let fresh = ComponentVec::new(rt.alloc());
     assert!(rt; components != fresh && fresh != components);
     components.clear();
     assert_equal!(rt; components.extent(), 0);
     assert_equal!(rt; components, fresh);
-    Ok(())
 }
 
 // The same components, and the extents 2, 2 and 3.
 #[test]
-fn equal_where_components_and_extents_are(rt: HostRuntime) -> Result<(), Fail> {
+fn equal_where_components_and_extents_are(rt: HostRuntime) {
     let mut first: ComponentVec<usize, i32> = ComponentVec::new(rt.alloc());
     let mut second: ComponentVec<usize, i32> = ComponentVec::new(rt.alloc());
     let mut third: ComponentVec<usize, i32> = ComponentVec::new(rt.alloc());
-    first.set(1, 4)?;
-    second.set(0, 3)?;
-    second.set(1, 4)?;
+    first.set(1, 4).or_abort(&rt);
+    second.set(0, 3).or_abort(&rt);
+    second.set(1, 4).or_abort(&rt);
     assert!(rt; first != second);
     second.unset(0);
     assert_equal!(rt; &first, &second);
-    third.set(1, 4)?;
-    third.set(2, 5)?;
+    third.set(1, 4).or_abort(&rt);
+    third.set(2, 5).or_abort(&rt);
     third.unset(2);
     assert!(rt; first != third && third != second);
-    second.set(1, 5)?;
+    second.set(1, 5).or_abort(&rt);
     assert!(rt; first != second);
-    Ok(())
 }
 
 // Neither asks for memory: the last number has no place, and the block for the one before is too large.
 #[test]
-fn numbers_at_the_end(rt: HostRuntime) -> Result<(), Fail> {
+fn numbers_at_the_end(rt: HostRuntime) {
     let log = Log::new();
     let handle = Observed::new(rt.alloc(), &log);
     let mut components: ComponentVec<usize, i32, Observed<'_>> = ComponentVec::new(handle);
-    components.set(2, 7)?;
+    components.set(2, 7).or_abort(&rt);
     let requests = log.requests();
     let refused = components.set(usize::MAX, 1);
     assert_equal!(rt; refused, Err(ArenaError::KeyOutOfBounds));
@@ -148,20 +144,19 @@ fn numbers_at_the_end(rt: HostRuntime) -> Result<(), Fail> {
     assert_equal!(rt; components.get(usize::MAX), None);
     assert_equal!(rt; components.unset(usize::MAX), None);
     assert_equal!(rt; log.requests(), requests);
-    Ok(())
 }
 
 // The keys of a type hold one more than their number, and the number counts.
 #[test]
-fn keys_count_by_their_numbers(rt: HostRuntime) -> Result<(), Fail> {
+fn keys_count_by_their_numbers(rt: HostRuntime) {
     let mut by_number: ComponentVec<NonZero<u32>, u8> = ComponentVec::new(rt.alloc());
     let mut by_tiny: ComponentVec<Tiny, u8> = ComponentVec::new(rt.alloc());
     for (key, tiny) in NonZero::<u32>::from_usize(2)
         .into_iter()
         .zip(Tiny::from_usize(2))
     {
-        by_number.set(key, 7)?;
-        by_tiny.set(tiny, 7)?;
+        by_number.set(key, 7).or_abort(&rt);
+        by_tiny.set(tiny, 7).or_abort(&rt);
         assert_equal!(rt; (by_number.extent(), by_tiny.extent()), (3, 3));
         assert_equal!(rt;
             (by_number.get(key), by_tiny.get(tiny)),
@@ -169,7 +164,6 @@ fn keys_count_by_their_numbers(rt: HostRuntime) -> Result<(), Fail> {
         );
     }
     assert_equal!(rt; by_number.extent(), 3);
-    Ok(())
 }
 
 // Whether there are `3 * number` at the even numbers below the extent, and nothing else.
@@ -189,7 +183,7 @@ fn has_the_even_ones<A: Allocator>(
 }
 
 #[test]
-fn each_request_refused_in_turn(rt: HostRuntime) -> Result<(), Fail> {
+fn each_request_refused_in_turn(rt: HostRuntime) {
     let mut refusals = 0u64;
     for nth in 1..20u64 {
         let log = Log::new();
@@ -204,7 +198,7 @@ fn each_request_refused_in_turn(rt: HostRuntime) -> Result<(), Fail> {
                     refusals = refusals.wrapping_add(1);
                     assert_equal!(rt; error, ArenaError::OutOfSystemMemory);
                     assert!(rt; has_the_even_ones(&components, extent), "at {nth}");
-                    assert_equal!(rt; components.set(number, 3 * number as u64)?, None);
+                    assert_equal!(rt; components.set(number, 3 * number as u64).or_abort(&rt), None);
                 }
             }
             assert!(rt; has_the_even_ones(&components, 299), "at {nth}");
@@ -213,16 +207,15 @@ fn each_request_refused_in_turn(rt: HostRuntime) -> Result<(), Fail> {
     }
     // The vector grew several times.
     assert!(rt; refusals > 3 && refusals < 19);
-    Ok(())
 }
 
 #[test]
-fn a_far_number_asks_once(rt: HostRuntime) -> Result<(), Fail> {
+fn a_far_number_asks_once(rt: HostRuntime) {
     let log = Log::new();
     {
         let handle = Observed::new(rt.alloc(), &log);
         let mut components: ComponentVec<usize, u64, Observed<'_>> = ComponentVec::new(handle);
-        components.set(100_000, 7)?;
+        components.set(100_000, 7).or_abort(&rt);
         assert_equal!(rt; (log.requests(), components.extent()), (1, 100_001));
         assert_equal!(rt;
             (components.get(99_999), components.get(100_000)),
@@ -231,15 +224,14 @@ fn a_far_number_asks_once(rt: HostRuntime) -> Result<(), Fail> {
         // Below the extent nothing takes memory.
         log.refuse_from(1);
         for number in 0..100usize {
-            assert_equal!(rt; components.set(number, 1)?, None);
-            assert_equal!(rt; components.set(number, 2)?, Some(1));
+            assert_equal!(rt; components.set(number, 1).or_abort(&rt), None);
+            assert_equal!(rt; components.set(number, 2).or_abort(&rt), Some(1));
             assert_equal!(rt; components.unset(number), Some(2));
         }
         components.clear();
         assert_equal!(rt; log.requests(), 1);
     }
     assert_equal!(rt; (log.given(), log.amiss()), (1, 0));
-    Ok(())
 }
 
 // Sets a component that counts its drop in one of the counts.
@@ -256,20 +248,20 @@ fn set_counted<'a, A: Allocator>(
 }
 
 #[test]
-fn each_component_is_dropped_once(rt: HostRuntime) -> Result<(), Fail> {
+fn each_component_is_dropped_once(rt: HostRuntime) {
     let log = Log::new();
-    let drops = counts(rt.alloc(), 6)?;
+    let drops = counts(rt.alloc(), 6).or_abort(&rt);
     {
         let handle = Observed::new(rt.alloc(), &log);
         let mut components: ComponentVec<usize, Counted<'_>, Observed<'_>> = ComponentVec::new(
             handle,
         );
         for number in 0..3usize {
-            assert!(rt; !set_counted(&mut components, number, &drops, number)?);
+            assert!(rt; !set_counted(&mut components, number, &drops, number).or_abort(&rt));
         }
         assert!(rt; counts_are(&drops, &[0, 0, 0, 0, 0, 0]));
         // One is replaced, one is taken out.
-        assert!(rt; set_counted(&mut components, 0, &drops, 3)?);
+        assert!(rt; set_counted(&mut components, 0, &drops, 3).or_abort(&rt));
         assert!(rt; counts_are(&drops, &[1, 0, 0, 0, 0, 0]));
         assert!(rt; components.unset(1).is_some());
         assert!(rt; counts_are(&drops, &[1, 1, 0, 0, 0, 0]));
@@ -284,37 +276,34 @@ fn each_component_is_dropped_once(rt: HostRuntime) -> Result<(), Fail> {
         components.clear();
         assert!(rt; each_is(&drops, 1));
         log.refuse_none();
-        assert!(rt; !set_counted(&mut components, 2, &drops, 0)?);
+        assert!(rt; !set_counted(&mut components, 2, &drops, 0).or_abort(&rt));
     }
     assert!(rt; counts_are(&drops, &[2, 1, 1, 1, 1, 1]));
     assert_equal!(rt; log.amiss(), 0);
-    Ok(())
 }
 
 #[test]
-fn components_without_size(rt: HostRuntime) -> Result<(), Fail> {
+fn components_without_size(rt: HostRuntime) {
     let mut marked: ComponentVec<u32, ()> = ComponentVec::new(rt.alloc());
-    assert_equal!(rt; marked.set(5, ())?, None);
-    assert_equal!(rt; marked.set(5, ())?, Some(()));
+    assert_equal!(rt; marked.set(5, ()).or_abort(&rt), None);
+    assert_equal!(rt; marked.set(5, ()).or_abort(&rt), Some(()));
     assert_equal!(rt;
         (marked.get(4), marked.get(5), marked.extent()),
         (None, Some(&()), 6)
     );
     assert_equal!(rt; marked.unset(5), Some(()));
     assert_equal!(rt; (marked.get(5), marked.extent()), (None, 6));
-    Ok(())
 }
 
 // 100,000 places of 16 bytes, whatever was there.
 #[test]
-fn a_far_number_asks_for_its_places_alone(rt: HostRuntime) -> Result<(), Fail> {
+fn a_far_number_asks_for_its_places_alone(rt: HostRuntime) {
     let log = Log::new();
     let handle = Observed::new(rt.alloc(), &log);
     let mut components: ComponentVec<usize, u64, Observed<'_>> = ComponentVec::new(handle);
-    components.set(999, 7)?;
+    components.set(999, 7).or_abort(&rt);
     let bytes = log.bytes();
-    components.set(99_999, 7)?;
+    components.set(99_999, 7).or_abort(&rt);
     let asked = log.bytes().wrapping_sub(bytes);
     assert_equal!(rt; (log.requests(), asked), (2, 1_600_000));
-    Ok(())
 }

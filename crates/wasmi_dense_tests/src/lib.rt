@@ -8,4 +8,6 @@ mod arenas;
 #[cfg(test)]
 mod components;
 #[cfg(test)]
+mod or_abort;
+#[cfg(test)]
 mod taken;

@@ -1,6 +1,6 @@
 //! Components that are visited, cloned and reserved for, and arenas whose items are taken out.
+use crate::or_abort::OrAbort;
 use std::alloc::Global;
-use std::test::Fail;
 use wasmi_arena::ArenaError;
 use wasmi_dense::{Arena, ComponentVec};
 use wasmi_vectors::assert_equal;
@@ -18,8 +18,8 @@ fn three(alloc: Global) -> Result<ComponentVec<u32, i32>, ArenaError> {
 }
 
 #[test]
-fn components_are_visited_from_both_ends(rt: HostRuntime) -> Result<(), Fail> {
-    let mut components = three(rt.alloc())?;
+fn components_are_visited_from_both_ends(rt: HostRuntime) {
+    let mut components = three(rt.alloc()).or_abort(&rt);
     let mut entries = components.iter();
     assert_equal!(rt; entries.next(), Some((1, &10)));
     assert_equal!(rt; entries.next_back(), Some((6, &60)));
@@ -39,12 +39,11 @@ fn components_are_visited_from_both_ends(rt: HostRuntime) -> Result<(), Fail> {
         assert_equal!(rt; components.has(key), is_there);
     }
     assert_equal!(rt; components.extent(), 8);
-    Ok(())
 }
 
 // Few and many more than are there, where some places are free and where none is.
 #[test]
-fn reserved_places_need_no_memory(rt: HostRuntime) -> Result<(), Fail> {
+fn reserved_places_need_no_memory(rt: HostRuntime) {
     for (held, more) in [
         (1, 3),
         (1, 4),
@@ -59,32 +58,31 @@ fn reserved_places_need_no_memory(rt: HostRuntime) -> Result<(), Fail> {
         let handle = Observed::new(rt.alloc(), &log);
         let mut components: ComponentVec<usize, u64, Observed<'_>> = ComponentVec::new(handle);
         for number in 0..held {
-            components.set(number, 7)?;
+            components.set(number, 7).or_abort(&rt);
         }
-        components.reserve(more)?;
+        components.reserve(more).or_abort(&rt);
         log.refuse_from(1);
         for number in held..held + more {
             assert_equal!(rt; components.set(number, 8), Ok(None), "{held} and {more}");
         }
     }
-    Ok(())
 }
 
 #[test]
-fn a_refused_clone_or_reserve_changes_nothing(rt: HostRuntime) -> Result<(), Fail> {
+fn a_refused_clone_or_reserve_changes_nothing(rt: HostRuntime) {
     let log = Log::new();
     let mut components: ComponentVec<u32, u64, Observed<'_>> = ComponentVec::new(Observed::new(
         rt.alloc(),
         &log,
     ));
-    components.set(2, 7)?;
+    components.set(2, 7).or_abort(&rt);
     log.refuse_from(1);
     assert_equal!(rt; components.reserve(40), Err(ArenaError::OutOfSystemMemory));
     assert_equal!(rt; components.clone().err(), Some(ArenaError::OutOfSystemMemory));
     log.refuse_none();
-    components.reserve(40)?;
+    components.reserve(40).or_abort(&rt);
     let (requests, bytes) = (log.requests(), log.bytes());
-    let other = components.clone()?;
+    let other = components.clone().or_abort(&rt);
     // Three places of 16 bytes.
     assert_equal!(rt;
         (log.requests(), log.bytes()),
@@ -92,16 +90,15 @@ fn a_refused_clone_or_reserve_changes_nothing(rt: HostRuntime) -> Result<(), Fai
     );
     log.refuse_from(1);
     for number in 3..43u32 {
-        assert_equal!(rt; components.set(number, 8)?, None);
+        assert_equal!(rt; components.set(number, 8).or_abort(&rt), None);
     }
     assert_equal!(rt; components.reserve(0), Ok(()));
     assert_equal!(rt; other.extent(), 3);
     assert_equal!(rt; (other.get(2), other.get(1)), (Some(&7), None));
-    Ok(())
 }
 
 #[test]
-fn an_arena_with_capacity_asks_once(rt: HostRuntime) -> Result<(), Fail> {
+fn an_arena_with_capacity_asks_once(rt: HostRuntime) {
     let log = Log::new();
     log.refuse_once(1);
     let refused = Arena::<u32, u64, Observed<'_>>::with_capacity(
@@ -113,21 +110,20 @@ fn an_arena_with_capacity_asks_once(rt: HostRuntime) -> Result<(), Fail> {
         let mut arena: Arena<u32, u64, Observed<'_>> = Arena::with_capacity(
             Observed::new(rt.alloc(), &log),
             capacity as usize,
-        )?;
+        ).or_abort(&rt);
         for number in 0..capacity {
-            assert_equal!(rt; arena.alloc(7)?, number);
+            assert_equal!(rt; arena.alloc(7).or_abort(&rt), number);
         }
         assert_equal!(rt; log.requests(), requests, "for {capacity}");
     }
-    Ok(())
 }
 
 #[test]
-fn items_are_taken_out_from_both_ends(rt: HostRuntime) -> Result<(), Fail> {
-    let drops = counts(rt.alloc(), 5)?;
+fn items_are_taken_out_from_both_ends(rt: HostRuntime) {
+    let drops = counts(rt.alloc(), 5).or_abort(&rt);
     let mut arena: Arena<u32, Counted<'_>> = Arena::new(rt.alloc());
     for count in &drops {
-        arena.alloc(Counted::new(count))?;
+        arena.alloc(Counted::new(count)).or_abort(&rt);
     }
     let mut entries = arena.into_iter();
     for (from_front, key, drops_then, left) in [
@@ -146,17 +142,16 @@ fn items_are_taken_out_from_both_ends(rt: HostRuntime) -> Result<(), Fail> {
     }
     drop(entries);
     assert!(rt; counts_are(&drops, &[1, 1, 1, 1, 1]));
-    Ok(())
 }
 
 // Of an arena with room, and of one that was cleared.
 #[test]
-fn an_arena_is_taken_apart_without_memory(rt: HostRuntime) -> Result<(), Fail> {
+fn an_arena_is_taken_apart_without_memory(rt: HostRuntime) {
     let log = Log::new();
     for number in [0u64, 5] {
         let mut arena: Arena<u32, u64, Observed<'_>> = Arena::new(Observed::new(rt.alloc(), &log));
-        arena.reserve(9)?;
-        arena.alloc(number)?;
+        arena.reserve(9).or_abort(&rt);
+        arena.alloc(number).or_abort(&rt);
         if number == 0 {
             arena.clear();
         }
@@ -166,38 +161,35 @@ fn an_arena_is_taken_apart_without_memory(rt: HostRuntime) -> Result<(), Fail> {
             .fold(0u64, |sum, (_, item)| sum.wrapping_add(item));
         assert_equal!(rt; (items, log.requests()), (number, asked));
     }
-    Ok(())
 }
 
 #[test]
-fn a_cleared_component_vec_keeps_its_block(rt: HostRuntime) -> Result<(), Fail> {
+fn a_cleared_component_vec_keeps_its_block(rt: HostRuntime) {
     let log = Log::new();
     let mut components: ComponentVec<u32, u64, Observed<'_>> = ComponentVec::new(Observed::new(
         rt.alloc(),
         &log,
     ));
-    components.reserve(40)?;
-    components.set(2, 7)?;
+    components.reserve(40).or_abort(&rt);
+    components.set(2, 7).or_abort(&rt);
     components.clear();
     log.refuse_from(1);
     for number in 0..40u32 {
         assert_equal!(rt; components.set(number, 8), Ok(None));
     }
-    Ok(())
 }
 
 // Whichever places have a component.
 #[test]
-fn places_without_a_component_are_cloned(rt: HostRuntime) -> Result<(), Fail> {
+fn places_without_a_component_are_cloned(rt: HostRuntime) {
     for taken_out in [8u32, 4, 16, 24, 31] {
         let mut components: ComponentVec<u32, u32> = ComponentVec::new(rt.alloc());
         for number in 0..5u32 {
-            components.set(number, number)?;
+            components.set(number, number).or_abort(&rt);
             if taken_out & (1 << number) != 0 {
                 components.unset(number);
             }
         }
         assert_equal!(rt; components.clone().as_ref(), Ok(&components), "without {taken_out}");
     }
-    Ok(())
 }

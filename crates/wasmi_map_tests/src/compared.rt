@@ -1,6 +1,6 @@
 //! How often calls of maps and sets compare and clone.
+use crate::or_abort::OrAbort;
 use std::alloc::Global;
-use std::test::Fail;
 use wasmi_arena::ArenaError;
 use wasmi_hashed as hashed;
 use wasmi_ordered::map::Entry;
@@ -27,7 +27,7 @@ fn compares_as_a_read<'a>(
 }
 
 #[test]
-fn a_call_compares_as_a_read_does(rt: HostRuntime) -> Result<(), Fail> {
+fn a_call_compares_as_a_read_does(rt: HostRuntime) {
     let notes = Notes::new();
     let mut map: Map<Noted<'_>, u32> = Map::new(rt.alloc());
     let mut set: Set<Noted<'_>> = Set::new(rt.alloc());
@@ -35,11 +35,10 @@ fn a_call_compares_as_a_read_does(rt: HostRuntime) -> Result<(), Fail> {
         let key = number / 2;
         let keys = (Noted::new(key, &notes), Noted::new(key, &notes));
         assert!(rt;
-            compares_as_a_read(&mut map, &mut set, &notes, keys)?,
+            compares_as_a_read(&mut map, &mut set, &notes, keys).or_abort(&rt),
             "of {number}"
         );
     }
-    Ok(())
 }
 
 // How often the calls on the place of a key compare: it is put in, changed and taken out.
@@ -67,7 +66,7 @@ fn compared_by_a_place<'a>(
 }
 
 #[test]
-fn a_place_compares_nothing(rt: HostRuntime) -> Result<(), Fail> {
+fn a_place_compares_nothing(rt: HostRuntime) {
     let notes = Notes::new();
     let mut map: Map<Noted<'_>, u32> = Map::new(rt.alloc());
     for number in 0..90u32 {
@@ -75,7 +74,6 @@ fn a_place_compares_nothing(rt: HostRuntime) -> Result<(), Fail> {
         assert_equal!(rt; compared_by_a_place(&mut map, &notes, key), Ok(0), "of {number}");
     }
     assert!(rt; map.is_empty());
-    Ok(())
 }
 
 // The elements from one number on, so many of them.
@@ -92,37 +90,35 @@ fn elements<'a>(
 }
 
 #[test]
-fn a_set_of_two_clones_what_it_has(rt: HostRuntime) -> Result<(), Fail> {
+fn a_set_of_two_clones_what_it_has(rt: HostRuntime) {
     let notes = Notes::new();
-    let one = elements(rt.alloc(), 0, 100, &notes)?;
-    let other = elements(rt.alloc(), 50, 100, &notes)?;
-    assert_equal!(rt; (one.bitor(&other)?.len(), notes.cloned()), (150, 150));
-    assert_equal!(rt; (one.bitand(&other)?.len(), notes.cloned()), (50, 50));
-    assert_equal!(rt; (one.bitxor(&other)?.len(), notes.cloned()), (100, 100));
-    assert_equal!(rt; (one.sub(&other)?.len(), notes.cloned()), (50, 50));
-    Ok(())
+    let one = elements(rt.alloc(), 0, 100, &notes).or_abort(&rt);
+    let other = elements(rt.alloc(), 50, 100, &notes).or_abort(&rt);
+    assert_equal!(rt; (one.bitor(&other).or_abort(&rt).len(), notes.cloned()), (150, 150));
+    assert_equal!(rt; (one.bitand(&other).or_abort(&rt).len(), notes.cloned()), (50, 50));
+    assert_equal!(rt; (one.bitxor(&other).or_abort(&rt).len(), notes.cloned()), (100, 100));
+    assert_equal!(rt; (one.sub(&other).or_abort(&rt).len(), notes.cloned()), (50, 50));
 }
 
 #[test]
-fn each_key_is_cloned_once(rt: HostRuntime) -> Result<(), Fail> {
+fn each_key_is_cloned_once(rt: HostRuntime) {
     let notes = Notes::new();
     let mut map = Map::new(rt.alloc());
     let mut other: hashed::Map<Noted<'_>, u32> = hashed::Map::new(rt.alloc());
     for key in 0..100u32 {
-        map.insert(Noted::new(key, &notes), key)?;
-        other.insert(Noted::new(key, &notes), key)?;
+        map.insert(Noted::new(key, &notes), key).or_abort(&rt);
+        other.insert(Noted::new(key, &notes), key).or_abort(&rt);
     }
-    assert_equal!(rt; (map.clone()?.len(), notes.cloned()), (100, 100));
-    assert_equal!(rt; (other.clone()?.len(), notes.cloned()), (100, 100));
-    Ok(())
+    assert_equal!(rt; (map.clone().or_abort(&rt).len(), notes.cloned()), (100, 100));
+    assert_equal!(rt; (other.clone().or_abort(&rt).len(), notes.cloned()), (100, 100));
 }
 
 #[test]
-fn a_test_of_two_sets_is_linear(rt: HostRuntime) -> Result<(), Fail> {
+fn a_test_of_two_sets_is_linear(rt: HostRuntime) {
     let notes = Notes::new();
-    let one = elements(rt.alloc(), 0, 100, &notes)?;
-    let other = elements(rt.alloc(), 0, 101, &notes)?;
-    let behind = elements(rt.alloc(), 100, 100, &notes)?;
+    let one = elements(rt.alloc(), 0, 100, &notes).or_abort(&rt);
+    let other = elements(rt.alloc(), 0, 101, &notes).or_abort(&rt);
+    let behind = elements(rt.alloc(), 100, 100, &notes).or_abort(&rt);
     notes.compared();
     let answers = (one.is_subset(&other), notes.compared() <= 201);
     assert_equal!(rt; answers, (true, true));
@@ -130,5 +126,4 @@ fn a_test_of_two_sets_is_linear(rt: HostRuntime) -> Result<(), Fail> {
     assert_equal!(rt; answers, (true, true));
     let answers = (one.is_disjoint(&behind), notes.compared() <= 200);
     assert_equal!(rt; answers, (true, true));
-    Ok(())
 }

@@ -1,5 +1,4 @@
 //! What a refused call drops.
-use std::test::Fail;
 use wasmi_hashed::Set as HashSet;
 use wasmi_hashed::hash::FixedState;
 use wasmi_ordered::Set as TreeSet;
@@ -9,7 +8,7 @@ use wasmi_vectors::noted::{Noted, Notes};
 use wasmi_vectors::observed::Log;
 
 #[test]
-fn an_element_that_finds_no_memory_is_dropped(rt: HostRuntime) -> Result<(), Fail> {
+fn an_element_that_finds_no_memory_is_dropped(rt: HostRuntime) {
     let (log, notes) = (Log::new(), Notes::new());
     let heap = Logged::new(rt.alloc(), &log);
     let mut tree: TreeSet<Noted<'_>, Logged<'_>> = TreeSet::new(heap);
@@ -26,5 +25,4 @@ fn an_element_that_finds_no_memory_is_dropped(rt: HostRuntime) -> Result<(), Fai
         hash.insert(element()).is_err(),
     );
     assert_equal!(rt; (inserted, notes.dropped()), ((true, true), 2));
-    Ok(())
 }

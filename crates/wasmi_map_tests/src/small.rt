@@ -1,6 +1,6 @@
 //! Maps and sets of few keys, and of none where there were many.
+use crate::or_abort::OrAbort;
 use std::alloc::Global;
-use std::test::Fail;
 use wasmi_arena::ArenaError;
 use wasmi_hashed as hashed;
 use wasmi_ordered::{Map, Set};
@@ -37,7 +37,7 @@ fn elements_at_a_cut(
 
 // Before all keys, at each, and behind all.
 #[test]
-fn few_keys_are_cloned_cut_and_joined(rt: HostRuntime) -> Result<(), Fail> {
+fn few_keys_are_cloned_cut_and_joined(rt: HostRuntime) {
     for len in 0..4u32 {
         for cut in 0..=len.wrapping_add(1) {
             let front = (cut.saturating_sub(1)).min(len);
@@ -51,7 +51,6 @@ fn few_keys_are_cloned_cut_and_joined(rt: HostRuntime) -> Result<(), Fail> {
             assert_equal!(rt; elements_at_a_cut(rt.alloc(), len, at), want, "{len} at {at}");
         }
     }
-    Ok(())
 }
 
 // How many a clone has of so many.
@@ -66,11 +65,10 @@ fn hashed_clone(alloc: Global, len: u32) -> Result<(usize, usize), ArenaError> {
 }
 
 #[test]
-fn few_hashed_keys_are_cloned(rt: HostRuntime) -> Result<(), Fail> {
+fn few_hashed_keys_are_cloned(rt: HostRuntime) {
     for len in 0..5u32 {
         assert_equal!(rt; hashed_clone(rt.alloc(), len), Ok((len as usize, len as usize)));
     }
-    Ok(())
 }
 
 // The capacity of a map and of a set that had a thousand keys, once they are shrunk.
@@ -92,10 +90,9 @@ fn emptied(alloc: Global, by_clear: bool) -> Result<(usize, usize), ArenaError> 
 }
 
 #[test]
-fn what_is_empty_gives_its_room_back(rt: HostRuntime) -> Result<(), Fail> {
+fn what_is_empty_gives_its_room_back(rt: HostRuntime) {
     for by_clear in [false, true] {
-        let (map, set) = emptied(rt.alloc(), by_clear)?;
+        let (map, set) = emptied(rt.alloc(), by_clear).or_abort(&rt);
         assert!(rt; map < 8 && set < 8);
     }
-    Ok(())
 }

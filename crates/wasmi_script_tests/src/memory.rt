@@ -1,6 +1,6 @@
 //! Memory: each request refused in turn, of the store and of a script, and what asks for none.
+use crate::or_abort::OrAbort;
 use std::io::{self, Read};
-use std::test::Fail;
 use wasmi_arena::{ArenaError, ArenaKey};
 use wasmi_script_lib::{EntityKey, EntityStore, ScriptError, answer, run};
 use wasmi_vectors::assert_equal;
@@ -59,7 +59,7 @@ fn refused_entities(store: &mut Store<'_, '_>) -> Result<u64, ArenaError> {
 
 // The name and the kind may be there after an error, and are no hindrance to the next call.
 #[test]
-fn an_entity_that_was_refused_is_added_again(rt: HostRuntime) -> Result<(), Fail> {
+fn an_entity_that_was_refused_is_added_again(rt: HostRuntime) {
     let mut refused = 0u64;
     let mut requests = 0;
     for nth in 1..20 {
@@ -68,14 +68,13 @@ fn an_entity_that_was_refused_is_added_again(rt: HostRuntime) -> Result<(), Fail
             let heap = Observed::new(rt.alloc(), &log);
             let mut store = EntityStore::new(&heap);
             log.refuse_once(nth);
-            refused = refused.wrapping_add(refused_entities(&mut store)?);
+            refused = refused.wrapping_add(refused_entities(&mut store).or_abort(&rt));
             assert_equal!(rt; (has_first(&store, 2), store.names(), store.kinds()), (Ok(true), 2, 2), "{nth}");
             requests = log.requests();
         }
         assert_equal!(rt; log.amiss(), 0);
     }
     assert_equal!(rt; refused, requests);
-    Ok(())
 }
 
 // Renames a kind, and once more where it was refused and the store is as before; whether it was.
@@ -93,25 +92,24 @@ fn was_refused_a_name(store: &mut Store<'_, '_>) -> Result<bool, ArenaError> {
 
 // After an error nothing has changed.
 #[test]
-fn a_kind_that_was_refused_a_name_is_renamed_again(rt: HostRuntime) -> Result<(), Fail> {
+fn a_kind_that_was_refused_a_name_is_renamed_again(rt: HostRuntime) {
     let mut refused = 0u64;
     for nth in 1..8 {
         let log = Log::new();
         {
             let heap = Observed::new(rt.alloc(), &log);
-            let mut store = two_entities(&heap)?;
+            let mut store = two_entities(&heap).or_abort(&rt);
             log.refuse_once(nth);
-            if was_refused_a_name(&mut store)? {
+            if was_refused_a_name(&mut store).or_abort(&rt) {
                 refused = refused.wrapping_add(1);
             }
-            let bob = key(1)?;
-            assert_equal!(rt; (store.get(bob)?.1, store.names(), store.kinds()), ("admin", 2, 2));
+            let bob = key(1).or_abort(&rt);
+            assert_equal!(rt; (store.get(bob).or_abort(&rt).1, store.names(), store.kinds()), ("admin", 2, 2));
         }
         assert_equal!(rt; log.amiss(), 0);
     }
     // The two copies of the name, and no other.
     assert_equal!(rt; refused, 2);
-    Ok(())
 }
 
 // A name or a kind that is there isn't copied, and a property that is there gives its place to the next.
@@ -130,7 +128,7 @@ fn goes_on_without_memory(store: &mut Store<'_, '_>) -> Result<(), ArenaError> {
 }
 
 #[test]
-fn what_is_there_needs_no_memory(rt: HostRuntime) -> Result<(), Fail> {
+fn what_is_there_needs_no_memory(rt: HostRuntime) {
     let log = Log::new();
     {
         let heap = Observed::new(rt.alloc(), &log);
@@ -139,8 +137,8 @@ fn what_is_there_needs_no_memory(rt: HostRuntime) -> Result<(), Fail> {
     }
     {
         let heap = Observed::new(rt.alloc(), &log);
-        let mut store = two_entities(&heap)?;
-        let ann = key(0)?;
+        let mut store = two_entities(&heap).or_abort(&rt);
+        let ann = key(0).or_abort(&rt);
         assert_equal!(rt; store.set(ann, 1), Ok(None));
         let asked = log.requests();
         log.refuse_from(1);
@@ -148,22 +146,20 @@ fn what_is_there_needs_no_memory(rt: HostRuntime) -> Result<(), Fail> {
         assert_equal!(rt; log.requests(), asked);
     }
     assert_equal!(rt; log.amiss(), 0);
-    Ok(())
 }
 
 // Nothing is made before a line asks for it.
 #[test]
-fn a_script_without_lines_needs_no_memory(rt: HostRuntime) -> Result<(), Fail> {
+fn a_script_without_lines_needs_no_memory(rt: HostRuntime) {
     let log = Log::new();
     let heap = Observed::new(rt.alloc(), &log);
     log.refuse_from(1);
-    assert_equal!(rt; answer(&heap, "")?.as_str(), "");
-    Ok(())
+    assert_equal!(rt; answer(&heap, "").or_abort(&rt).as_str(), "");
 }
 
 // One request for each text, each copy, each container and its growths, and for the replies as they grow.
 #[test]
-fn a_script_that_is_refused_memory_fails(rt: HostRuntime) -> Result<(), Fail> {
+fn a_script_that_is_refused_memory_fails(rt: HostRuntime) {
     let mut refused = 0u64;
     let mut requests = 0;
     for nth in 1..60 {
@@ -183,11 +179,10 @@ fn a_script_that_is_refused_memory_fails(rt: HostRuntime) -> Result<(), Fail> {
         assert_equal!(rt; log.amiss(), 0);
     }
     assert_equal!(rt; (refused, requests), (33, 33));
-    Ok(())
 }
 
 #[test]
-fn a_program_that_is_refused_memory_writes_nothing(rt: HostRuntime) -> Result<(), Fail> {
+fn a_program_that_is_refused_memory_writes_nothing(rt: HostRuntime) {
     let mut refused = 0u64;
     let mut requests = 0;
     for nth in 1..60 {
@@ -212,7 +207,6 @@ fn a_program_that_is_refused_memory_writes_nothing(rt: HostRuntime) -> Result<()
     }
     // One for the input, and those of `answer`.
     assert_equal!(rt; (refused, requests), (34, 34));
-    Ok(())
 }
 
 // A reader that gives one byte at a time.
@@ -237,7 +231,7 @@ impl Read for OneByOne<'_> {
 
 // A line of a thousand bytes: the input doubles its block, and the reply is short.
 #[test]
-fn bytes_that_come_one_by_one_ask_for_few_blocks(rt: HostRuntime) -> Result<(), Fail> {
+fn bytes_that_come_one_by_one_ask_for_few_blocks(rt: HostRuntime) {
     let log = Log::new();
     let line = [b'x'; 1_000];
     let mut output = Vec::new(rt.alloc());
@@ -245,5 +239,4 @@ fn bytes_that_come_one_by_one_ask_for_few_blocks(rt: HostRuntime) -> Result<(), 
     assert_equal!(rt; run(Logged::new(rt.alloc(), &log), &mut input, &mut output), Ok(()));
     assert_equal!(rt; output.as_slice(), b"bad line 1\n".as_slice());
     assert!(rt; log.requests() < 20);
-    Ok(())
 }

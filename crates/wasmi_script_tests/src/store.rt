@@ -1,5 +1,5 @@
 //! The entity store: worked examples.
-use std::test::Fail;
+use crate::or_abort::OrAbort;
 use wasmi_arena::{ArenaError, ArenaKey};
 use wasmi_script_lib::{EntityKey, EntityStore};
 use wasmi_vectors::assert_equal;
@@ -9,7 +9,7 @@ fn key(number: usize) -> Result<EntityKey, ArenaError> {
 }
 
 #[test]
-fn entities_are_added(rt: HostRuntime) -> Result<(), Fail> {
+fn entities_are_added(rt: HostRuntime) {
     let mut store = EntityStore::new(rt.alloc());
     for (name, kind, number, counts) in [
         ("ann", "user", 0usize, (1, 1, 1)),
@@ -17,17 +17,16 @@ fn entities_are_added(rt: HostRuntime) -> Result<(), Fail> {
         ("ann", "group", 2, (3, 2, 2)),
         ("", "", 3, (4, 3, 3)),
     ] {
-        assert_equal!(rt; store.add(name, kind)?.into_usize(), number);
+        assert_equal!(rt; store.add(name, kind).or_abort(&rt).into_usize(), number);
         assert_equal!(rt; (store.len(), store.names(), store.kinds()), counts);
     }
-    Ok(())
 }
 
 #[test]
-fn properties_are_set_and_taken_out(rt: HostRuntime) -> Result<(), Fail> {
+fn properties_are_set_and_taken_out(rt: HostRuntime) {
     let mut store = EntityStore::new(rt.alloc());
-    let ann = store.add("ann", "user")?;
-    let bob = store.add("bob", "user")?;
+    let ann = store.add("ann", "user").or_abort(&rt);
+    let bob = store.add("bob", "user").or_abort(&rt);
     assert_equal!(rt; store.set(bob, 42), Ok(None));
     assert_equal!(rt; store.set(bob, 7), Ok(Some(42)));
     for (key, name, property) in [(ann, "ann", None), (bob, "bob", Some(7))] {
@@ -37,18 +36,17 @@ fn properties_are_set_and_taken_out(rt: HostRuntime) -> Result<(), Fail> {
     assert_equal!(rt; store.unset(bob), Ok(None));
     assert_equal!(rt; store.set(bob, 8), Ok(None));
     assert_equal!(rt; store.unset(bob), Ok(Some(8)));
-    let nobody = key(2)?;
+    let nobody = key(2).or_abort(&rt);
     assert_equal!(rt; store.get(nobody), Err(ArenaError::KeyOutOfBounds));
     assert_equal!(rt; store.set(nobody, 1), Err(ArenaError::KeyOutOfBounds));
     assert_equal!(rt; store.unset(nobody), Err(ArenaError::KeyOutOfBounds));
-    Ok(())
 }
 
 #[test]
-fn kinds_are_renamed(rt: HostRuntime) -> Result<(), Fail> {
+fn kinds_are_renamed(rt: HostRuntime) {
     let mut store = EntityStore::new(rt.alloc());
     for (name, kind) in [("ann", "user"), ("bob", "user"), ("ann", "group")] {
-        let _key = store.add(name, kind)?;
+        let _key = store.add(name, kind).or_abort(&rt);
     }
     for (number, kind, done) in [
         (0, "admin", Ok(())),
@@ -57,11 +55,10 @@ fn kinds_are_renamed(rt: HostRuntime) -> Result<(), Fail> {
         (5, "admin", Err(ArenaError::KeyOutOfBounds)),
         (2, "user", Ok(())),
     ] {
-        assert_equal!(rt; store.rename_kind(key(number)?, kind), done);
+        assert_equal!(rt; store.rename_kind(key(number).or_abort(&rt), kind), done);
     }
     for (number, name, kind) in [(0, "ann", "admin"), (1, "bob", "admin"), (2, "ann", "user")] {
-        assert_equal!(rt; store.get(key(number)?), Ok((name, kind, None)));
+        assert_equal!(rt; store.get(key(number).or_abort(&rt)), Ok((name, kind, None)));
     }
     assert_equal!(rt; store.kinds(), 2);
-    Ok(())
 }

@@ -3,3 +3,5 @@
 
 #[cfg(test)]
 mod callers;
+#[cfg(test)]
+mod or_abort;

@@ -1,6 +1,6 @@
 //! Places of keys: what the map is afterwards.
+use crate::or_abort::OrAbort;
 use std::alloc::Global;
-use std::test::Fail;
 use wasmi_arena::ArenaError;
 use wasmi_hashed::Map;
 use wasmi_hashed::map::Entry;
@@ -11,9 +11,9 @@ fn one(alloc: Global) -> Result<Map<u32, &'static str>, ArenaError> {
 }
 
 #[test]
-fn a_free_place_takes_a_value(rt: HostRuntime) -> Result<(), Fail> {
-    let mut map = one(rt.alloc())?;
-    match map.entry(2)? {
+fn a_free_place_takes_a_value(rt: HostRuntime) {
+    let mut map = one(rt.alloc()).or_abort(&rt);
+    match map.entry(2).or_abort(&rt) {
         Entry::Occupied(_) => assert!(rt; false),
         Entry::Vacant(vacant) => {
             assert_equal!(rt; vacant.key(), &2);
@@ -21,61 +21,71 @@ fn a_free_place_takes_a_value(rt: HostRuntime) -> Result<(), Fail> {
         }
     }
     assert_equal!(rt; map.len(), 1);
-    assert_equal!(rt; *map.entry(2)?.or_insert("c")?, "c");
-    assert_equal!(rt; &map, &Map::from_iter(rt.alloc(), [(1, "b"), (2, "c")])?);
-    assert_equal!(rt; map.entry(0)?.key(), &0);
-    Ok(())
+    assert_equal!(rt; *map.entry(2).or_abort(&rt).or_insert("c").or_abort(&rt), "c");
+    assert_equal!(rt; &map, &Map::from_iter(rt.alloc(), [(1, "b"), (2, "c")]).or_abort(&rt));
+    assert_equal!(rt; map.entry(0).or_abort(&rt).key(), &0);
 }
 
 #[test]
-fn a_free_place_takes_what_a_closure_returns(rt: HostRuntime) -> Result<(), Fail> {
-    let mut map = one(rt.alloc())?;
-    assert_equal!(rt; *map.entry(3)?.or_insert_with(|| "d")?, "d");
+fn a_free_place_takes_what_a_closure_returns(rt: HostRuntime) {
+    let mut map = one(rt.alloc()).or_abort(&rt);
+    assert_equal!(rt; *map.entry(3).or_abort(&rt).or_insert_with(|| "d").or_abort(&rt), "d");
     let value = map
-        .entry(4)?
-        .or_insert_with_key(|key| if *key == 4 { "e" } else { "" })?;
+        .entry(4)
+        .or_abort(&rt)
+        .or_insert_with_key(|key| if *key == 4 { "e" } else { "" })
+        .or_abort(&rt);
     assert_equal!(rt; *value, "e");
-    if let Entry::Vacant(vacant) = map.entry(5)? {
-        let value = vacant.insert("f")?;
+    if let Entry::Vacant(vacant) = map.entry(5).or_abort(&rt) {
+        let value = vacant.insert("f").or_abort(&rt);
         *value = "g";
     }
     let want = [(1, "b"), (3, "d"), (4, "e"), (5, "g")];
-    assert_equal!(rt; &map, &Map::from_iter(rt.alloc(), want)?);
-    Ok(())
+    assert_equal!(rt; &map, &Map::from_iter(rt.alloc(), want).or_abort(&rt));
 }
 
 #[test]
-fn a_free_place_takes_the_default(rt: HostRuntime) -> Result<(), Fail> {
+fn a_free_place_takes_the_default(rt: HostRuntime) {
     let mut counts: Map<u32, u32> = Map::new(rt.alloc());
-    assert_equal!(rt; *counts.entry(7)?.or_default()?, 0);
+    assert_equal!(rt; *counts.entry(7).or_abort(&rt).or_default().or_abort(&rt), 0);
     assert_equal!(rt; counts.get(&7), Some(&0));
-    Ok(())
 }
 
 #[test]
-fn a_value_that_is_there_stays(rt: HostRuntime) -> Result<(), Fail> {
-    let mut map = one(rt.alloc())?;
-    assert_equal!(rt; map.entry(1)?.key(), &1);
-    assert_equal!(rt; *map.entry(1)?.or_insert("z")?, "b");
+fn a_value_that_is_there_stays(rt: HostRuntime) {
+    let mut map = one(rt.alloc()).or_abort(&rt);
+    assert_equal!(rt; map.entry(1).or_abort(&rt).key(), &1);
+    assert_equal!(rt; *map.entry(1).or_abort(&rt).or_insert("z").or_abort(&rt), "b");
     let mut calls: u32 = 0;
-    let value = map.entry(1)?.or_insert_with(|| {
-        calls = calls.wrapping_add(1);
-        "z"
-    })?;
+    let value = map
+        .entry(1)
+        .or_abort(&rt)
+        .or_insert_with(|| {
+            calls = calls.wrapping_add(1);
+            "z"
+        })
+        .or_abort(&rt);
     assert_equal!(rt; *value, "b");
     assert_equal!(rt; calls, 0);
-    assert_equal!(rt; *map.entry(1)?.or_insert_with_key(|_| "z")?, "b");
-    assert_equal!(rt; &map, &one(rt.alloc())?);
-    Ok(())
+    assert_equal!(rt; *map.entry(1).or_abort(&rt).or_insert_with_key(|_| "z").or_abort(&rt), "b");
+    assert_equal!(rt; &map, &one(rt.alloc()).or_abort(&rt));
 }
 
 #[test]
-fn a_place_changes_its_value(rt: HostRuntime) -> Result<(), Fail> {
-    let mut map: Map<u32, u32> = Map::from_iter(rt.alloc(), [(1, 10), (2, 20)])?;
-    map.entry(1)?.and_modify(|value| *value = 11).or_insert(0)?;
-    map.entry(3)?.and_modify(|value| *value = 11).or_insert(30)?;
-    assert_equal!(rt; &map, &Map::from_iter(rt.alloc(), [(1, 11), (2, 20), (3, 30)])?);
-    if let Entry::Occupied(mut occupied) = map.entry(2)? {
+fn a_place_changes_its_value(rt: HostRuntime) {
+    let mut map: Map<u32, u32> = Map::from_iter(rt.alloc(), [(1, 10), (2, 20)]).or_abort(&rt);
+    map.entry(1)
+        .or_abort(&rt)
+        .and_modify(|value| *value = 11)
+        .or_insert(0)
+        .or_abort(&rt);
+    map.entry(3)
+        .or_abort(&rt)
+        .and_modify(|value| *value = 11)
+        .or_insert(30)
+        .or_abort(&rt);
+    assert_equal!(rt; &map, &Map::from_iter(rt.alloc(), [(1, 11), (2, 20), (3, 30)]).or_abort(&rt));
+    if let Entry::Occupied(mut occupied) = map.entry(2).or_abort(&rt) {
         assert_equal!(rt; occupied.key(), &2);
         assert_equal!(rt; occupied.get(), &20);
         *occupied.get_mut() = 21;
@@ -83,14 +93,13 @@ fn a_place_changes_its_value(rt: HostRuntime) -> Result<(), Fail> {
         *occupied.into_mut() = 23;
     }
     assert_equal!(rt; map.get(&2), Some(&23));
-    if let Entry::Occupied(occupied) = map.entry(2)? {
+    if let Entry::Occupied(occupied) = map.entry(2).or_abort(&rt) {
         assert_equal!(rt; occupied.remove(), 23);
     }
-    if let Entry::Occupied(occupied) = map.entry(3)? {
+    if let Entry::Occupied(occupied) = map.entry(3).or_abort(&rt) {
         assert_equal!(rt; occupied.remove_entry(), (3, 30));
     }
-    assert_equal!(rt; &map, &Map::from_iter(rt.alloc(), [(1, 11)])?);
-    Ok(())
+    assert_equal!(rt; &map, &Map::from_iter(rt.alloc(), [(1, 11)]).or_abort(&rt));
 }
 
 // Takes a key out by its entry. The keys are references.
@@ -105,10 +114,9 @@ fn take<'a>(map: &mut Map<&'a str, u32>, key: &'a str) -> Result<Option<u32>, Ar
 }
 
 #[test]
-fn a_text_is_taken_out_by_its_entry(rt: HostRuntime) -> Result<(), Fail> {
-    let mut map = Map::from_iter(rt.alloc(), [("a", 1), ("b", 2)])?;
+fn a_text_is_taken_out_by_its_entry(rt: HostRuntime) {
+    let mut map = Map::from_iter(rt.alloc(), [("a", 1), ("b", 2)]).or_abort(&rt);
     assert_equal!(rt; take(&mut map, "b"), Ok(Some(2)));
     assert_equal!(rt; take(&mut map, "b"), Ok(None));
     assert_equal!(rt; (map.len(), map.get(&"a")), (1, Some(&1)));
-    Ok(())
 }

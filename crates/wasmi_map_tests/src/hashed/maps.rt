@@ -1,7 +1,7 @@
 //! Maps from numbers to texts.
+use crate::or_abort::OrAbort;
 use std::alloc::Global;
 use std::hash::{BuildHasher, Hasher};
-use std::test::Fail;
 use wasmi_arena::ArenaError;
 use wasmi_hashed::Map;
 use wasmi_hashed::hash::RandomState;
@@ -17,7 +17,7 @@ fn six(alloc: Global) -> Result<Map<u32, u32>, ArenaError> {
 }
 
 #[test]
-fn a_key_keeps_its_last_value(rt: HostRuntime) -> Result<(), Fail> {
+fn a_key_keeps_its_last_value(rt: HostRuntime) {
     let mut map: Map<u32, &'static str> = Map::new(rt.alloc());
     assert!(rt; map.is_empty());
     assert_equal!(rt; map.insert(1, "a"), Ok(None));
@@ -42,43 +42,40 @@ fn a_key_keeps_its_last_value(rt: HostRuntime) -> Result<(), Fail> {
     assert_equal!(rt; map.len(), 1);
     map.clear();
     assert!(rt; map.is_empty());
-    Ok(())
 }
 
 #[test]
-fn a_later_pair_of_one_key_wins(rt: HostRuntime) -> Result<(), Fail> {
-    let mut map = Map::from_iter(rt.alloc(), [(1, "a"), (2, "b"), (1, "c")])?;
+fn a_later_pair_of_one_key_wins(rt: HostRuntime) {
+    let mut map = Map::from_iter(rt.alloc(), [(1, "a"), (2, "b"), (1, "c")]).or_abort(&rt);
     assert_equal!(rt; map.len(), 2);
     assert_equal!(rt; map.get(&1), Some(&"c"));
-    map.extend([(2, "d"), (3, "e"), (3, "f")])?;
-    assert_equal!(rt; &map, &Map::from_iter(rt.alloc(), [(1, "c"), (2, "d"), (3, "f")])?);
+    map.extend([(2, "d"), (3, "e"), (3, "f")]).or_abort(&rt);
+    assert_equal!(rt; &map, &Map::from_iter(rt.alloc(), [(1, "c"), (2, "d"), (3, "f")]).or_abort(&rt));
     let more = [(3, "g"), (4, "h")];
     let mut other = Map::new(rt.alloc());
-    other.extend(more)?;
-    map.extend_ref(&other)?;
+    other.extend(more).or_abort(&rt);
+    map.extend_ref(&other).or_abort(&rt);
     assert_equal!(rt; map.get(&3), Some(&"g"));
     assert_equal!(rt; map.len(), 4);
     assert_equal!(rt; map.remove_entry(&1), Some((1, "c")));
     assert_equal!(rt; map.remove_entry(&1), None);
-    Ok(())
 }
 
 #[test]
-fn some_entries_are_kept(rt: HostRuntime) -> Result<(), Fail> {
-    let mut map = six(rt.alloc())?;
+fn some_entries_are_kept(rt: HostRuntime) {
+    let mut map = six(rt.alloc()).or_abort(&rt);
     map.retain(|key, _| key % 2 == 0);
-    assert_equal!(rt; &map, &Map::from_iter(rt.alloc(), [(2, 2), (4, 4), (6, 6)])?);
+    assert_equal!(rt; &map, &Map::from_iter(rt.alloc(), [(2, 2), (4, 4), (6, 6)]).or_abort(&rt));
     map.retain(|_, value| {
         *value /= 2;
         true
     });
-    assert_equal!(rt; &map, &Map::from_iter(rt.alloc(), [(2, 1), (4, 2), (6, 3)])?);
-    Ok(())
+    assert_equal!(rt; &map, &Map::from_iter(rt.alloc(), [(2, 1), (4, 2), (6, 3)]).or_abort(&rt));
 }
 
 #[test]
-fn values_are_written(rt: HostRuntime) -> Result<(), Fail> {
-    let mut map = six(rt.alloc())?;
+fn values_are_written(rt: HostRuntime) {
+    let mut map = six(rt.alloc()).or_abort(&rt);
     if let Some(value) = map.get_mut(&3) {
         *value = 30;
     }
@@ -103,53 +100,55 @@ fn values_are_written(rt: HostRuntime) -> Result<(), Fail> {
     assert_equal!(rt; values.len(), 6);
     assert_equal!(rt; values.next(), Some(&8));
     assert_equal!(rt; values.next(), Some(&8));
-    Ok(())
 }
 
 #[test]
-fn walks_give_each_entry_once(rt: HostRuntime) -> Result<(), Fail> {
-    let map = six(rt.alloc())?;
-    let copy = map.clone()?;
+fn walks_give_each_entry_once(rt: HostRuntime) {
+    let map = six(rt.alloc()).or_abort(&rt);
+    let copy = map.clone().or_abort(&rt);
     assert_equal!(rt; &copy, &map);
-    let mut keys: Vec<u32> = map.keys().copied().collect(rt.alloc())?;
+    let mut keys: Vec<u32> = map.keys().copied().collect(rt.alloc()).or_abort(&rt);
     keys.sort_unstable();
     assert!(rt; keys.iter().eq([1, 2, 3, 4, 5, 6].iter()));
-    let mut keys: Vec<u32> = map.into_keys().collect(rt.alloc())?;
+    let mut keys: Vec<u32> = map.into_keys().collect(rt.alloc()).or_abort(&rt);
     keys.sort_unstable();
     assert!(rt; keys.iter().eq([1, 2, 3, 4, 5, 6].iter()));
-    let mut values: Vec<u32> = copy.clone()?.into_values().collect(rt.alloc())?;
+    let mut values: Vec<u32> = copy
+        .clone()
+        .or_abort(&rt)
+        .into_values()
+        .collect(rt.alloc())
+        .or_abort(&rt);
     values.sort_unstable();
     assert!(rt; values.iter().eq([1, 2, 3, 4, 5, 6].iter()));
     let mut pairs = copy.into_iter();
     assert_equal!(rt; pairs.len(), 6);
     for _ in 0..6 {
-        let (key, value) = pairs.next().ok_or("a pair")?;
+        let (key, value) = pairs.next().expect(&rt, "a pair");
         assert_equal!(rt; key, value);
     }
     assert_equal!(rt; pairs.next(), None);
-    Ok(())
 }
 
 #[test]
-fn equal_maps_have_equal_values(rt: HostRuntime) -> Result<(), Fail> {
-    let one = Map::from_iter(rt.alloc(), [(1, "a"), (2, "b")])?;
-    assert_equal!(rt; &one, &Map::from_iter(rt.alloc(), [(2, "b"), (1, "a")])?);
-    assert!(rt; one != Map::from_iter(rt.alloc(), [(1, "a"), (2, "c")])?);
-    assert!(rt; one != Map::from_iter(rt.alloc(), [(1, "a")])?);
-    assert!(rt; one != Map::from_iter(rt.alloc(), [(1, "a"), (2, "b"), (3, "c")])?);
-    assert!(rt; one != Map::from_iter(rt.alloc(), [(1, "a"), (3, "b")])?);
-    Ok(())
+fn equal_maps_have_equal_values(rt: HostRuntime) {
+    let one = Map::from_iter(rt.alloc(), [(1, "a"), (2, "b")]).or_abort(&rt);
+    assert_equal!(rt; &one, &Map::from_iter(rt.alloc(), [(2, "b"), (1, "a")]).or_abort(&rt));
+    assert!(rt; one != Map::from_iter(rt.alloc(), [(1, "a"), (2, "c")]).or_abort(&rt));
+    assert!(rt; one != Map::from_iter(rt.alloc(), [(1, "a")]).or_abort(&rt));
+    assert!(rt; one != Map::from_iter(rt.alloc(), [(1, "a"), (2, "b"), (3, "c")]).or_abort(&rt));
+    assert!(rt; one != Map::from_iter(rt.alloc(), [(1, "a"), (3, "b")]).or_abort(&rt));
 }
 
 #[test]
-fn keys_are_hashed_by_the_state_handed_in(rt: HostRuntime) -> Result<(), Fail> {
-    let state = RandomState::new(&rt)?;
+fn keys_are_hashed_by_the_state_handed_in(rt: HostRuntime) {
+    let state = RandomState::new(&rt).or_abort(&rt);
     let mut map: Map<u32, u32, RandomState> = Map::with_hasher(rt.alloc(), state);
     for key in 0..200u32 {
-        map.insert(key, key.wrapping_mul(3))?;
+        map.insert(key, key.wrapping_mul(3)).or_abort(&rt);
     }
     assert_equal!(rt; map.reserve(1000), Ok(()));
-    let copy = map.clone()?;
+    let copy = map.clone().or_abort(&rt);
     for key in 0..200u32 {
         assert_equal!(rt; map.get(&key), Some(&key.wrapping_mul(3)));
         assert_equal!(rt; copy.get(&key), Some(&key.wrapping_mul(3)));
@@ -157,7 +156,6 @@ fn keys_are_hashed_by_the_state_handed_in(rt: HostRuntime) -> Result<(), Fail> {
     assert_equal!(rt; &copy, &map);
     assert_equal!(rt; map.remove(&7), Some(21));
     assert!(rt; copy != map);
-    Ok(())
 }
 
 // A state by which all keys have one hash.
@@ -187,10 +185,10 @@ impl BuildHasher for OneHash {
 }
 
 #[test]
-fn keys_of_one_hash_are_told_apart(rt: HostRuntime) -> Result<(), Fail> {
+fn keys_of_one_hash_are_told_apart(rt: HostRuntime) {
     let mut map: Map<u32, u32, OneHash> = Map::with_hasher(rt.alloc(), OneHash);
     for key in 0..50u32 {
-        assert_equal!(rt; map.insert(key, key)?, None);
+        assert_equal!(rt; map.insert(key, key).or_abort(&rt), None);
     }
     for key in (0..50u32).step_by(2) {
         assert_equal!(rt; map.remove(&key), Some(key));
@@ -199,29 +197,26 @@ fn keys_of_one_hash_are_told_apart(rt: HostRuntime) -> Result<(), Fail> {
         assert_equal!(rt; map.contains_key(&key), key % 2 == 1);
     }
     assert_equal!(rt; map.len(), 25);
-    Ok(())
 }
 
 #[test]
-fn a_map_prints_its_entries(rt: HostRuntime) -> Result<(), Fail> {
-    let map = Map::from_iter(rt.alloc(), [(2, true), (3, false)])?;
-    let text = format!(in rt.alloc(); "{map:?}")?;
+fn a_map_prints_its_entries(rt: HostRuntime) {
+    let map = Map::from_iter(rt.alloc(), [(2, true), (3, false)]).or_abort(&rt);
+    let text = format!(in rt.alloc(); "{map:?}").or_abort(&rt);
     assert!(rt; text.as_str() == "{2: true, 3: false}" || text.as_str() == "{3: false, 2: true}");
-    Ok(())
 }
 
 // Two texts without a letter are equal, and only one of them has room for some.
 #[test]
-fn a_key_that_is_there_is_kept(rt: HostRuntime) -> Result<(), Fail> {
+fn a_key_that_is_there_is_kept(rt: HostRuntime) {
     let alloc = rt.alloc();
-    let roomy = String::with_capacity(alloc, 40)?;
-    let mut map = Map::from_iter(alloc, [(roomy, 1), (String::new(alloc), 2)])?;
+    let roomy = String::with_capacity(alloc, 40).or_abort(&rt);
+    let mut map = Map::from_iter(alloc, [(roomy, 1), (String::new(alloc), 2)]).or_abort(&rt);
     assert_equal!(rt;
-        (map.len(), map.insert(String::new(alloc), 3)?),
+        (map.len(), map.insert(String::new(alloc), 3).or_abort(&rt)),
         (1, Some(2))
     );
-    map.extend([(String::new(alloc), 4)])?;
+    map.extend([(String::new(alloc), 4)]).or_abort(&rt);
     let entry = map.get_key_value(&String::new(alloc));
     assert!(rt; entry.is_some_and(|(key, value)| 40 <= key.capacity() && *value == 4));
-    Ok(())
 }

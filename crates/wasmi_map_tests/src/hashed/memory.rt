@@ -1,5 +1,5 @@
 //! Hashed maps and sets over an allocator that refuses requests.
-use std::test::Fail;
+use crate::or_abort::OrAbort;
 use wasmi_arena::ArenaError;
 use wasmi_hashed::hash::FixedState;
 use wasmi_hashed::map::Entry;
@@ -18,7 +18,7 @@ fn has_elements(set: &Set<u32, FixedState, Observed<'_>>, len: u32) -> bool {
 }
 
 #[test]
-fn a_refused_key_changes_nothing(rt: HostRuntime) -> Result<(), Fail> {
+fn a_refused_key_changes_nothing(rt: HostRuntime) {
     for nth in 1..30 {
         let log = Log::new();
         {
@@ -37,7 +37,7 @@ fn a_refused_key_changes_nothing(rt: HostRuntime) -> Result<(), Fail> {
                 if let Some(error) = refused {
                     assert_equal!(rt; error, ArenaError::OutOfSystemMemory);
                     assert!(rt; has_first(&map, key), "at {nth}");
-                    assert_equal!(rt; map.insert(key, key)?, None);
+                    assert_equal!(rt; map.insert(key, key).or_abort(&rt), None);
                 }
             }
             assert!(rt; has_first(&map, 100), "at {nth}");
@@ -52,11 +52,10 @@ fn a_refused_key_changes_nothing(rt: HostRuntime) -> Result<(), Fail> {
         }
         assert_equal!(rt; log.amiss(), 0);
     }
-    Ok(())
 }
 
 #[test]
-fn a_refused_element_changes_nothing(rt: HostRuntime) -> Result<(), Fail> {
+fn a_refused_element_changes_nothing(rt: HostRuntime) {
     for nth in 1..30 {
         let log = Log::new();
         {
@@ -66,7 +65,7 @@ fn a_refused_element_changes_nothing(rt: HostRuntime) -> Result<(), Fail> {
                 if let Err(error) = set.insert(element) {
                     assert_equal!(rt; error, ArenaError::OutOfSystemMemory);
                     assert!(rt; has_elements(&set, element), "at {nth}");
-                    assert_equal!(rt; set.replace(element)?, None);
+                    assert_equal!(rt; set.replace(element).or_abort(&rt), None);
                 }
             }
             assert!(rt; has_elements(&set, 100), "at {nth}");
@@ -78,7 +77,6 @@ fn a_refused_element_changes_nothing(rt: HostRuntime) -> Result<(), Fail> {
         }
         assert_equal!(rt; log.amiss(), 0);
     }
-    Ok(())
 }
 
 // Whether it was refused, or has so many elements.
@@ -90,13 +88,13 @@ fn is_refused_or(made: Result<Set<u32, FixedState, Observed<'_>>, ArenaError>, l
 }
 
 #[test]
-fn a_refused_table_gives_all_back(rt: HostRuntime) -> Result<(), Fail> {
+fn a_refused_table_gives_all_back(rt: HostRuntime) {
     let log = Log::new();
     {
         let mut one = Set::new(Observed::new(rt.alloc(), &log));
-        one.extend(0..100u32)?;
+        one.extend(0..100u32).or_abort(&rt);
         let mut other = Set::new(Observed::new(rt.alloc(), &log));
-        other.extend(50..150u32)?;
+        other.extend(50..150u32).or_abort(&rt);
         for nth in 1..20 {
             log.refuse_once(nth);
             assert!(rt; is_refused_or(one.clone(), 100), "at {nth}");
@@ -112,12 +110,11 @@ fn a_refused_table_gives_all_back(rt: HostRuntime) -> Result<(), Fail> {
         assert!(rt; has_elements(&one, 100));
     }
     assert_equal!(rt; log.amiss(), 0);
-    Ok(())
 }
 
 // A front of what was handed in is in.
 #[test]
-fn a_refused_extend_keeps_a_front(rt: HostRuntime) -> Result<(), Fail> {
+fn a_refused_extend_keeps_a_front(rt: HostRuntime) {
     let log = Log::new();
     for nth in 1..20 {
         log.refuse_once(nth);
@@ -133,19 +130,18 @@ fn a_refused_extend_keeps_a_front(rt: HostRuntime) -> Result<(), Fail> {
         }
     }
     assert_equal!(rt; log.amiss(), 0);
-    Ok(())
 }
 
 // Each of these makes what has no element.
 #[test]
-fn what_is_empty_needs_no_memory(rt: HostRuntime) -> Result<(), Fail> {
+fn what_is_empty_needs_no_memory(rt: HostRuntime) {
     let log = Log::new();
     let map: Map<u32, u32, FixedState, Observed<'_>> = Map::new(Observed::new(rt.alloc(), &log));
     let none: Set<u32, FixedState, Observed<'_>> = Set::new(Observed::new(rt.alloc(), &log));
     let mut some = Set::new(Observed::new(rt.alloc(), &log));
-    some.extend(0..100u32)?;
+    some.extend(0..100u32).or_abort(&rt);
     log.refuse_from(1);
-    assert_equal!(rt; map.clone()?.len(), 0);
+    assert_equal!(rt; map.clone().or_abort(&rt).len(), 0);
     for (call, made) in [
         ("clone", none.clone()),
         ("bitand of none", none.bitand(&some)),
@@ -157,11 +153,10 @@ fn what_is_empty_needs_no_memory(rt: HostRuntime) -> Result<(), Fail> {
     ] {
         assert!(rt; made.is_ok_and(|set| set.is_empty()), "of {call}");
     }
-    Ok(())
 }
 
 #[test]
-fn an_extend_by_what_is_there_asks_for_nothing(rt: HostRuntime) -> Result<(), Fail> {
+fn an_extend_by_what_is_there_asks_for_nothing(rt: HostRuntime) {
     let log = Log::new();
     let mut map: Map<u32, u32, FixedState, Observed<'_>> = Map::new(Observed::new(
         rt.alloc(),
@@ -169,12 +164,11 @@ fn an_extend_by_what_is_there_asks_for_nothing(rt: HostRuntime) -> Result<(), Fa
     ));
     let mut set: Set<u32, FixedState, Observed<'_>> = Set::new(Observed::new(rt.alloc(), &log));
     for key in 0..100u32 {
-        map.insert(key, key)?;
-        set.insert(key)?;
+        map.insert(key, key).or_abort(&rt);
+        set.insert(key).or_abort(&rt);
         let requests = log.requests();
-        map.extend((0..=key).map(|key| (key, key)))?;
-        set.extend(0..=key)?;
+        map.extend((0..=key).map(|key| (key, key))).or_abort(&rt);
+        set.extend(0..=key).or_abort(&rt);
         assert_equal!(rt; log.requests(), requests, "at {key}");
     }
-    Ok(())
 }

@@ -1,9 +1,9 @@
 //! Sets of numbers.
 ghost use Rattle.std.specs.Iterator.{IsFinite};
 
+use crate::or_abort::OrAbort;
 use std::alloc::{AllocError, Global};
 use std::process::Abort;
-use std::test::Fail;
 use wasmi_arena::ArenaError;
 use wasmi_hashed::Set;
 use wasmi_vectors::assert_equal;
@@ -13,21 +13,20 @@ fn set(alloc: Global, items: [u32; 3]) -> Result<Set<u32>, ArenaError> {
 }
 
 // What an empty set is after calls that take more, or keep some.
-fn change(rt: &impl Abort, set: &mut Set<u32>, alloc: Global) -> Result<(), Fail> {
-    set.extend([2, 1, 2])?;
-    let other = Set::from_iter(alloc, [3, 1])?;
-    set.extend_ref(&other)?;
-    let three = Set::from_iter(alloc, [1, 2, 3])?;
+fn change(rt: &impl Abort, set: &mut Set<u32>, alloc: Global) {
+    set.extend([2, 1, 2]).or_abort(rt);
+    let other = Set::from_iter(alloc, [3, 1]).or_abort(rt);
+    set.extend_ref(&other).or_abort(rt);
+    let three = Set::from_iter(alloc, [1, 2, 3]).or_abort(rt);
     assert_equal!(*rt; &*set, &three);
     set.retain(|element| *element != 2);
     assert_equal!(*rt; &*set, &other);
-    let copy = set.clone()?;
+    let copy = set.clone().or_abort(rt);
     assert_equal!(*rt; &*set, &copy);
-    Ok(())
 }
 
 #[test]
-fn an_element_is_there_once(rt: HostRuntime) -> Result<(), Fail> {
+fn an_element_is_there_once(rt: HostRuntime) {
     let mut set: Set<u32> = Set::new(rt.alloc());
     assert!(rt; set.is_empty());
     assert_equal!(rt; set.insert(3), Ok(true));
@@ -45,10 +44,9 @@ fn an_element_is_there_once(rt: HostRuntime) -> Result<(), Fail> {
     assert_equal!(rt; set.take(&4), None);
     assert_equal!(rt; set.len(), 0);
     assert_equal!(rt; set.reserve(100), Ok(()));
-    change(&rt, &mut set, rt.alloc())?;
+    change(&rt, &mut set, rt.alloc());
     set.clear();
     assert!(rt; set.is_empty());
-    Ok(())
 }
 
 // Whether what two sets make of each other is apart from one, a part of one, and a part of one.
@@ -59,9 +57,9 @@ fn parts(one: &Set<u32>, other: &Set<u32>) -> Result<[bool; 3], ArenaError> {
 }
 
 #[test]
-fn two_sets_make_others(rt: HostRuntime) -> Result<(), Fail> {
-    let one = set(rt.alloc(), [1, 2, 3])?;
-    let other = set(rt.alloc(), [2, 3, 4])?;
+fn two_sets_make_others(rt: HostRuntime) {
+    let one = set(rt.alloc(), [1, 2, 3]).or_abort(&rt);
+    let other = set(rt.alloc(), [2, 3, 4]).or_abort(&rt);
     assert_equal!(rt; one.bitand(&other), Set::from_iter(rt.alloc(), [2, 3]));
     assert_equal!(rt; one.bitor(&other), Set::from_iter(rt.alloc(), [1, 2, 3, 4]));
     assert_equal!(rt; one.bitxor(&other), Set::from_iter(rt.alloc(), [1, 4]));
@@ -71,7 +69,6 @@ fn two_sets_make_others(rt: HostRuntime) -> Result<(), Fail> {
         [false, false, false]
     );
     assert_equal!(rt; parts(&one, &other), Ok([true, true, true]));
-    Ok(())
 }
 
 // Whether an iterator gives these elements, in any order, and no more.
@@ -91,10 +88,10 @@ fn gives<'a, I: Iterator<Item = &'a u32>>(
 }
 
 #[test]
-fn walks_over_two_sets_give_each_element_once(rt: HostRuntime) -> Result<(), Fail> {
+fn walks_over_two_sets_give_each_element_once(rt: HostRuntime) {
     let alloc = rt.alloc();
-    let one = set(alloc, [3, 1, 2])?;
-    let other = set(alloc, [4, 2, 3])?;
+    let one = set(alloc, [3, 1, 2]).or_abort(&rt);
+    let other = set(alloc, [4, 2, 3]).or_abort(&rt);
     assert_equal!(rt; gives(alloc, one.intersection(&other), &[2, 3]), Ok(true));
     assert_equal!(rt; gives(alloc, one.union(&other), &[1, 2, 3, 4]), Ok(true));
     assert_equal!(rt; gives(alloc, one.difference(&other), &[1]), Ok(true));
@@ -107,15 +104,13 @@ fn walks_over_two_sets_give_each_element_once(rt: HostRuntime) -> Result<(), Fai
     assert_equal!(rt; sum, 6);
     let elements = one.into_iter();
     assert_equal!(rt; elements.len(), 3);
-    Ok(())
 }
 
 #[test]
-fn a_set_prints_its_elements(rt: HostRuntime) -> Result<(), Fail> {
-    let one: Set<u32> = Set::from_iter(rt.alloc(), [3, 5])?;
-    let text = format!(in rt.alloc(); "{one:?}")?;
+fn a_set_prints_its_elements(rt: HostRuntime) {
+    let one: Set<u32> = Set::from_iter(rt.alloc(), [3, 5]).or_abort(&rt);
+    let text = format!(in rt.alloc(); "{one:?}").or_abort(&rt);
     assert!(rt; text.as_str() == "{3, 5}" || text.as_str() == "{5, 3}");
-    Ok(())
 }
 
 // Whether a text is there that has room for some letters.
@@ -128,18 +123,17 @@ fn is_roomy(text: Option<&String>) -> Option<bool> {
 
 // Two texts without a letter are equal, and only one of them has room for some.
 #[test]
-fn an_element_that_is_there_is_kept(rt: HostRuntime) -> Result<(), Fail> {
+fn an_element_that_is_there_is_kept(rt: HostRuntime) {
     let alloc = rt.alloc();
-    let roomy = String::with_capacity(alloc, 40)?;
-    let mut set = Set::from_iter(alloc, [roomy, String::new(alloc)])?;
+    let roomy = String::with_capacity(alloc, 40).or_abort(&rt);
+    let mut set = Set::from_iter(alloc, [roomy, String::new(alloc)]).or_abort(&rt);
     let text = String::new(alloc);
     assert_equal!(rt; (set.len(), set.insert(String::new(alloc))), (1, Ok(false)));
     assert_equal!(rt; set.extend([String::new(alloc)]), Ok(()));
     assert_equal!(rt; is_roomy(set.get(&text)), Some(true));
-    let replaced = set.replace(String::new(alloc))?;
+    let replaced = set.replace(String::new(alloc)).or_abort(&rt);
     assert_equal!(rt;
         (is_roomy(replaced.as_ref()), is_roomy(set.get(&text))),
         (Some(true), Some(false))
     );
-    Ok(())
 }

@@ -1,6 +1,6 @@
 //! Maps from numbers to texts.
+use crate::or_abort::OrAbort;
 use std::alloc::Global;
-use std::test::Fail;
 use wasmi_arena::ArenaError;
 use wasmi_ordered::Map;
 use wasmi_vectors::assert_equal;
@@ -15,7 +15,7 @@ fn six(alloc: Global) -> Result<Map<u32, u32>, ArenaError> {
 }
 
 #[test]
-fn a_key_keeps_its_last_value(rt: HostRuntime) -> Result<(), Fail> {
+fn a_key_keeps_its_last_value(rt: HostRuntime) {
     let mut map: Map<u32, &'static str> = Map::new(rt.alloc());
     assert!(rt; map.is_empty());
     assert_equal!(rt; map.insert(1, "a"), Ok(None));
@@ -40,43 +40,40 @@ fn a_key_keeps_its_last_value(rt: HostRuntime) -> Result<(), Fail> {
     assert_equal!(rt; map.len(), 1);
     map.clear();
     assert!(rt; map.is_empty());
-    Ok(())
 }
 
 #[test]
-fn a_later_pair_of_one_key_wins(rt: HostRuntime) -> Result<(), Fail> {
-    let mut map = Map::from_iter(rt.alloc(), [(1, "a"), (2, "b"), (1, "c")])?;
+fn a_later_pair_of_one_key_wins(rt: HostRuntime) {
+    let mut map = Map::from_iter(rt.alloc(), [(1, "a"), (2, "b"), (1, "c")]).or_abort(&rt);
     assert_equal!(rt; map.len(), 2);
     assert_equal!(rt; map.get(&1), Some(&"c"));
-    map.extend([(2, "d"), (3, "e"), (3, "f")])?;
-    assert_equal!(rt; &map, &Map::from_iter(rt.alloc(), [(1, "c"), (2, "d"), (3, "f")])?);
+    map.extend([(2, "d"), (3, "e"), (3, "f")]).or_abort(&rt);
+    assert_equal!(rt; &map, &Map::from_iter(rt.alloc(), [(1, "c"), (2, "d"), (3, "f")]).or_abort(&rt));
     let more = [(3, "g"), (4, "h")];
     let mut other = Map::new(rt.alloc());
-    other.extend(more)?;
-    map.extend_ref(&other)?;
+    other.extend(more).or_abort(&rt);
+    map.extend_ref(&other).or_abort(&rt);
     assert_equal!(rt; map.get(&3), Some(&"g"));
     assert_equal!(rt; map.len(), 4);
     assert_equal!(rt; map.remove_entry(&1), Some((1, "c")));
     assert_equal!(rt; map.remove_entry(&1), None);
-    Ok(())
 }
 
 #[test]
-fn some_entries_are_kept(rt: HostRuntime) -> Result<(), Fail> {
-    let mut map = six(rt.alloc())?;
+fn some_entries_are_kept(rt: HostRuntime) {
+    let mut map = six(rt.alloc()).or_abort(&rt);
     map.retain(|key, _| key % 2 == 0);
-    assert_equal!(rt; &map, &Map::from_iter(rt.alloc(), [(2, 2), (4, 4), (6, 6)])?);
+    assert_equal!(rt; &map, &Map::from_iter(rt.alloc(), [(2, 2), (4, 4), (6, 6)]).or_abort(&rt));
     map.retain(|_, value| {
         *value /= 2;
         true
     });
-    assert_equal!(rt; &map, &Map::from_iter(rt.alloc(), [(2, 1), (4, 2), (6, 3)])?);
-    Ok(())
+    assert_equal!(rt; &map, &Map::from_iter(rt.alloc(), [(2, 1), (4, 2), (6, 3)]).or_abort(&rt));
 }
 
 #[test]
-fn values_are_written(rt: HostRuntime) -> Result<(), Fail> {
-    let mut map = six(rt.alloc())?;
+fn values_are_written(rt: HostRuntime) {
+    let mut map = six(rt.alloc()).or_abort(&rt);
     if let Some(value) = map.get_mut(&3) {
         *value = 30;
     }
@@ -101,13 +98,12 @@ fn values_are_written(rt: HostRuntime) -> Result<(), Fail> {
     assert_equal!(rt; values.len(), 6);
     assert_equal!(rt; values.next(), Some(&8));
     assert_equal!(rt; values.next(), Some(&8));
-    Ok(())
 }
 
 #[test]
-fn walks_ascend(rt: HostRuntime) -> Result<(), Fail> {
-    let map = six(rt.alloc())?;
-    let copy = map.clone()?;
+fn walks_ascend(rt: HostRuntime) {
+    let map = six(rt.alloc()).or_abort(&rt);
+    let copy = map.clone().or_abort(&rt);
     assert_equal!(rt; &copy, &map);
     let mut keys = map.keys();
     assert_equal!(rt; keys.len(), 6);
@@ -119,7 +115,7 @@ fn walks_ascend(rt: HostRuntime) -> Result<(), Fail> {
     assert_equal!(rt; keys.len(), 6);
     assert_equal!(rt; keys.next(), Some(1));
     assert_equal!(rt; keys.next(), Some(2));
-    let mut values = copy.clone()?.into_values();
+    let mut values = copy.clone().or_abort(&rt).into_values();
     assert_equal!(rt; values.len(), 6);
     assert_equal!(rt; values.next(), Some(1));
     let mut pairs = copy.into_iter();
@@ -128,33 +124,33 @@ fn walks_ascend(rt: HostRuntime) -> Result<(), Fail> {
         assert_equal!(rt; pairs.next(), Some((want, want)));
     }
     assert_equal!(rt; pairs.next(), None);
-    Ok(())
 }
 
 #[test]
-fn a_map_prints_in_order(rt: HostRuntime) -> Result<(), Fail> {
-    let mut map = Map::from_iter(rt.alloc(), [(2, true), (1, false), (4, true), (3, false)])?;
+fn a_map_prints_in_order(rt: HostRuntime) {
+    let mut map = Map::from_iter(
+        rt.alloc(),
+        [(2, true), (1, false), (4, true), (3, false)],
+    ).or_abort(&rt);
     assert_equal!(rt;
-        format!(in rt.alloc(); "{map:?}")?.as_str(),
+        format!(in rt.alloc(); "{map:?}").or_abort(&rt).as_str(),
         "{1: false, 2: true, 3: false, 4: true}"
     );
     map.clear();
-    assert_equal!(rt; format!(in rt.alloc(); "{map:?}")?.as_str(), "{}");
-    Ok(())
+    assert_equal!(rt; format!(in rt.alloc(); "{map:?}").or_abort(&rt).as_str(), "{}");
 }
 
 // Two texts without a letter are equal, and only one of them has room for some.
 #[test]
-fn a_key_that_is_there_is_kept(rt: HostRuntime) -> Result<(), Fail> {
+fn a_key_that_is_there_is_kept(rt: HostRuntime) {
     let alloc = rt.alloc();
-    let roomy = String::with_capacity(alloc, 40)?;
-    let mut map = Map::from_iter(alloc, [(roomy, 1), (String::new(alloc), 2)])?;
+    let roomy = String::with_capacity(alloc, 40).or_abort(&rt);
+    let mut map = Map::from_iter(alloc, [(roomy, 1), (String::new(alloc), 2)]).or_abort(&rt);
     assert_equal!(rt;
-        (map.len(), map.insert(String::new(alloc), 3)?),
+        (map.len(), map.insert(String::new(alloc), 3).or_abort(&rt)),
         (1, Some(2))
     );
-    map.extend([(String::new(alloc), 4)])?;
+    map.extend([(String::new(alloc), 4)]).or_abort(&rt);
     let entry = map.get_key_value(&String::new(alloc));
     assert!(rt; entry.is_some_and(|(key, value)| 40 <= key.capacity() && *value == 4));
-    Ok(())
 }

@@ -1,6 +1,6 @@
 //! Ordered maps and sets over an allocator that refuses requests.
+use crate::or_abort::OrAbort;
 use std::alloc::{AllocError, Global};
-use std::test::Fail;
 use wasmi_arena::ArenaError;
 use wasmi_ordered::map::Entry;
 use wasmi_ordered::{Map, Set};
@@ -41,7 +41,7 @@ fn pairs(alloc: Global) -> Result<Vec<(u32, u32)>, AllocError> {
 }
 
 #[test]
-fn a_refused_insert_changes_nothing(rt: HostRuntime) -> Result<(), Fail> {
+fn a_refused_insert_changes_nothing(rt: HostRuntime) {
     for nth in 1..40 {
         let log = Log::new();
         {
@@ -52,7 +52,7 @@ fn a_refused_insert_changes_nothing(rt: HostRuntime) -> Result<(), Fail> {
                 if let Err(error) = map.insert(key, key) {
                     assert_equal!(rt; error, ArenaError::OutOfSystemMemory);
                     assert!(rt; has_first(&map, len), "at {nth}");
-                    assert_equal!(rt; map.insert(key, key)?, None);
+                    assert_equal!(rt; map.insert(key, key).or_abort(&rt), None);
                 }
                 len = len.wrapping_add(1);
             }
@@ -60,11 +60,10 @@ fn a_refused_insert_changes_nothing(rt: HostRuntime) -> Result<(), Fail> {
         }
         assert_equal!(rt; log.amiss(), 0, "at {nth}");
     }
-    Ok(())
 }
 
 #[test]
-fn a_refused_element_changes_nothing(rt: HostRuntime) -> Result<(), Fail> {
+fn a_refused_element_changes_nothing(rt: HostRuntime) {
     for nth in 1..40 {
         let log = Log::new();
         {
@@ -75,7 +74,7 @@ fn a_refused_element_changes_nothing(rt: HostRuntime) -> Result<(), Fail> {
                 if let Err(error) = set.insert(element) {
                     assert_equal!(rt; error, ArenaError::OutOfSystemMemory);
                     assert!(rt; has_elements(&set, len), "at {nth}");
-                    assert_equal!(rt; set.replace(element)?, None);
+                    assert_equal!(rt; set.replace(element).or_abort(&rt), None);
                 }
                 len = len.wrapping_add(1);
             }
@@ -83,11 +82,10 @@ fn a_refused_element_changes_nothing(rt: HostRuntime) -> Result<(), Fail> {
         }
         assert_equal!(rt; log.amiss(), 0, "at {nth}");
     }
-    Ok(())
 }
 
 #[test]
-fn a_refused_entry_changes_nothing(rt: HostRuntime) -> Result<(), Fail> {
+fn a_refused_entry_changes_nothing(rt: HostRuntime) {
     for nth in 1..40 {
         let log = Log::new();
         {
@@ -97,7 +95,7 @@ fn a_refused_entry_changes_nothing(rt: HostRuntime) -> Result<(), Fail> {
             for key in 0..100u32 {
                 let refused = match map.entry(key) {
                     Ok(Entry::Vacant(vacant)) => {
-                        vacant.insert(key)?;
+                        vacant.insert(key).or_abort(&rt);
                         None
                     }
                     Ok(Entry::Occupied(_)) => None,
@@ -106,7 +104,7 @@ fn a_refused_entry_changes_nothing(rt: HostRuntime) -> Result<(), Fail> {
                 if let Some(error) = refused {
                     assert_equal!(rt; error, ArenaError::OutOfSystemMemory);
                     assert!(rt; has_first(&map, len), "at {nth}");
-                    assert_equal!(rt; map.insert(key, key)?, None);
+                    assert_equal!(rt; map.insert(key, key).or_abort(&rt), None);
                 }
                 len = len.wrapping_add(1);
             }
@@ -114,7 +112,6 @@ fn a_refused_entry_changes_nothing(rt: HostRuntime) -> Result<(), Fail> {
         }
         assert_equal!(rt; log.amiss(), 0, "at {nth}");
     }
-    Ok(())
 }
 
 // A map of 0 to 99, each under itself.
@@ -136,67 +133,66 @@ fn hundred_elements<'l>(alloc: Global, log: &'l Log) -> Result<Set<u32, Observed
 
 // The last request of such a call is refused.
 #[test]
-fn a_refused_extend_keeps_a_front(rt: HostRuntime) -> Result<(), Fail> {
+fn a_refused_extend_keeps_a_front(rt: HostRuntime) {
     let log = Log::new();
-    let mut map = hundred_pairs(rt.alloc(), &log)?;
+    let mut map = hundred_pairs(rt.alloc(), &log).or_abort(&rt);
     assert!(rt; has_first(&map, 100));
     let requests = log.requests();
     map.clear();
     log.refuse_once(requests);
     assert_equal!(rt;
-        map.extend(pairs(rt.alloc())?),
+        map.extend(pairs(rt.alloc()).or_abort(&rt)),
         Err(ArenaError::OutOfSystemMemory)
     );
     let len = map.len();
     assert!(rt; 0 < len && len < 100 && has_first(&map, len));
-    map.extend(pairs(rt.alloc())?)?;
+    map.extend(pairs(rt.alloc()).or_abort(&rt)).or_abort(&rt);
     assert!(rt; has_first(&map, 100));
     drop(map);
     assert_equal!(rt; log.amiss(), 0);
-    Ok(())
 }
 
 #[test]
-fn a_refused_collection_gives_all_back(rt: HostRuntime) -> Result<(), Fail> {
+fn a_refused_collection_gives_all_back(rt: HostRuntime) {
     let log = Log::new();
-    let map = hundred_pairs(rt.alloc(), &log)?;
+    let map = hundred_pairs(rt.alloc(), &log).or_abort(&rt);
     log.refuse_once(log.requests());
-    let refused = Map::from_iter(Observed::new(rt.alloc(), &log), pairs(rt.alloc())?);
+    let refused = Map::from_iter(
+        Observed::new(rt.alloc(), &log),
+        pairs(rt.alloc()).or_abort(&rt),
+    );
     assert_equal!(rt; refused.err(), Some(ArenaError::OutOfSystemMemory));
     drop(map);
     assert_equal!(rt; log.amiss(), 0);
-    Ok(())
 }
 
 #[test]
-fn a_key_that_is_there_needs_no_memory(rt: HostRuntime) -> Result<(), Fail> {
+fn a_key_that_is_there_needs_no_memory(rt: HostRuntime) {
     let log = Log::new();
-    let mut map = hundred_pairs(rt.alloc(), &log)?;
+    let mut map = hundred_pairs(rt.alloc(), &log).or_abort(&rt);
     log.refuse_from(1);
     assert_equal!(rt; map.reserve(1000), Ok(()));
     assert_equal!(rt; map.insert(7, 7), Ok(Some(7)));
-    let value = map.entry(7)?.or_insert(8)?;
+    let value = map.entry(7).or_abort(&rt).or_insert(8).or_abort(&rt);
     assert_equal!(rt; *value, 7);
     assert!(rt; has_first(&map, 100));
-    Ok(())
 }
 
 #[test]
-fn an_element_that_is_there_needs_no_memory(rt: HostRuntime) -> Result<(), Fail> {
+fn an_element_that_is_there_needs_no_memory(rt: HostRuntime) {
     let log = Log::new();
-    let mut set = hundred_elements(rt.alloc(), &log)?;
+    let mut set = hundred_elements(rt.alloc(), &log).or_abort(&rt);
     log.refuse_from(1);
     assert_equal!(rt; set.reserve(1000), Ok(()));
     assert_equal!(rt; set.insert(7), Ok(false));
     assert_equal!(rt; set.replace(7), Ok(Some(7)));
     assert!(rt; has_elements(&set, 100));
-    Ok(())
 }
 
 #[test]
-fn keys_are_taken_out_without_memory(rt: HostRuntime) -> Result<(), Fail> {
+fn keys_are_taken_out_without_memory(rt: HostRuntime) {
     let log = Log::new();
-    let mut map = hundred_pairs(rt.alloc(), &log)?;
+    let mut map = hundred_pairs(rt.alloc(), &log).or_abort(&rt);
     log.refuse_from(1);
     assert_equal!(rt;
         (map.remove(&99), map.remove_entry(&98)),
@@ -207,13 +203,12 @@ fn keys_are_taken_out_without_memory(rt: HostRuntime) -> Result<(), Fail> {
     assert!(rt; has_first(&map, 50));
     map.clear();
     assert!(rt; map.is_empty());
-    Ok(())
 }
 
 #[test]
-fn elements_are_taken_out_without_memory(rt: HostRuntime) -> Result<(), Fail> {
+fn elements_are_taken_out_without_memory(rt: HostRuntime) {
     let log = Log::new();
-    let mut set = hundred_elements(rt.alloc(), &log)?;
+    let mut set = hundred_elements(rt.alloc(), &log).or_abort(&rt);
     log.refuse_from(1);
     assert_equal!(rt; (set.remove(&99), set.take(&98)), (true, Some(98)));
     assert!(rt; has_elements(&set, 98));
@@ -221,7 +216,6 @@ fn elements_are_taken_out_without_memory(rt: HostRuntime) -> Result<(), Fail> {
     assert!(rt; has_elements(&set, 50));
     set.clear();
     assert!(rt; set.is_empty());
-    Ok(())
 }
 
 // Whether it was refused, or has so many elements.
@@ -233,10 +227,10 @@ fn is_refused_or(made: Result<Set<u32, Observed<'_>>, ArenaError>, len: usize) -
 }
 
 #[test]
-fn a_refused_copy_gives_all_back(rt: HostRuntime) -> Result<(), Fail> {
+fn a_refused_copy_gives_all_back(rt: HostRuntime) {
     let log = Log::new();
     {
-        let map = hundred_pairs(rt.alloc(), &log)?;
+        let map = hundred_pairs(rt.alloc(), &log).or_abort(&rt);
         for nth in 1..60 {
             log.refuse_once(nth);
             match map.clone() {
@@ -249,16 +243,15 @@ fn a_refused_copy_gives_all_back(rt: HostRuntime) -> Result<(), Fail> {
         assert!(rt; map.clone().is_err());
     }
     assert_equal!(rt; log.amiss(), 0);
-    Ok(())
 }
 
 #[test]
-fn a_refused_set_gives_all_back(rt: HostRuntime) -> Result<(), Fail> {
+fn a_refused_set_gives_all_back(rt: HostRuntime) {
     let log = Log::new();
     {
-        let one = hundred_elements(rt.alloc(), &log)?;
+        let one = hundred_elements(rt.alloc(), &log).or_abort(&rt);
         let mut other: Set<u32, Observed<'_>> = Set::new(Observed::new(rt.alloc(), &log));
-        other.extend(50..150)?;
+        other.extend(50..150).or_abort(&rt);
         for nth in 1..60 {
             log.refuse_once(nth);
             assert!(rt; is_refused_or(one.clone(), 100), "at {nth}");
@@ -278,18 +271,17 @@ fn a_refused_set_gives_all_back(rt: HostRuntime) -> Result<(), Fail> {
         assert!(rt; one.bitxor(&other).is_err() && one.sub(&other).is_err());
     }
     assert_equal!(rt; log.amiss(), 0);
-    Ok(())
 }
 
 // Each of these makes what has no element.
 #[test]
-fn what_is_empty_needs_no_memory(rt: HostRuntime) -> Result<(), Fail> {
+fn what_is_empty_needs_no_memory(rt: HostRuntime) {
     let log = Log::new();
     let map: Map<u32, u32, Observed<'_>> = Map::new(Observed::new(rt.alloc(), &log));
     let none: Set<u32, Observed<'_>> = Set::new(Observed::new(rt.alloc(), &log));
-    let some = hundred_elements(rt.alloc(), &log)?;
+    let some = hundred_elements(rt.alloc(), &log).or_abort(&rt);
     log.refuse_from(1);
-    assert_equal!(rt; map.clone()?.len(), 0);
+    assert_equal!(rt; map.clone().or_abort(&rt).len(), 0);
     for (call, made) in [
         ("clone", none.clone()),
         ("bitand of none", none.bitand(&some)),
@@ -301,5 +293,4 @@ fn what_is_empty_needs_no_memory(rt: HostRuntime) -> Result<(), Fail> {
     ] {
         assert!(rt; made.is_ok_and(|set| set.is_empty()), "of {call}");
     }
-    Ok(())
 }

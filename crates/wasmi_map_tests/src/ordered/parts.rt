@@ -1,8 +1,8 @@
 //! The ends of ordered maps and sets, their parts, and what is joined.
+use crate::or_abort::OrAbort;
 use std::alloc::Global;
 use std::cell::Cell;
 use std::process::Abort;
-use std::test::Fail;
 use wasmi_arena::ArenaError;
 use wasmi_ordered::{Map, Set};
 use wasmi_vectors::assert_equal;
@@ -11,9 +11,10 @@ use wasmi_vectors::noted::{Noted, Notes};
 use wasmi_vectors::observed::{Log, Observed};
 
 // Of a map of 1 to 4, which is empty before it is cut.
-fn take_pairs(rt: &impl Abort, alloc: Global) -> Result<(), Fail> {
-    let mut map = Map::from_iter(alloc, [(2, "b"), (1, "a"), (3, "c")])?;
-    map.append(&mut Map::from_iter(alloc, [(2, "d"), (4, "e")])?)?;
+fn take_pairs(rt: &impl Abort, alloc: Global) {
+    let mut map = Map::from_iter(alloc, [(2, "b"), (1, "a"), (3, "c")]).or_abort(rt);
+    map.append(&mut Map::from_iter(alloc, [(2, "d"), (4, "e")]).or_abort(rt))
+        .or_abort(rt);
     assert_equal!(*rt;
         (map.first_key_value(), map.last_key_value()),
         (Some((&1, &"a")), Some((&4, &"e")))
@@ -23,51 +24,49 @@ fn take_pairs(rt: &impl Abort, alloc: Global) -> Result<(), Fail> {
         [Some((1, "a")), Some((4, "e")), Some((3, "c")), Some((2, "d")), None]
     );
     assert_equal!(*rt; map.first_key_value(), None);
-    let mut rest = map.split_off(&2)?;
-    map.append(&mut rest)?;
+    let mut rest = map.split_off(&2).or_abort(rt);
+    map.append(&mut rest).or_abort(rt);
     assert_equal!(*rt; map.len(), 0);
-    Ok(())
 }
 
 // The same of a set.
-fn take_elements(rt: &impl Abort, alloc: Global) -> Result<(), Fail> {
-    let mut set = Set::from_iter(alloc, [2, 1, 3])?;
-    set.append(&mut Set::from_iter(alloc, [2, 4])?)?;
+fn take_elements(rt: &impl Abort, alloc: Global) {
+    let mut set = Set::from_iter(alloc, [2, 1, 3]).or_abort(rt);
+    set.append(&mut Set::from_iter(alloc, [2, 4]).or_abort(rt))
+        .or_abort(rt);
     assert_equal!(*rt; (set.first(), set.last()), (Some(&1), Some(&4)));
     assert_equal!(*rt;
         [set.pop_first(), set.pop_last(), set.pop_last(), set.pop_first(), set.pop_last()],
         [Some(1), Some(4), Some(3), Some(2), None]
     );
     assert_equal!(*rt; set.last(), None);
-    let mut others = set.split_off(&2)?;
-    set.append(&mut others)?;
+    let mut others = set.split_off(&2).or_abort(rt);
+    set.append(&mut others).or_abort(rt);
     assert_equal!(*rt; set.len(), 0);
-    Ok(())
 }
 
 #[test]
-fn ends_are_read_and_taken(rt: HostRuntime) -> Result<(), Fail> {
-    take_pairs(&rt, rt.alloc())?;
-    take_elements(&rt, rt.alloc())
+fn ends_are_read_and_taken(rt: HostRuntime) {
+    take_pairs(&rt, rt.alloc());
+    take_elements(&rt, rt.alloc());
 }
 
 #[test]
-fn a_range_is_walked_from_both_ends(rt: HostRuntime) -> Result<(), Fail> {
-    let map = Map::from_iter(rt.alloc(), (0..10u32).map(|key| (key, key)))?;
-    let set = Set::from_iter(rt.alloc(), 0..10u32)?;
+fn a_range_is_walked_from_both_ends(rt: HostRuntime) {
+    let map = Map::from_iter(rt.alloc(), (0..10u32).map(|key| (key, key))).or_abort(&rt);
+    let set = Set::from_iter(rt.alloc(), 0..10u32).or_abort(&rt);
     let mut part = map.range(3..6);
     assert_equal!(rt; part.next(), Some((&3, &3)));
     assert_equal!(rt; part.next_back(), Some((&5, &5)));
     assert_equal!(rt; part.next(), Some((&4, &4)));
     assert_equal!(rt; part.next_back(), None);
     assert_equal!(rt; (set.range(7..).count(), set.range(..=3).count()), (3, 4));
-    Ok(())
 }
 
 // A map of 0 to 59 with a request refused in the cut at 45, or in the join of both parts.
-fn cut_pairs(rt: &impl Abort, alloc: Global, log: &Log, nth: u64) -> Result<(), Fail> {
+fn cut_pairs(rt: &impl Abort, alloc: Global, log: &Log, nth: u64) {
     let mut map: Map<u32, u32, Observed<'_>> = Map::new(Observed::new(alloc, log));
-    map.extend((0..60u32).map(|key| (key, key)))?;
+    map.extend((0..60u32).map(|key| (key, key))).or_abort(rt);
     log.refuse_once(nth);
     match map.split_off(&45) {
         Ok(mut rest) => {
@@ -82,7 +81,6 @@ fn cut_pairs(rt: &impl Abort, alloc: Global, log: &Log, nth: u64) -> Result<(), 
         }
     }
     log.refuse_none();
-    Ok(())
 }
 
 // Whether each of 0 to 59 is in one of both.
@@ -96,11 +94,11 @@ fn have_all(one: &Set<u32, Observed<'_>>, other: &Set<u32, Observed<'_>>) -> boo
 }
 
 // Sets of 0 to 39 and 30 to 59 with a request refused in their join, or in the cut at 20 after it.
-fn join_elements(rt: &impl Abort, alloc: Global, log: &Log, nth: u64) -> Result<(), Fail> {
+fn join_elements(rt: &impl Abort, alloc: Global, log: &Log, nth: u64) {
     let mut set: Set<u32, Observed<'_>> = Set::new(Observed::new(alloc, log));
     let mut other: Set<u32, Observed<'_>> = Set::new(Observed::new(alloc, log));
-    set.extend(0..40u32)?;
-    other.extend(30..60u32)?;
+    set.extend(0..40u32).or_abort(rt);
+    other.extend(30..60u32).or_abort(rt);
     log.refuse_once(nth);
     if let Err(error) = set.append(&mut other) {
         assert_equal!(*rt;
@@ -115,24 +113,22 @@ fn join_elements(rt: &impl Abort, alloc: Global, log: &Log, nth: u64) -> Result<
     if let Ok(rest) = set.split_off(&20) {
         assert_equal!(*rt; (set.len(), rest.is_empty()), (20, false), "at {nth}");
     }
-    Ok(())
 }
 
 // Each request refused in turn: then both are as before, or all that left one is in the other.
 #[test]
-fn a_cut_and_a_join_lose_nothing(rt: HostRuntime) -> Result<(), Fail> {
+fn a_cut_and_a_join_lose_nothing(rt: HostRuntime) {
     for nth in 1..40 {
         let log = Log::new();
-        cut_pairs(&rt, rt.alloc(), &log, nth)?;
-        join_elements(&rt, rt.alloc(), &log, nth)?;
+        cut_pairs(&rt, rt.alloc(), &log, nth);
+        join_elements(&rt, rt.alloc(), &log, nth);
         assert_equal!(rt; log.amiss(), 0);
     }
-    Ok(())
 }
 
 // Of 0 to 4, 3 to 7 and 6 to 10, four are there when they come again.
 #[test]
-fn what_is_in_both_is_dropped_once(rt: HostRuntime) -> Result<(), Fail> {
+fn what_is_in_both_is_dropped_once(rt: HostRuntime) {
     let (keys, elements, values) = (Notes::new(), Notes::new(), Cell::new(0));
     let mut map: Map<Noted<'_>, Counted<'_>> = Map::new(rt.alloc());
     let mut set: Set<Noted<'_>> = Set::new(rt.alloc());
@@ -140,13 +136,14 @@ fn what_is_in_both_is_dropped_once(rt: HostRuntime) -> Result<(), Fail> {
         let mut pairs: Map<Noted<'_>, Counted<'_>> = Map::new(rt.alloc());
         let mut others: Set<Noted<'_>> = Set::new(rt.alloc());
         for number in first..first.wrapping_add(5) {
-            pairs.insert(Noted::new(number, &keys), Counted::new(&values))?;
-            others.insert(Noted::new(number, &elements))?;
+            pairs
+                .insert(Noted::new(number, &keys), Counted::new(&values))
+                .or_abort(&rt);
+            others.insert(Noted::new(number, &elements)).or_abort(&rt);
         }
-        map.append(&mut pairs)?;
-        set.append(&mut others)?;
+        map.append(&mut pairs).or_abort(&rt);
+        set.append(&mut others).or_abort(&rt);
     }
     assert_equal!(rt; (map.len(), set.len()), (11, 11));
     assert_equal!(rt; (keys.dropped(), values.get(), elements.dropped()), (4, 4, 4));
-    Ok(())
 }

@@ -2,9 +2,9 @@
 ghost use Rattle.std.specs.Prelude.{◌≡◌, Some, IfOk};
 ghost use Rattle.std.specs.String.{string_bytes};
 
+use crate::or_abort::OrAbort;
 use std::alloc::Allocator;
 use std::process::Abort;
-use std::test::Fail;
 use wasmi_arena::ArenaError;
 use wasmi_ordered::{Map, Set};
 use wasmi_vectors::assert_equal;
@@ -61,22 +61,24 @@ fn ask_set<A: Allocator + Copy>(set: &mut Set<String<A>, A>, text: &str) -> [boo
 
 // Four texts into both.
 fn put_texts<A: Allocator + Copy>(
+    rt: &impl Abort,
     map: &mut Map<String<A>, u32, A>,
     set: &mut Set<String<A>, A>,
     heap: A,
-) -> Result<(), Fail> {
+) {
     for (text, value) in [("b", 2), ("", 0), ("a", 1), ("ab", 3)] {
-        map.insert(String::from_str(heap, text)?, value)?;
-        set.insert(String::from_str(heap, text)?)?;
+        map.insert(String::from_str(heap, text).or_abort(rt), value)
+            .or_abort(rt);
+        set.insert(String::from_str(heap, text).or_abort(rt))
+            .or_abort(rt);
     }
-    Ok(())
 }
 
 // Over a handle on an allocator that refuses all once the four texts are in.
-fn find_texts<A: Allocator + Copy>(rt: &impl Abort, log: &Log, heap: A) -> Result<(), Fail> {
+fn find_texts<A: Allocator + Copy>(rt: &impl Abort, log: &Log, heap: A) {
     let mut map: Map<String<A>, u32, A> = Map::new(heap);
     let mut set: Set<String<A>, A> = Set::new(heap);
-    put_texts(&mut map, &mut set, heap)?;
+    put_texts(rt, &mut map, &mut set, heap);
     log.refuse_from(1);
     for (text, value, taken, left) in [
         ("a", Some(1), Some(11), 3),
@@ -90,26 +92,23 @@ fn find_texts<A: Allocator + Copy>(rt: &impl Abort, log: &Log, heap: A) -> Resul
         assert_equal!(*rt; ask_set(&mut set, text), found, "{text}");
         assert_equal!(*rt; (map.len(), set.len()), (left, left), "{text}");
     }
-    Ok(())
 }
 
 // Of one text: whether it is there, what is under it, what a write leaves, and what is taken out.
 #[test]
-fn a_text_finds_its_key_without_memory(rt: HostRuntime) -> Result<(), Fail> {
+fn a_text_finds_its_key_without_memory(rt: HostRuntime) {
     let log = Log::new();
-    find_texts(&rt, &log, Logged::new(rt.alloc(), &log))?;
+    find_texts(&rt, &log, Logged::new(rt.alloc(), &log));
     assert_equal!(rt; log.amiss(), 0);
-    Ok(())
 }
 
 #[test]
-fn a_text_is_an_index(rt: HostRuntime) -> Result<(), Fail> {
+fn a_text_is_an_index(rt: HostRuntime) {
     let mut map: Map<String, u32> = Map::new(rt.alloc());
-    assert_equal!(rt; found(&mut map, String::from_str(rt.alloc(), "key")?, "key"), Ok(Some(7)));
+    assert_equal!(rt; found(&mut map, String::from_str(rt.alloc(), "key").or_abort(&rt), "key"), Ok(Some(7)));
     if map.contains_key_str("key") {
         assert_equal!(rt; map["key"], 7);
     }
-    Ok(())
 }
 
 // What calls on a map answer of one slice, in turn: whether it is there, what is under it, by two calls, and
@@ -145,22 +144,27 @@ fn ask_set_of_slices<A: Allocator + Copy>(set: &mut Set<Vec<u8, A>, A>, key: &[u
 
 // The same of slices.
 fn put_slices<A: Allocator + Copy>(
+    rt: &impl Abort,
     map: &mut Map<Vec<u8, A>, u32, A>,
     set: &mut Set<Vec<u8, A>, A>,
     heap: A,
-) -> Result<(), Fail> {
+) {
     for (text, value) in [("b", 2), ("", 0), ("a", 1), ("ab", 3)] {
-        map.insert(String::from_str(heap, text)?.into_bytes(), value)?;
-        set.insert(String::from_str(heap, text)?.into_bytes())?;
+        map.insert(
+            String::from_str(heap, text).or_abort(rt).into_bytes(),
+            value,
+        )
+        .or_abort(rt);
+        set.insert(String::from_str(heap, text).or_abort(rt).into_bytes())
+            .or_abort(rt);
     }
-    Ok(())
 }
 
 // As `find_texts`.
-fn find_slices<A: Allocator + Copy>(rt: &impl Abort, log: &Log, heap: A) -> Result<(), Fail> {
+fn find_slices<A: Allocator + Copy>(rt: &impl Abort, log: &Log, heap: A) {
     let mut map: Map<Vec<u8, A>, u32, A> = Map::new(heap);
     let mut set: Set<Vec<u8, A>, A> = Set::new(heap);
-    put_slices(&mut map, &mut set, heap)?;
+    put_slices(rt, &mut map, &mut set, heap);
     log.refuse_from(1);
     for (text, value, taken) in [
         ("a", Some(1), Some(11)),
@@ -178,14 +182,12 @@ fn find_slices<A: Allocator + Copy>(rt: &impl Abort, log: &Log, heap: A) -> Resu
         assert_equal!(*rt; ask_set_of_slices(&mut set, key), [is_there; 3], "{text}");
     }
     assert_equal!(*rt; (map.len(), set.len()), (0, 0));
-    Ok(())
 }
 
 // The same of vectors, by a slice.
 #[test]
-fn a_slice_finds_its_key_without_memory(rt: HostRuntime) -> Result<(), Fail> {
+fn a_slice_finds_its_key_without_memory(rt: HostRuntime) {
     let log = Log::new();
-    find_slices(&rt, &log, Logged::new(rt.alloc(), &log))?;
+    find_slices(&rt, &log, Logged::new(rt.alloc(), &log));
     assert_equal!(rt; log.amiss(), 0);
-    Ok(())
 }
