@@ -3,6 +3,7 @@ use crate::or_abort::OrAbort;
 use std::alloc::{AllocError, Allocator, Global};
 use std::cell::Cell;
 use std::num::NonZero;
+use std::test::Fail;
 use wasmi_arena::{ArenaError, ArenaKey};
 use wasmi_dense::ComponentVec;
 use wasmi_vectors::assert_equal;
@@ -24,23 +25,24 @@ fn texts(alloc: Global) -> Result<ComponentVec<usize, String>, ArenaError> {
 }
 
 #[test]
-fn it_works(rt: HostRuntime) {
+fn it_works(rt: HostRuntime) -> Result<(), Fail> {
     let mut components: ComponentVec<usize, String> = ComponentVec::new(rt.alloc());
     for number in 0..10usize {
-        let mut shown = text(rt.alloc(), number).or_abort(&rt);
+        let mut shown = text(rt.alloc(), number)?;
         assert_equal!(rt; components.get(number), None);
         assert!(rt; components.get_mut(number).is_none());
-        assert_equal!(rt; components.set(number, shown.clone().or_abort(&rt)).or_abort(&rt), None);
+        assert_equal!(rt; components.set(number, shown.clone()?)?, None);
         assert_equal!(rt; components.get(number), Some(&shown));
         assert_equal!(rt; components.get_mut(number), Some(&mut shown));
         assert_equal!(rt; &components[number], &shown);
     }
     for number in (0..10usize).rev() {
-        let shown = text(rt.alloc(), number).or_abort(&rt);
+        let shown = text(rt.alloc(), number)?;
         assert_equal!(rt; components.unset(number), Some(shown));
         assert_equal!(rt; components.unset(number), None);
         assert_equal!(rt; components.get(number), None);
     }
+    Ok(())
 }
 
 #[test]

@@ -2,6 +2,7 @@
 use crate::or_abort::OrAbort;
 use std::cell::Cell;
 use std::rc::Rc;
+use std::test::Fail;
 use wasmi_hashed::hash::FixedState;
 use wasmi_hashed::{Set, map as hashed};
 use wasmi_ordered::map as ordered;
@@ -33,77 +34,47 @@ fn a_hashed_entry_that_is_refused_drops_its_key(rt: HostRuntime) {
 }
 
 #[test]
-fn an_ordered_entry_drops_the_values_that_it_does_not_keep(rt: HostRuntime) {
+fn an_ordered_entry_drops_the_values_that_it_does_not_keep(rt: HostRuntime) -> Result<(), Fail> {
     let drops = Cell::new(0);
     let mut map: ordered::Map<u32, Counted<'_>> = ordered::Map::new(rt.alloc());
-    map.entry(1)
-        .or_abort(&rt)
-        .or_insert(Counted::new(&drops))
-        .or_abort(&rt);
+    map.entry(1)?.or_insert(Counted::new(&drops))?;
     assert_equal!(rt; drops.get(), 0);
-    map.entry(1)
-        .or_abort(&rt)
-        .or_insert(Counted::new(&drops))
-        .or_abort(&rt);
+    map.entry(1)?.or_insert(Counted::new(&drops))?;
     assert_equal!(rt; drops.get(), 1);
     let held = Counted::new(&drops);
-    map.entry(1)
-        .or_abort(&rt)
-        .or_insert_with(move || held)
-        .or_abort(&rt);
+    map.entry(1)?.or_insert_with(move || held)?;
     assert_equal!(rt; drops.get(), 2);
     let held = Counted::new(&drops);
-    map.entry(1)
-        .or_abort(&rt)
-        .or_insert_with_key(move |_| held)
-        .or_abort(&rt);
+    map.entry(1)?.or_insert_with_key(move |_| held)?;
     assert_equal!(rt; drops.get(), 3);
     let held = Counted::new(&drops);
-    drop(
-        map.entry(2)
-            .or_abort(&rt)
-            .and_modify(move |value| *value = held),
-    );
+    drop(map.entry(2)?.and_modify(move |value| *value = held));
     assert_equal!(rt; drops.get(), 4);
     drop(map);
     assert_equal!(rt; drops.get(), 5);
+    Ok(())
 }
 
 #[test]
-fn a_hashed_entry_drops_the_values_that_it_does_not_keep(rt: HostRuntime) {
+fn a_hashed_entry_drops_the_values_that_it_does_not_keep(rt: HostRuntime) -> Result<(), Fail> {
     let drops = Cell::new(0);
     let mut map: hashed::Map<u32, Counted<'_>> = hashed::Map::new(rt.alloc());
-    map.entry(1)
-        .or_abort(&rt)
-        .or_insert(Counted::new(&drops))
-        .or_abort(&rt);
+    map.entry(1)?.or_insert(Counted::new(&drops))?;
     assert_equal!(rt; drops.get(), 0);
-    map.entry(1)
-        .or_abort(&rt)
-        .or_insert(Counted::new(&drops))
-        .or_abort(&rt);
+    map.entry(1)?.or_insert(Counted::new(&drops))?;
     assert_equal!(rt; drops.get(), 1);
     let held = Counted::new(&drops);
-    map.entry(1)
-        .or_abort(&rt)
-        .or_insert_with(move || held)
-        .or_abort(&rt);
+    map.entry(1)?.or_insert_with(move || held)?;
     assert_equal!(rt; drops.get(), 2);
     let held = Counted::new(&drops);
-    map.entry(1)
-        .or_abort(&rt)
-        .or_insert_with_key(move |_| held)
-        .or_abort(&rt);
+    map.entry(1)?.or_insert_with_key(move |_| held)?;
     assert_equal!(rt; drops.get(), 3);
     let held = Counted::new(&drops);
-    drop(
-        map.entry(2)
-            .or_abort(&rt)
-            .and_modify(move |value| *value = held),
-    );
+    drop(map.entry(2)?.and_modify(move |value| *value = held));
     assert_equal!(rt; drops.get(), 4);
     drop(map);
     assert_equal!(rt; drops.get(), 5);
+    Ok(())
 }
 
 #[test]

@@ -1,6 +1,7 @@
 //! Places of keys: what the map is afterwards.
 use crate::or_abort::OrAbort;
 use std::alloc::Global;
+use std::test::Fail;
 use wasmi_arena::ArenaError;
 use wasmi_ordered::Map;
 use wasmi_ordered::map::Entry;
@@ -11,9 +12,9 @@ fn one(alloc: Global) -> Result<Map<u32, &'static str>, ArenaError> {
 }
 
 #[test]
-fn a_free_place_takes_a_value(rt: HostRuntime) {
-    let mut map = one(rt.alloc()).or_abort(&rt);
-    match map.entry(2).or_abort(&rt) {
+fn a_free_place_takes_a_value(rt: HostRuntime) -> Result<(), Fail> {
+    let mut map = one(rt.alloc())?;
+    match map.entry(2)? {
         Entry::Occupied(_) => assert!(rt; false),
         Entry::Vacant(vacant) => {
             assert_equal!(rt; vacant.key(), &2);
@@ -21,27 +22,27 @@ fn a_free_place_takes_a_value(rt: HostRuntime) {
         }
     }
     assert_equal!(rt; map.len(), 1);
-    assert_equal!(rt; *map.entry(2).or_abort(&rt).or_insert("c").or_abort(&rt), "c");
-    assert_equal!(rt; &map, &Map::from_iter(rt.alloc(), [(1, "b"), (2, "c")]).or_abort(&rt));
-    assert_equal!(rt; map.entry(0).or_abort(&rt).key(), &0);
+    assert_equal!(rt; *map.entry(2)?.or_insert("c")?, "c");
+    assert_equal!(rt; &map, &Map::from_iter(rt.alloc(), [(1, "b"), (2, "c")])?);
+    assert_equal!(rt; map.entry(0)?.key(), &0);
+    Ok(())
 }
 
 #[test]
-fn a_free_place_takes_what_a_closure_returns(rt: HostRuntime) {
-    let mut map = one(rt.alloc()).or_abort(&rt);
-    assert_equal!(rt; *map.entry(3).or_abort(&rt).or_insert_with(|| "d").or_abort(&rt), "d");
+fn a_free_place_takes_what_a_closure_returns(rt: HostRuntime) -> Result<(), Fail> {
+    let mut map = one(rt.alloc())?;
+    assert_equal!(rt; *map.entry(3)?.or_insert_with(|| "d")?, "d");
     let value = map
-        .entry(4)
-        .or_abort(&rt)
-        .or_insert_with_key(|key| if *key == 4 { "e" } else { "" })
-        .or_abort(&rt);
+        .entry(4)?
+        .or_insert_with_key(|key| if *key == 4 { "e" } else { "" })?;
     assert_equal!(rt; *value, "e");
-    if let Entry::Vacant(vacant) = map.entry(5).or_abort(&rt) {
-        let value = vacant.insert("f").or_abort(&rt);
+    if let Entry::Vacant(vacant) = map.entry(5)? {
+        let value = vacant.insert("f")?;
         *value = "g";
     }
     let want = [(1, "b"), (3, "d"), (4, "e"), (5, "g")];
-    assert_equal!(rt; &map, &Map::from_iter(rt.alloc(), want).or_abort(&rt));
+    assert_equal!(rt; &map, &Map::from_iter(rt.alloc(), want)?);
+    Ok(())
 }
 
 #[test]
@@ -52,40 +53,29 @@ fn a_free_place_takes_the_default(rt: HostRuntime) {
 }
 
 #[test]
-fn a_value_that_is_there_stays(rt: HostRuntime) {
-    let mut map = one(rt.alloc()).or_abort(&rt);
-    assert_equal!(rt; map.entry(1).or_abort(&rt).key(), &1);
-    assert_equal!(rt; *map.entry(1).or_abort(&rt).or_insert("z").or_abort(&rt), "b");
+fn a_value_that_is_there_stays(rt: HostRuntime) -> Result<(), Fail> {
+    let mut map = one(rt.alloc())?;
+    assert_equal!(rt; map.entry(1)?.key(), &1);
+    assert_equal!(rt; *map.entry(1)?.or_insert("z")?, "b");
     let mut calls: u32 = 0;
-    let value = map
-        .entry(1)
-        .or_abort(&rt)
-        .or_insert_with(|| {
-            calls = calls.wrapping_add(1);
-            "z"
-        })
-        .or_abort(&rt);
+    let value = map.entry(1)?.or_insert_with(|| {
+        calls = calls.wrapping_add(1);
+        "z"
+    })?;
     assert_equal!(rt; *value, "b");
     assert_equal!(rt; calls, 0);
-    assert_equal!(rt; *map.entry(1).or_abort(&rt).or_insert_with_key(|_| "z").or_abort(&rt), "b");
-    assert_equal!(rt; &map, &one(rt.alloc()).or_abort(&rt));
+    assert_equal!(rt; *map.entry(1)?.or_insert_with_key(|_| "z")?, "b");
+    assert_equal!(rt; &map, &one(rt.alloc())?);
+    Ok(())
 }
 
 #[test]
-fn a_place_changes_its_value(rt: HostRuntime) {
-    let mut map: Map<u32, u32> = Map::from_iter(rt.alloc(), [(1, 10), (2, 20)]).or_abort(&rt);
-    map.entry(1)
-        .or_abort(&rt)
-        .and_modify(|value| *value = 11)
-        .or_insert(0)
-        .or_abort(&rt);
-    map.entry(3)
-        .or_abort(&rt)
-        .and_modify(|value| *value = 11)
-        .or_insert(30)
-        .or_abort(&rt);
-    assert_equal!(rt; &map, &Map::from_iter(rt.alloc(), [(1, 11), (2, 20), (3, 30)]).or_abort(&rt));
-    if let Entry::Occupied(mut occupied) = map.entry(2).or_abort(&rt) {
+fn a_place_changes_its_value(rt: HostRuntime) -> Result<(), Fail> {
+    let mut map: Map<u32, u32> = Map::from_iter(rt.alloc(), [(1, 10), (2, 20)])?;
+    map.entry(1)?.and_modify(|value| *value = 11).or_insert(0)?;
+    map.entry(3)?.and_modify(|value| *value = 11).or_insert(30)?;
+    assert_equal!(rt; &map, &Map::from_iter(rt.alloc(), [(1, 11), (2, 20), (3, 30)])?);
+    if let Entry::Occupied(mut occupied) = map.entry(2)? {
         assert_equal!(rt; occupied.key(), &2);
         assert_equal!(rt; occupied.get(), &20);
         *occupied.get_mut() = 21;
@@ -93,13 +83,14 @@ fn a_place_changes_its_value(rt: HostRuntime) {
         *occupied.into_mut() = 23;
     }
     assert_equal!(rt; map.get(&2), Some(&23));
-    if let Entry::Occupied(occupied) = map.entry(2).or_abort(&rt) {
+    if let Entry::Occupied(occupied) = map.entry(2)? {
         assert_equal!(rt; occupied.remove(), 23);
     }
-    if let Entry::Occupied(occupied) = map.entry(3).or_abort(&rt) {
+    if let Entry::Occupied(occupied) = map.entry(3)? {
         assert_equal!(rt; occupied.remove_entry(), (3, 30));
     }
-    assert_equal!(rt; &map, &Map::from_iter(rt.alloc(), [(1, 11)]).or_abort(&rt));
+    assert_equal!(rt; &map, &Map::from_iter(rt.alloc(), [(1, 11)])?);
+    Ok(())
 }
 
 // Takes a key out by its entry. The keys are references.
