@@ -7,8 +7,12 @@ use std::num::ParseFloatError;
 use std::str::FromStr;
 use std::time::Instant;
 
-// How often each side is timed. The least time counts.
+// How often each side is timed, at the least and at the most. The least time counts.
 const TURNS: usize = 7;
+const MOST_TURNS: usize = 14;
+
+// A side agrees with itself, and need not be timed again, where its two least times differ by no more than this factor.
+const AGREES: f64 = 1.02;
 
 /// Nanoseconds an operation.
 #[derive(Clone, Copy)]
@@ -71,6 +75,8 @@ impl FromStr for Times {
 #[derive(Clone, Copy)]
 struct Side {
     full: f64,
+    // The least but one.
+    second: f64,
     filling: f64,
     checksums: (u64, u64),
 }
@@ -78,6 +84,7 @@ struct Side {
 impl Side {
     const UNTIMED: Side = Side {
         full: f64::INFINITY,
+        second: f64::INFINITY,
         filling: f64::INFINITY,
         checksums: (0, 0),
     };
@@ -87,8 +94,13 @@ impl Side {
         let (filling, checksum_filled) = timed(|| work(black_box(n), black_box(0)));
         let (full, checksum) = timed(|| work(black_box(n), black_box(rounds)));
         self.filling = self.filling.min(filling);
+        self.second = self.second.min(self.full.max(full));
         self.full = self.full.min(full);
         self.checksums = (checksum_filled, checksum);
+    }
+
+    fn agrees(&self) -> bool {
+        self.second <= self.full * AGREES
     }
 
     fn of_operation(&self, round: Round, operations: u64) -> f64 {
@@ -102,10 +114,26 @@ impl Side {
 
 /// Has the C library keep freed memory, so that no row pays for pages that come anew from the system.
 ///
-/// glibc raises the size from which it maps a block of its own, and returns it, once such a block was freed. Both
-/// sides allocate by the same `malloc`.
+/// It maps no block of its own for a large one, and gives none back. Both sides allocate by the same `malloc`. Where
+/// the library isn't glibc, it does as it does.
 pub fn settle_heap() {
-    drop(black_box(Vec::<u8>::with_capacity(1 << 24)));
+    #[cfg(target_env = "gnu")]
+    {
+        // Of <malloc.h>.
+        const M_TRIM_THRESHOLD: i32 = -1;
+        const M_MMAP_MAX: i32 = -4;
+        const NEVER: i32 = -1;
+
+        unsafe extern "C" {
+            fn mallopt(parameter: i32, value: i32) -> i32;
+        }
+
+        // SAFETY: it sets two numbers of the allocator, before there is a second thread.
+        unsafe {
+            mallopt(M_TRIM_THRESHOLD, NEVER);
+            mallopt(M_MMAP_MAX, 0);
+        }
+    }
 }
 
 fn timed(work: impl Fn() -> u64) -> (f64, u64) {
@@ -122,7 +150,7 @@ fn timed(work: impl Fn() -> u64) -> (f64, u64) {
 pub fn time(row: &Row, n: u64) -> Times {
     let rounds = row.operations / n;
     let [mut ours, mut theirs, mut plain, mut kit] = [Side::UNTIMED; 4];
-    for turn in 0..=TURNS {
+    for turn in 0..=MOST_TURNS {
         ours.turn(|n, rounds| (row.ours)(n, rounds), n, rounds);
         theirs.turn(row.theirs, n, rounds);
         plain.turn(row.plain, n, rounds);
@@ -137,6 +165,8 @@ pub fn time(row: &Row, n: u64) -> Times {
             for side in [&mut ours, &mut theirs, &mut plain, &mut kit] {
                 *side = Side::UNTIMED;
             }
+        } else if turn >= TURNS && [ours, theirs, plain, kit].iter().all(Side::agrees) {
+            break;
         }
     }
     let of = |side: Side| side.of_operation(row.round, rounds * n);

@@ -1,9 +1,8 @@
 -- Facts on a ring, and on the first entries of one.
 use Rattle.std.proofs.Common.{◌≡◌, ℕ, zero, suc, ◌+◌, ◌-◌, ◌<◌, ◌≤◌, List, [], ◌∷◌, ◌++◌, length, take, drop, get_or, set, refl, sym, ap, subst, ◌∙◌, arith}
 use Rattle.std.specs.List.{insert, remove}
-use Rattle.std.proofs.lemmas.List.{append_assoc, append-nil, drop-set-add, drop-set-lt, length-append, length-drop, length-take-le, set-append_left, set-append_right, take-append-drop, take-append-le, take-set-le, take_all}
-use Rattle.std.proofs.lemmas.List.Edits.{insert-append_left, insert-append_right, length-insert}
-use Rattle.std.proofs.Math.ListN.{drop_of_length-le}
+use Rattle.std.proofs.lemmas.List.{append_assoc, append-nil, drop-set-add, drop-set-lt, get_or-drop, get_or-take, length-append, length-drop, length-take-le, set-append_left, set-append_right, take-append-drop, take-append-le, take-set-le, take_all}
+use Rattle.std.proofs.lemmas.List.Edits.{insert-append_left, insert-append_right, length-insert, length-remove, remove-append_right}
 use Rattle.std.proofs.Math.Seq.{take-suc, take-append_seam, take-set-lt, drop-append_seam}
 use Rattle.wasmi_collections.specs.declared.string_interner.entry.Entry.{Entry}
 use Rattle.wasmi_collections.specs.IndexBlocks.{IsRing, from_first, width}
@@ -57,18 +56,92 @@ module _ (ring : List Entry) (f : ℕ) (out x : Entry) (below : f < length ring)
       ∙ (ap (λ k. drop (suc f) ring ++ insert (take (suc f) ring) k x) (sym less)
       ∙ sym (insert-append_right (drop (suc f) ring) (take (suc f) ring) (length (drop (suc f) ring)) p x refl (omega (arith, at))))))))
 
-  -- where the first stands at the front, the last is the last in memory
-  pub put_straight : (p : ℕ) → length ring ≡ suc f → p ≤ f → from_first (insert (remove ring f) p x) 0 ++ out ∷ [] ≡ insert (from_first ring 0) p x
-  put_straight p long within =
-      let short : p ≤ length (take f ring) = omega (arith, within, kept_long) in
-      let all : ring ≡ take f ring ++ out ∷ [] = sym (take_all (suc f) ring (omega (arith, long))) ∙ with_last in
-      let none : drop (suc f) ring ≡ [] = drop_of_length-le ring {i = suc f} (omega (arith, long)) in
-      let moved : insert (remove ring f) p x ≡ insert (take f ring) p x =
-      insert-append_left (take f ring) (drop (suc f) ring) p x short ∙ (ap (λ ys. insert (take f ring) p x ++ ys) none ∙ append-nil (insert (take f ring) p x)) in
-      ap (λ ys. ys ++ out ∷ []) (append-nil (insert (remove ring f) p x))
-      ∙ (ap (λ ys. ys ++ out ∷ []) moved
-      ∙ (sym (insert-append_left (take f ring) (out ∷ []) p x short)
-      ∙ (ap (λ ys. insert ys p x) (sym all) ∙ ap (λ ys. insert ys p x) (sym (append-nil ring)))))
+-- ---- two go in and two out, so that those on one side of a place move across the seam
+
+begins_with : (xs : List Entry) (c : Entry) → 0 < length xs → c ≡ get_or xs 0 c → xs ≡ c ∷ drop 1 xs
+begins_with [] c some first = absurd (omega (arith, some))
+begins_with (x ∷ xs) c some first = ap (λ y. y ∷ xs) (sym first)
+
+remove_end : (xs : List Entry) (c : Entry) → remove (xs ++ c ∷ []) (length xs) ≡ xs
+remove_end xs c =
+    let none : length xs - length xs ≡ 0 = omega arith in
+    remove-append_right xs (c ∷ []) (length xs) (length xs) refl (omega arith) ∙ (ap (λ k. xs ++ remove (c ∷ []) k) none ∙ append-nil xs)
+
+module _ (ring : List Entry) (f : ℕ) (x c out : Entry) (below : f < length ring) where
+  lower_long : length (take (suc f) ring) ≡ suc f
+  lower_long = length-take-le (suc f) ring (omega (arith, below))
+
+  whole : take (suc f) ring ++ drop (suc f) ring ≡ ring
+  whole = take-append-drop (suc f) ring
+
+  -- one goes in before the first, and the first in memory is then the last behind it
+  first_out : (s p : ℕ) (rest : List Entry) → take (suc f) ring ≡ c ∷ rest → s ≤ f → p ≡ length (drop (suc f) ring) + suc s
+      → insert (from_first (insert (remove ring 0) s x) (suc f)) (length (drop (suc f) ring)) c ≡ insert (from_first ring (suc f)) p x
+  first_out s p rest begins within at =
+      let upper = drop (suc f) ring in
+      let rest_long : length rest ≡ f = omega (arith, lower_long, ap length begins) in
+      let more : length (insert rest s x) ≡ suc f = omega (arith, rest_long, length-insert rest s x (omega (arith, rest_long, within))) in
+      let others : remove ring 0 ≡ rest ++ upper = ap (drop 1) (sym whole ∙ ap (λ ys. ys ++ upper) begins) in
+      let moved : insert (remove ring 0) s x ≡ insert rest s x ++ upper =
+      ap (λ ys. insert ys s x) others ∙ insert-append_left rest upper s x (omega (arith, rest_long, within)) in
+      let none : length upper - length upper ≡ 0 = omega arith in
+      let next : p - length upper ≡ suc s = omega (arith, at) in
+      ap (λ ys. insert ys (length upper) c) (ap (λ ys. from_first ys (suc f)) moved ∙ seam (insert rest s x) upper (suc f) more)
+      ∙ (insert-append_right upper (insert rest s x) (length upper) (length upper) c refl (omega arith)
+      ∙ (ap (λ k. upper ++ insert (insert rest s x) k c) none
+      ∙ (ap (λ k. upper ++ insert (c ∷ rest) k x) (sym next)
+      ∙ (ap (λ ys. upper ++ insert ys (p - length upper) x) (sym begins)
+      ∙ sym (insert-append_right upper (take (suc f) ring) (length upper) p x refl (omega (arith, at)))))))
+
+  -- one goes in behind the first, and the last in memory is then the first before it
+  last_out : (p u : ℕ) (rest : List Entry) → drop (suc f) ring ≡ rest ++ c ∷ [] → length rest ≡ u → p ≤ u
+      → insert (from_first (insert (remove ring (suc f + u)) (suc f + p) x) (suc f)) (suc u) c ≡ insert (from_first ring (suc f)) p x
+  last_out p u rest ends long within =
+      let lower = take (suc f) ring in
+      let more : length (insert rest p x) ≡ suc u = omega (arith, long, length-insert rest p x (omega (arith, long, within))) in
+      let gone : suc f + u - suc f ≡ length rest = omega (arith, long) in
+      let place : suc f + p - suc f ≡ p = omega arith in
+      let none : suc u - suc u ≡ 0 = omega arith in
+      let others : remove ring (suc f + u) ≡ lower ++ rest =
+      ap (λ ys. remove ys (suc f + u)) (sym whole ∙ ap (λ ys. lower ++ ys) ends)
+      ∙ (remove-append_right lower (rest ++ c ∷ []) (suc f) (suc f + u) lower_long (omega arith)
+      ∙ ap (λ ys. lower ++ ys) (ap (λ k. remove (rest ++ c ∷ []) k) gone ∙ remove_end rest c)) in
+      let moved : insert (remove ring (suc f + u)) (suc f + p) x ≡ lower ++ insert rest p x =
+      ap (λ ys. insert ys (suc f + p) x) others
+      ∙ (insert-append_right lower rest (suc f) (suc f + p) x lower_long (omega arith) ∙ ap (λ k. lower ++ insert rest k x) place) in
+      ap (λ ys. insert ys (suc u) c) (ap (λ ys. from_first ys (suc f)) moved ∙ seam lower (insert rest p x) (suc f) lower_long)
+      ∙ (insert-append_right (insert rest p x) lower (suc u) (suc u) c more (omega arith)
+      ∙ (ap (λ k. insert rest p x ++ insert lower k c) none
+      ∙ (sym (append_assoc (insert rest p x) (c ∷ []) lower)
+      ∙ (ap (λ ys. ys ++ lower) (sym (insert-append_left rest (c ∷ []) p x (omega (arith, long, within))) ∙ ap (λ ys. insert ys p x) (sym ends))
+      ∙ sym (insert-append_left (drop (suc f) ring) lower p x (omega (arith, long, within, ap length ends, length-append rest (c ∷ []))))))))
+
+  -- those before a place move down across it, and with them the first
+  pub down_across : (s p to : ℕ) → c ≡ get_or ring 0 c → s ≤ f → p ≡ length (drop (suc f) ring) + suc s → to ≡ f + length (drop (suc f) ring)
+      → out ≡ get_or (insert (remove ring 0) s x) f out
+      → from_first (insert (remove (insert (remove ring 0) s x) f) to c) f ++ out ∷ [] ≡ insert (from_first ring (suc f)) p x
+  down_across s p to first within at end taken =
+      let mid = insert (remove ring 0) s x in
+      let fewer = length-remove ring 0 (omega (arith, below)) in
+      let long : length mid ≡ length ring = omega (arith, fewer, length-insert (remove ring 0) s x (omega (arith, fewer, within, below))) in
+      ap (λ k. from_first (insert (remove mid f) k c) f ++ out ∷ []) end
+      ∙ (put_behind mid f out c (omega (arith, long, below)) taken (length (drop (suc f) ring)) (omega (arith, long, length-drop (suc f) mid, length-drop (suc f) ring))
+      ∙ first_out s p (drop 1 (take (suc f) ring)) (begins_with (take (suc f) ring) c (omega (arith, lower_long)) (first ∙ sym (get_or-take (suc f) ring 0 c (omega arith)))) within at)
+
+  -- those behind a place move up across it
+  pub up_across : (p u : ℕ) → c ≡ get_or ring (suc f + u) c → length (drop (suc f) ring) ≡ suc u → p ≤ u
+      → out ≡ get_or (insert (remove ring (suc f + u)) (suc f + p) x) f out
+      → from_first (insert (remove (insert (remove ring (suc f + u)) (suc f + p) x) f) 0 c) (suc f) ++ out ∷ [] ≡ insert (from_first ring (suc f)) p x
+  up_across p u last many within taken =
+      let mid = insert (remove ring (suc f + u)) (suc f + p) x in
+      let above = length-drop (suc f) ring in
+      let fewer = length-remove ring (suc f + u) (omega (arith, many, above)) in
+      let long : length mid ≡ length ring = omega (arith, fewer, length-insert (remove ring (suc f + u)) (suc f + p) x (omega (arith, fewer, within, many, above))) in
+      let ends : drop (suc f) ring ≡ take u (drop (suc f) ring) ++ c ∷ [] =
+      sym (take_all (suc u) (drop (suc f) ring) (omega (arith, many)))
+      ∙ (take-suc (drop (suc f) ring) u c (omega (arith, many)) ∙ ap (λ y. take u (drop (suc f) ring) ++ y ∷ []) (get_or-drop (suc f) ring u c ∙ sym last)) in
+      put_before mid f out c (omega (arith, long, below)) taken (suc u) 0 (omega arith) (omega (arith, long, length-drop (suc f) mid, above, many))
+      ∙ last_out p u (take u (drop (suc f) ring)) ends (length-take-le u (drop (suc f) ring) (omega (arith, many))) within
 
 -- ---- a ring of any length
 

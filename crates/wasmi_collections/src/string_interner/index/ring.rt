@@ -1,7 +1,7 @@
 //! Entries of the index of an interner in a ring.
-ghost use Rattle.std.specs.Prelude.{◌≡◌, ◌++◌, ◌<◌, ◌≤◌, List, [], ◌∷◌, length, OnOk, OnErr, slice_index_or, slice_set, vec_items};
+ghost use Rattle.std.specs.Prelude.{◌≡◌, ◌++◌, ◌<◌, ◌≤◌, ◌-◌, List, [], ◌∷◌, length, OnOk, OnErr, slice_index_or, slice_set, vec_items};
 ghost use Rattle.std.specs.List.{insert, remove};
-ghost use Rattle.wasmi_collections.specs.IndexBlocks.{width};
+ghost use Rattle.wasmi_collections.specs.IndexBlocks.{from_first, width};
 ghost use Rattle.wasmi_collections.specs.declared.string_interner.entry.Entry.{Entry};
 
 use crate::string_interner::entry::Entry;
@@ -113,23 +113,70 @@ impl<A: Allocator> Ring<A> {
         mem::replace(&mut self.slots[last], entry)
     }
 
-    // Puts an entry at a place, and takes the last out. The ring is full.
+    // Puts an entry at a place, and takes the last out. The ring is full. Of the entries before the place and
+    // those behind it the fewer move.
     pub(super) fn push_out(&mut self, place: usize, entry: Entry) -> Entry
         requires full { length self.old.entries ≡ width }
         requires within { place < width }
         ensures { self.new.entries ++ result ∷ [] ≡ insert self.old.entries place entry }
     {
-        if self.first == 0 {
-            return exchange(&mut self.slots, WIDTH - 1, place, entry);
-        }
-        let last = self.first - 1;
-        let behind = WIDTH - self.first;
-        if place <= behind {
-            self.first = last;
-            exchange(&mut self.slots, last, last + place, entry)
+        // A full ring that begins at 0 begins behind its last slot as well.
+        let first = if self.first == 0 { WIDTH } else { self.first };
+        if place < WIDTH / 2 {
+            self.first = first - 1;
+            move_down(&mut self.slots, first, place, entry)
         } else {
-            exchange(&mut self.slots, last, place - behind, entry)
+            move_up(&mut self.slots, first, place, entry)
         }
+    }
+}
+
+// Puts an entry at a place of a full ring, and takes the last out. The entries before the place move down, so the first
+// stands a slot further down.
+fn move_down<A: Allocator>(
+    ring: &mut Vec<Entry, A>,
+    first: usize,
+    place: usize,
+    entry: Entry,
+) -> Entry
+    requires full { length (vec_items ring.old) ≡ width }
+    requires first { (0 < first) × (first ≤ width) }
+    requires within { place < width }
+    ensures items { from_first (vec_items ring.new) (first - 1) ++ result ∷ []
+        ≡ insert (from_first (vec_items ring.old) first) place entry }
+    ensures len { length (vec_items ring.new) ≡ length (vec_items ring.old) }
+{
+    let last = first - 1;
+    let behind = WIDTH - first;
+    if place <= behind {
+        exchange(ring, last, last + place, entry)
+    } else {
+        let carried = exchange(ring, 0, place - behind - 1, entry);
+        exchange(ring, last, WIDTH - 1, carried)
+    }
+}
+
+// Puts an entry at a place of a full ring, and takes the last out. The entries behind the place move up.
+fn move_up<A: Allocator>(
+    ring: &mut Vec<Entry, A>,
+    first: usize,
+    place: usize,
+    entry: Entry,
+) -> Entry
+    requires full { length (vec_items ring.old) ≡ width }
+    requires first { (0 < first) × (first ≤ width) }
+    requires within { place < width }
+    ensures items { from_first (vec_items ring.new) first ++ result ∷ []
+        ≡ insert (from_first (vec_items ring.old) first) place entry }
+    ensures len { length (vec_items ring.new) ≡ length (vec_items ring.old) }
+{
+    let last = first - 1;
+    let behind = WIDTH - first;
+    if behind <= place {
+        exchange(ring, last, place - behind, entry)
+    } else {
+        let carried = exchange(ring, WIDTH - 1, first + place, entry);
+        exchange(ring, last, 0, carried)
     }
 }
 
