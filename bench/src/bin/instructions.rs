@@ -30,7 +30,10 @@ fn main() -> ExitCode {
 }
 
 fn work(side: &str, name: &str, rounds: &str) -> Outcome<()> {
-    let row = ROWS.iter().find(|row| row.name == name).ok_or("no such row")?;
+    let row = ROWS
+        .iter()
+        .find(|row| row.name == name)
+        .ok_or("no such row")?;
     let rounds = black_box(rounds.parse()?);
     let checksum = match side {
         "ours" => (row.ours)(black_box(ITEMS), rounds),
