@@ -108,7 +108,6 @@ impl<T: Drop, A: Allocator> Iterator for StableVecIntoIter<T, A> {
 impl<T: Drop, A: Allocator> DoubleEndedIterator for StableVecIntoIter<T, A> {
     ghost next_back_gives = { YieldsLast (λ items. items) };
 
-    #[tactic(auto, using(crate::proofs::Table::filled_last_open))]
     fn next_back(&mut self) -> Option<T> {
         if let Some(item) = last_of(&mut self.back) {
             return Some(item);

@@ -17,3 +17,11 @@ pub returns-clause-steps : goal.returns-clause-steps
 returns-clause-steps g c =
     let keys = g.Key.ArenaKey.keys in
     rw (← c.self.view_is, c.in-Some.ensures.1, c.len.ensures) (ap (entries_from keys c.self.inside.next) c.in_ok-item.ensures.steps ∙ entries_from_last keys c.self.inside.next c.next_back.new.self c.in_ok-item.item)
+
+pub returns-in_err-item-clause-goes : goal.returns-in_err-item-clause-goes
+returns-in_err-item-clause-goes g c = rw c.from_residual.ensures (record { on = λ _. tt; keeps = tt; rests = λ _. tt })
+
+pub overflow_add-self-inside : goal.overflow_add-self-inside
+overflow_add-self-inside g c =
+    let one_less = ap length c.in_ok-item.ensures.steps in
+    omega (arith, c.len.ensures, c.self.invariant, one_less, length-append c.next_back.new.self (c.in_ok-item.item ∷ []))

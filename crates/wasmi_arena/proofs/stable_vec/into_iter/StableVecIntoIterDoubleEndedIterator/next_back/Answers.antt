@@ -1,5 +1,7 @@
-use Rattle.std.proofs.Common.{sym, ap}
+use Rattle.std.proofs.Common.{◌∙◌, [], ◌∷◌, ◌++◌, sym, ap, subst}
 use Rattle.std.specs.Array.Iter.{array_into_iter_items}
+use Rattle.wasmi_arena.specs.Table.{AreFilled}
+use Rattle.wasmi_arena.proofs.Table.{filled_last_open}
 use Rattle.wasmi_arena.proofs.Taken.{all_left, last_taken, last_taken_counted, last_taken_ahead, taken_before, taken_before_ahead}
 use Rattle.wasmi_arena.proofs.Ahead.{progress_last}
 use Rattle.wasmi_arena.proofs.stable_vec.into_iter.StableVecIntoIterDoubleEndedIterator.next_back.Goals as goal
@@ -31,3 +33,8 @@ returns-in-None-clause-steps g c =
 pub returns-in-None-clause-goes : goal.returns-in-None-clause-goes
 returns-in-None-clause-goes g c =
     rw (← c.self.view_is) (progress_last (λ x. x) all_left _ (λ _. tt) _ _ _ (taken_before _ _ _ _ _ _ _ c.self.invariant (ap array_into_iter_items c.in-None.ensures.steps.1) _ c.in_default.ensures.0 c.in_default.ensures.1 c.in-None.ensures.steps.0 c.last_of-in-None.ensures))
+
+pub unreachable-requires : goal.unreachable-requires
+unreachable-requires g c =
+    let left = array_into_iter_items c.next_back.new.self in
+    filled_last_open left (subst AreFilled (c.in-Some-None.ensures.steps ∙ ap (λ b. left ++ b ∷ []) c.in-Some-None.field-0-is) c.self.invariant.filled)
