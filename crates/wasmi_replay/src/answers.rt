@@ -1,8 +1,8 @@
 //! The lines of the output.
 
 use std::fmt::{Debug, Display};
-use std::io;
 use std::io::{ErrorKind, Write};
+use std::{io, mem};
 use wasmi_arena::ArenaError;
 
 /// Writes what a call returned.
@@ -44,7 +44,10 @@ pub fn refusal<W: Write>(out: &mut W, error: ArenaError) -> io::Result<()> {
 
 /// Writes `done`, or `error` and the text of the error.
 pub fn done<W: Write>(out: &mut W, outcome: Result<(), ArenaError>) -> io::Result<()> {
-    result(out, outcome.map(|()| "done"))
+    match outcome {
+        Ok(()) => value(out, "done"),
+        Err(error) => refusal(out, error),
+    }
 }
 
 /// Puts a container that was made in the place of another one, and writes the same.
@@ -75,8 +78,19 @@ pub fn found<W: Write, V: Display + Drop>(
     }
 }
 
+/// Writes what an item was, or `none`. It becomes the number.
+pub fn written<W: Write>(out: &mut W, found: Option<&mut i64>, new: i64) -> io::Result<()> {
+    match found {
+        Some(item) => value(out, mem::replace(item, new)),
+        None => value(out, "none"),
+    }
+}
+
 /// Writes a key with its item, or `none`.
-pub fn pair<W: Write>(out: &mut W, found: Option<(i64, i64)>) -> io::Result<()> {
+pub fn pair<W: Write, K: Display + Drop, V: Display + Drop>(
+    out: &mut W,
+    found: Option<(K, V)>,
+) -> io::Result<()> {
     match found {
         Some((key, item)) => writeln!(out, "{key}={item}"),
         None => value(out, "none"),

@@ -2,15 +2,16 @@
 
 use crate::answers::{bad, done, keep, option, refusal, result, value};
 use crate::call::{Call, ItemCall};
+use crate::format::{Number, Numbered, Plain, Renewed};
 use crate::pair_key::PairKey;
 use crate::replay::Container;
 use crate::stable_vec::answer_place;
-use crate::walk::{renewed, take_steps, write_all, write_each, write_steps_to_end};
+use crate::walk::{left, take_steps, take_steps_to_end, write_all};
 use std::alloc::Global;
 use std::io::Write;
 use std::ops::Range;
 use std::{io, mem};
-use wasmi_arena::{ArenaKey, StableArena};
+use wasmi_arena::{ArenaError, ArenaKey, StableArena};
 use wasmi_collections::DedupArena;
 use wasmi_dense::Arena;
 
@@ -42,8 +43,8 @@ macro_rules! answer_arena {
                 $arena.clear();
                 value($out, "done")
             }
-            Call::NextKey => result($out, $arena.next_key().map(|key| key.into_usize())),
-            Call::Alloc(item) => result($out, $arena.alloc(item).map(|key| key.into_usize())),
+            Call::NextKey => number($out, $arena.next_key()),
+            Call::Alloc(item) => number($out, $arena.alloc(item)),
             Call::FromIter(items) => keep($out, Self::from_iter($alloc, items), $arena),
             Call::Item(number, call) => match Key::from_usize(number) {
                 Some(key) => $arena.answer_item(key, call, $out),
@@ -82,10 +83,10 @@ macro_rules! answer_item {
     ($arena:ident, $key:ident, $call:ident, $out:ident, $own:expr) => {
         match $call {
             ItemCall::Get => result($out, $arena.get($key)),
-            ItemCall::GetMut(new) => {
-                let item = $arena.get_mut($key);
-                result($out, item.map(|item| mem::replace(item, new)))
-            }
+            ItemCall::GetMut(new) => match $arena.get_mut($key) {
+                Ok(item) => value($out, mem::replace(item, new)),
+                Err(error) => refusal($out, error),
+            },
             ItemCall::Put(item) => result($out, $arena.put($key, item)),
             ItemCall::Has => value($out, $arena.has($key)),
             ItemCall::Index if $arena.has($key) => value($out, $arena[$key]),
@@ -100,19 +101,27 @@ macro_rules! answer_item {
 }
 
 macro_rules! show_steps {
-    ($arena:ident, $steps:ident, $out:ident) => {
-        take_steps!($out, $steps, $arena.iter(), (key, item) => {
-            write!($out, "{}={item} ", key.into_usize())?
-        })
-    };
+    ($arena:ident, $steps:ident, $out:ident) => {{
+        let mut entries = $arena.iter();
+        take_steps(&mut entries, $steps, Numbered, $out)?;
+        left($out, entries.len())
+    }};
 }
 
-macro_rules! show_all {
-    ($arena:ident, $out:ident) => {
-        write_all!($out, $arena.len(), $arena, (key, item) => {
-            write!($out, " {}={item}", key.into_usize())?
-        })
-    };
+// Writes the number of a key, or `error` and the text of the error.
+fn number<Key: ArenaKey, W: Write>(out: &mut W, key: Result<Key, ArenaError>) -> io::Result<()> {
+    match key {
+        Ok(key) => value(out, key.into_usize()),
+        Err(error) => refusal(out, error),
+    }
+}
+
+// Writes the number of a key, or `none`.
+fn found_number<Key: ArenaKey, W: Write>(out: &mut W, key: Option<Key>) -> io::Result<()> {
+    match key {
+        Some(key) => value(out, key.into_usize()),
+        None => value(out, "none"),
+    }
 }
 
 impl<Key: ArenaKey> Container for StableArena<Key, i64> {
@@ -158,24 +167,22 @@ impl<Key: ArenaKey> AnyArena<Key> for StableArena<Key, i64> {
     }
 
     fn show_all<W: Write>(&self, out: &mut W) -> io::Result<()> {
-        show_all!(self, out)
+        write_all(self.len(), self, Numbered, out)
     }
 
     fn write_steps<W: Write>(&mut self, steps: &str, first: i64, out: &mut W) -> io::Result<()> {
-        let mut new = first;
-        take_steps!(out, steps, self.iter_mut(), (key, item) => {
-            write!(out, "{}={item} ", key.into_usize())?;
-            renewed(item, &mut new);
-        })
+        let mut entries = self.iter_mut();
+        take_steps(&mut entries, steps, Renewed(first), out)?;
+        left(out, entries.len())
     }
 
     fn write_each<W: Write>(&mut self, first: i64, out: &mut W) -> io::Result<()> {
-        write_each!(out, first, self.len(), self)
+        write_all(self.len(), self, Renewed(first), out)
     }
 
     fn write_back<W: Write>(&mut self, first: i64, out: &mut W) -> io::Result<()> {
         let len = self.len();
-        write_each!(out, first, len, self.iter_mut().rev())
+        write_all(len, self.iter_mut().rev(), Renewed(first), out)
     }
 }
 
@@ -184,7 +191,9 @@ fn keys<Key: ArenaKey, W: Write>(
     steps: &str,
     out: &mut W,
 ) -> io::Result<()> {
-    take_steps!(out, steps, arena.keys(), key => write!(out, "{} ", key.into_usize())?)
+    let mut keys = arena.keys();
+    take_steps(&mut keys, steps, Number, out)?;
+    left(out, keys.len())
 }
 
 fn values<Key: ArenaKey, W: Write>(
@@ -192,7 +201,9 @@ fn values<Key: ArenaKey, W: Write>(
     steps: &str,
     out: &mut W,
 ) -> io::Result<()> {
-    take_steps!(out, steps, arena.values(), item => write!(out, "{item} ")?)
+    let mut items = arena.values();
+    take_steps(&mut items, steps, Plain, out)?;
+    left(out, items.len())
 }
 
 impl<Key: PairKey> Container for Arena<Key, i64> {
@@ -217,10 +228,10 @@ impl<Key: PairKey> Container for Arena<Key, i64> {
             }
             Call::Reserve(count) => {
                 let additional = usize::from(count);
-                result(
-                    out,
-                    self.reserve(additional).map(|()| additional <= self.room()),
-                )
+                match self.reserve(additional) {
+                    Ok(()) => value(out, additional <= self.room()),
+                    Err(error) => refusal(out, error),
+                }
             }
             Call::GetDisjointMut(first, second, new) => {
                 match (Key::from_usize(first), Key::from_usize(second)) {
@@ -241,9 +252,9 @@ fn take_out<Key: ArenaKey, W: Write>(
     steps: &str,
     out: &mut W,
 ) -> io::Result<()> {
-    take_steps!(out, steps, arena.into_iter(), (key, item) => {
-        write!(out, "{}={item} ", key.into_usize())?
-    })
+    let mut entries = arena.into_iter();
+    take_steps(&mut entries, steps, Numbered, out)?;
+    left(out, entries.len())
 }
 
 impl<Key: PairKey> AnyArena<Key> for Arena<Key, i64> {
@@ -256,20 +267,22 @@ impl<Key: PairKey> AnyArena<Key> for Arena<Key, i64> {
     }
 
     fn show_all<W: Write>(&self, out: &mut W) -> io::Result<()> {
-        show_all!(self, out)
+        write_all(self.len(), self, Numbered, out)
     }
 
     fn write_steps<W: Write>(&mut self, steps: &str, first: i64, out: &mut W) -> io::Result<()> {
-        write_steps_to_end!(self, steps, first, out, entries => writeln!(out, "left {}", entries.len()))
+        let mut entries = self.iter_mut();
+        take_steps_to_end(&mut entries, steps, Renewed(first), out)?;
+        left(out, entries.len())
     }
 
     fn write_each<W: Write>(&mut self, first: i64, out: &mut W) -> io::Result<()> {
-        write_each!(out, first, self.len(), self)
+        write_all(self.len(), self, Renewed(first), out)
     }
 
     fn write_back<W: Write>(&mut self, first: i64, out: &mut W) -> io::Result<()> {
         let len = self.len();
-        write_each!(out, first, len, self.iter_mut().rev())
+        write_all(len, self.iter_mut().rev(), Renewed(first), out)
     }
 }
 
@@ -289,11 +302,8 @@ impl<Key: ArenaKey> Container for DedupArena<Key, i64> {
             return bad(out);
         };
         match call {
-            Call::KeyOf(item) => option(out, self.key_of(&item).map(|key| key.into_usize())),
-            Call::IndexOf(item) => {
-                let found = self.index().get(&item);
-                option(out, found.map(|key| key.into_usize()))
-            }
+            Call::KeyOf(item) => found_number(out, self.key_of(&item)),
+            Call::IndexOf(item) => found_number(out, self.index().get(&item).copied()),
             call => answer_arena!(self, alloc, call, out, bad(out)),
         }
     }
@@ -318,15 +328,17 @@ impl<Key: ArenaKey> AnyArena<Key> for DedupArena<Key, i64> {
     }
 
     fn show_all<W: Write>(&self, out: &mut W) -> io::Result<()> {
-        show_all!(self, out)
+        write_all(self.len(), self, Numbered, out)
     }
 
     fn write_steps<W: Write>(&mut self, steps: &str, first: i64, out: &mut W) -> io::Result<()> {
-        write_steps_to_end!(self, steps, first, out, entries => writeln!(out, "left {}", entries.len()))
+        let mut entries = self.iter_mut();
+        take_steps_to_end(&mut entries, steps, Renewed(first), out)?;
+        left(out, entries.len())
     }
 
     fn write_each<W: Write>(&mut self, first: i64, out: &mut W) -> io::Result<()> {
-        write_each!(out, first, self.len(), self)
+        write_all(self.len(), self, Renewed(first), out)
     }
 
     fn write_back<W: Write>(&mut self, _first: i64, out: &mut W) -> io::Result<()> {

@@ -1,12 +1,13 @@
 //! Calls on a `ComponentVec`. A line names a key by its number.
 
-use crate::answers::{bad, done, keep, option, refusal, value};
+use crate::answers::{bad, done, keep, option, refusal, value, written};
 use crate::call::{Call, ItemCall};
+use crate::format::{Numbered, Renewed};
 use crate::replay::Container;
-use crate::walk::{renewed, write_all, write_each, write_steps_to_end};
+use crate::walk::{take_steps, take_steps_to_end, write_all};
 use std::alloc::Global;
+use std::io;
 use std::io::Write;
-use std::{io, mem};
 use wasmi_arena::ArenaKey;
 use wasmi_dense::ComponentVec;
 
@@ -55,10 +56,7 @@ fn answer_item<Key: ArenaKey, W: Write>(
 ) -> io::Result<()> {
     match call {
         ItemCall::Get => option(out, components.get(key)),
-        ItemCall::GetMut(new) => {
-            let component = components.get_mut(key);
-            option(out, component.map(|component| mem::replace(component, new)))
-        }
+        ItemCall::GetMut(new) => written(out, components.get_mut(key), new),
         ItemCall::Set(new) => match components.set(key, new) {
             Ok(old) => option(out, old),
             Err(error) => refusal(out, error),
@@ -81,18 +79,7 @@ fn iter<Key: ArenaKey, W: Write>(
     steps: &str,
     out: &mut W,
 ) -> io::Result<()> {
-    let mut entries = components.iter();
-    for step in steps.bytes() {
-        let given = if step == b'f' {
-            entries.next()
-        } else {
-            entries.next_back()
-        };
-        match given {
-            Some((key, item)) => write!(out, "{}={item} ", key.into_usize())?,
-            None => write!(out, "none ")?,
-        }
-    }
+    take_steps(&mut components.iter(), steps, Numbered, out)?;
     writeln!(out)
 }
 
@@ -100,9 +87,7 @@ fn all<Key: ArenaKey, W: Write>(
     components: &ComponentVec<Key, i64>,
     out: &mut W,
 ) -> io::Result<()> {
-    write_all!(out, components.extent(), components, (key, item) => {
-        write!(out, " {}={item}", key.into_usize())?
-    })
+    write_all(components.extent(), components, Numbered, out)
 }
 
 fn iter_mut<Key: ArenaKey, W: Write>(
@@ -111,7 +96,8 @@ fn iter_mut<Key: ArenaKey, W: Write>(
     first: i64,
     out: &mut W,
 ) -> io::Result<()> {
-    write_steps_to_end!(components, steps, first, out, entries => writeln!(out))
+    take_steps_to_end(&mut components.iter_mut(), steps, Renewed(first), out)?;
+    writeln!(out)
 }
 
 fn all_mut<Key: ArenaKey, W: Write>(
@@ -119,5 +105,5 @@ fn all_mut<Key: ArenaKey, W: Write>(
     first: i64,
     out: &mut W,
 ) -> io::Result<()> {
-    write_each!(out, first, components.extent(), components)
+    write_all(components.extent(), components, Renewed(first), out)
 }

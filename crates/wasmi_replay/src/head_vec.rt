@@ -1,11 +1,11 @@
 //! Calls on a `HeadVec`.
 
-use crate::answers::{bad, debug, done, keep, option, value};
+use crate::answers::{bad, debug, done, keep, option, value, written};
 use crate::call::Call;
 use crate::replay::Container;
 use std::alloc::Global;
+use std::io;
 use std::io::Write;
-use std::{io, mem};
 use wasmi_collections::HeadVec;
 
 impl Container for HeadVec<i64> {
@@ -33,10 +33,7 @@ impl Container for HeadVec<i64> {
             Call::Push(item) => done(out, self.push(item)),
             Call::Pop => option(out, self.pop()),
             Call::Last => option(out, self.last()),
-            Call::LastMut(new) => {
-                let last = self.last_mut();
-                option(out, last.map(|last| mem::replace(last, new)))
-            }
+            Call::LastMut(new) => written(out, self.last_mut(), new),
             Call::Clone => keep(out, self.clone(), other),
             Call::PartialCmp => debug(out, &(*self).partial_cmp(other)),
             Call::Cmp => debug(out, &(*self).cmp(other)),

@@ -6,6 +6,7 @@ mod arena;
 mod call;
 mod component_vec;
 mod counted;
+mod format;
 mod head_vec;
 mod interner_call;
 mod lines;

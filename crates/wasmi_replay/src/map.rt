@@ -1,6 +1,7 @@
 //! Calls on a `Map` of either backing.
 
-use crate::answers::{bad, done, found, keep, option, pair, refusal, result, value};
+use crate::answers::{bad, done, found, keep, option, pair, refusal, result, value, written};
+use crate::format::{Pair, Plain, Raised};
 use crate::replay::Container;
 use crate::table::answer_table;
 use crate::table_call::{BackingCall, EntryCall, KeyCall, MutCall, SideCall, TableCall, WalkCall};
@@ -68,15 +69,9 @@ macro_rules! answer_key {
                 Err(error) => refusal($out, error),
             },
             KeyCall::Get => option($out, $map.get(&$key)),
-            KeyCall::GetMut(new) => {
-                let item = $map.get_mut(&$key);
-                option($out, item.map(|item| mem::replace(item, new)))
-            }
+            KeyCall::GetMut(new) => written($out, $map.get_mut(&$key), new),
             KeyCall::ContainsKey => value($out, $map.contains_key(&$key)),
-            KeyCall::GetKeyValue => {
-                let found = $map.get_key_value(&$key);
-                pair($out, found.map(|(key, item)| (*key, *item)))
-            }
+            KeyCall::GetKeyValue => pair($out, $map.get_key_value(&$key)),
             KeyCall::Index if $map.contains_key(&$key) => value($out, $map[&$key]),
             KeyCall::Index => value($out, "no item"),
             KeyCall::Remove => option($out, $map.remove(&$key)),
@@ -155,9 +150,9 @@ macro_rules! take_entry {
 macro_rules! walk_by {
     ($map:ident, $steps:ident, $walk:ident, $out:ident) => {
         match $walk {
-            WalkCall::Iter => walk!($out, $steps, $map.iter(), (key, item) => "{key}={item} "),
-            WalkCall::Keys => walk!($out, $steps, $map.keys(), key => "{key} "),
-            WalkCall::Values => walk!($out, $steps, $map.values(), item => "{item} "),
+            WalkCall::Iter => walk($map.iter(), $steps, Pair, $out),
+            WalkCall::Keys => walk($map.keys(), $steps, Plain, $out),
+            WalkCall::Values => walk($map.values(), $steps, Plain, $out),
         }
     };
 }
@@ -165,12 +160,8 @@ macro_rules! walk_by {
 macro_rules! walk_mut {
     ($map:ident, $steps:ident, $walk:ident, $out:ident) => {
         match $walk {
-            MutCall::Items(add) => {
-                walk!($out, $steps, $map.iter_mut(), (key, item) => "{key}={} ", raised(item, add))
-            }
-            MutCall::Values(add) => {
-                walk!($out, $steps, $map.values_mut(), item => "{} ", raised(item, add))
-            }
+            MutCall::Items(add) => walk($map.iter_mut(), $steps, Raised(add), $out),
+            MutCall::Values(add) => walk($map.values_mut(), $steps, Raised(add), $out),
         }
     };
 }
@@ -178,11 +169,9 @@ macro_rules! walk_mut {
 macro_rules! walk_taken {
     ($map:ident, $steps:ident, $walk:ident, $out:ident) => {
         match $walk {
-            WalkCall::Iter => {
-                walk!($out, $steps, $map.into_iter(), (key, item) => "{key}={item} ")
-            }
-            WalkCall::Keys => walk!($out, $steps, $map.into_keys(), key => "{key} "),
-            WalkCall::Values => walk!($out, $steps, $map.into_values(), item => "{item} "),
+            WalkCall::Iter => walk($map.into_iter(), $steps, Pair, $out),
+            WalkCall::Keys => walk($map.into_keys(), $steps, Plain, $out),
+            WalkCall::Values => walk($map.into_values(), $steps, Plain, $out),
         }
     };
 }
@@ -197,11 +186,6 @@ macro_rules! thin {
         });
         calls
     }};
-}
-
-// Adds a number to an item, and returns what it was.
-fn raised(item: &mut i64, add: i64) -> i64 {
-    mem::replace(item, item.wrapping_add(add))
 }
 
 // Makes a call that sets don't have.
@@ -290,11 +274,11 @@ impl AnyMap for ordered::Map<i64, i64> {
     }
 
     fn all<W: Write>(&self, out: &mut W) -> io::Result<()> {
-        write_all!(out, self.len(), self, (key, item) => write!(out, " {key}={item}")?)
+        write_all(self.len(), self, Pair, out)
     }
 
     fn all_mut<W: Write>(&mut self, add: i64, out: &mut W) -> io::Result<()> {
-        write_all!(out, self.len(), self, (key, item) => write!(out, " {key}={}", raised(item, add))?)
+        write_all(self.len(), self, Raised(add), out)
     }
 
     fn thin(&mut self, mask: i64, add: i64) -> u64 {
@@ -308,14 +292,8 @@ impl AnyMap for ordered::Map<i64, i64> {
         out: &mut W,
     ) -> io::Result<()> {
         match call {
-            BackingCall::First => {
-                let found = self.first_key_value();
-                pair(out, found.map(|(key, item)| (*key, *item)))
-            }
-            BackingCall::Last => {
-                let found = self.last_key_value();
-                pair(out, found.map(|(key, item)| (*key, *item)))
-            }
+            BackingCall::First => pair(out, self.first_key_value()),
+            BackingCall::Last => pair(out, self.last_key_value()),
             BackingCall::PopFirst => pair(out, self.pop_first()),
             BackingCall::PopLast => pair(out, self.pop_last()),
             BackingCall::Range(from, to, steps) => range(self, from, to, steps, out),
@@ -336,7 +314,7 @@ fn range<W: Write>(
     if from > to {
         return value(out, "no range");
     }
-    walk_ends!(out, steps, map.range(from..to), (key, item) => "{key}={item} ")
+    walk_ends(map.range(from..to), steps, Pair, out)
 }
 
 impl Container for hashed::Map<i64, i64> {
@@ -396,11 +374,11 @@ impl AnyMap for hashed::Map<i64, i64> {
     }
 
     fn all<W: Write>(&self, out: &mut W) -> io::Result<()> {
-        write_all!(out, self.len(), self, (key, item) => write!(out, " {key}={item}")?)
+        write_all(self.len(), self, Pair, out)
     }
 
     fn all_mut<W: Write>(&mut self, add: i64, out: &mut W) -> io::Result<()> {
-        write_all!(out, self.len(), self, (key, item) => write!(out, " {key}={}", raised(item, add))?)
+        write_all(self.len(), self, Raised(add), out)
     }
 
     fn thin(&mut self, mask: i64, add: i64) -> u64 {

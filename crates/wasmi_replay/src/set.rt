@@ -1,6 +1,7 @@
 //! Calls on a `Set` of either backing.
 
 use crate::answers::{bad, done, keep, option, refusal, result, value};
+use crate::format::Plain;
 use crate::replay::Container;
 use crate::table::answer_table;
 use crate::table_call::{BackingCall, BothCall, KeyCall, MadeCall, TableCall, WalkCall};
@@ -66,11 +67,11 @@ macro_rules! compare {
             BothCall::IsSubset => value($out, $set.is_subset($other)),
             BothCall::IsSuperset => value($out, $set.is_superset($other)),
             BothCall::IsDisjoint => value($out, $set.is_disjoint($other)),
-            BothCall::Union(steps) => walk_all!($out, steps, $set.union($other)),
-            BothCall::Intersection(steps) => walk_all!($out, steps, $set.intersection($other)),
-            BothCall::Difference(steps) => walk_all!($out, steps, $set.difference($other)),
+            BothCall::Union(steps) => walk_all($set.union($other), steps, Plain, $out),
+            BothCall::Intersection(steps) => walk_all($set.intersection($other), steps, Plain, $out),
+            BothCall::Difference(steps) => walk_all($set.difference($other), steps, Plain, $out),
             BothCall::SymmetricDifference(steps) => {
-                walk_all!($out, steps, $set.symmetric_difference($other))
+                walk_all($set.symmetric_difference($other), steps, Plain, $out)
             }
         }
     };
@@ -149,16 +150,16 @@ impl AnySet for ordered::Set<i64> {
     }
 
     fn walk<W: Write>(&self, steps: u16, out: &mut W) -> io::Result<()> {
-        walk!(out, steps, self.iter(), element => "{element} ")
+        walk(self.iter(), steps, Plain, out)
     }
 
     fn walk_taken<W: Write>(&mut self, alloc: Global, steps: u16, out: &mut W) -> io::Result<()> {
         let set = mem::replace(self, Self::new(alloc));
-        walk!(out, steps, set.into_iter(), element => "{element} ")
+        walk(set.into_iter(), steps, Plain, out)
     }
 
     fn all<W: Write>(&self, out: &mut W) -> io::Result<()> {
-        write_all!(out, self.len(), self, element => write!(out, " {element}")?)
+        write_all(self.len(), self, Plain, out)
     }
 
     fn thin(&mut self, mask: i64) -> u64 {
@@ -194,7 +195,7 @@ fn range<W: Write>(
     if from > to {
         return value(out, "no range");
     }
-    walk_ends!(out, steps, set.range(from..to), element => "{element} ")
+    walk_ends(set.range(from..to), steps, Plain, out)
 }
 
 impl Container for hashed::Set<i64> {
@@ -227,16 +228,16 @@ impl AnySet for hashed::Set<i64> {
     }
 
     fn walk<W: Write>(&self, steps: u16, out: &mut W) -> io::Result<()> {
-        walk!(out, steps, self.iter(), element => "{element} ")
+        walk(self.iter(), steps, Plain, out)
     }
 
     fn walk_taken<W: Write>(&mut self, alloc: Global, steps: u16, out: &mut W) -> io::Result<()> {
         let set = mem::replace(self, Self::new(alloc));
-        walk!(out, steps, set.into_iter(), element => "{element} ")
+        walk(set.into_iter(), steps, Plain, out)
     }
 
     fn all<W: Write>(&self, out: &mut W) -> io::Result<()> {
-        write_all!(out, self.len(), self, element => write!(out, " {element}")?)
+        write_all(self.len(), self, Plain, out)
     }
 
     fn thin(&mut self, mask: i64) -> u64 {

@@ -1,13 +1,14 @@
 //! Calls on a `StableVec`.
 
-use crate::answers::{bad, debug, done, keep, option, result, value};
+use crate::answers::{bad, debug, done, keep, option, result, value, written};
 use crate::call::{Call, ItemCall};
+use crate::format::{Bucket, Plain, Renewed};
 use crate::replay::Container;
-use crate::walk::{renewed, take_steps, write_all};
+use crate::walk::{left, take_steps, write_all};
 use std::alloc::Global;
 use std::hash::{DefaultHasher, Hash, Hasher};
+use std::io;
 use std::io::Write;
-use std::{io, mem};
 use wasmi_arena::{MAX_LEN, StableVec};
 
 impl Container for StableVec<i64> {
@@ -65,10 +66,7 @@ fn answer_item<W: Write>(
 ) -> io::Result<()> {
     match call {
         ItemCall::Get => option(out, vec.get(index)),
-        ItemCall::GetMut(new) => {
-            let item = vec.get_mut(index);
-            option(out, item.map(|item| mem::replace(item, new)))
-        }
+        ItemCall::GetMut(new) => written(out, vec.get_mut(index), new),
         ItemCall::Put(item) => result(out, vec.put(index, item)),
         ItemCall::Index if index < vec.len() => value(out, vec[index]),
         ItemCall::IndexMut(item) if index < vec.len() => {
@@ -83,9 +81,7 @@ fn answer_item<W: Write>(
 /// Makes a call on where the items lie.
 pub fn answer_place<W: Write>(vec: &StableVec<i64>, call: Call<'_>, out: &mut W) -> io::Result<()> {
     match call {
-        Call::Slices(steps) => {
-            take_steps!(out, steps, vec.slices(), part => write!(out, "{part:?} ")?)
-        }
+        Call::Slices(steps) => slices(vec, steps, out),
         Call::Room => value(out, vec.room()),
         Call::OpenBuckets => value(out, vec.open_buckets()),
         Call::Slots => value(out, vec.slots()),
@@ -104,11 +100,19 @@ fn hash_of(vec: &StableVec<i64>) -> u64 {
 }
 
 fn iter<W: Write>(vec: &StableVec<i64>, steps: &str, out: &mut W) -> io::Result<()> {
-    take_steps!(out, steps, vec.iter(), item => write!(out, "{item} ")?)
+    let mut items = vec.iter();
+    take_steps(&mut items, steps, Plain, out)?;
+    left(out, items.len())
+}
+
+fn slices<W: Write>(vec: &StableVec<i64>, steps: &str, out: &mut W) -> io::Result<()> {
+    let mut buckets = vec.slices();
+    take_steps(&mut buckets, steps, Bucket, out)?;
+    left(out, buckets.len())
 }
 
 fn all<W: Write>(vec: &StableVec<i64>, out: &mut W) -> io::Result<()> {
-    write_all!(out, vec.len(), vec, item => write!(out, " {item}")?)
+    write_all(vec.len(), vec, Plain, out)
 }
 
 // The calls that write: each item is shown as it was. They become the numbers from `first` on.
@@ -118,8 +122,9 @@ fn iter_mut<W: Write>(
     first: i64,
     out: &mut W,
 ) -> io::Result<()> {
-    let mut new = first;
-    take_steps!(out, steps, vec.iter_mut(), item => write!(out, "{} ", renewed(item, &mut new))?)
+    let mut items = vec.iter_mut();
+    take_steps(&mut items, steps, Renewed(first), out)?;
+    left(out, items.len())
 }
 
 fn slices_mut<W: Write>(
@@ -128,24 +133,18 @@ fn slices_mut<W: Write>(
     first: i64,
     out: &mut W,
 ) -> io::Result<()> {
-    let mut new = first;
-    take_steps!(out, steps, vec.slices_mut(), part => {
-        write!(out, "{part:?} ")?;
-        for item in part {
-            renewed(item, &mut new);
-        }
-    })
+    let mut buckets = vec.slices_mut();
+    take_steps(&mut buckets, steps, Renewed(first), out)?;
+    left(out, buckets.len())
 }
 
 fn all_mut<W: Write>(vec: &mut StableVec<i64>, first: i64, out: &mut W) -> io::Result<()> {
-    let mut new = first;
-    write_all!(out, vec.len(), vec, item => write!(out, " {}", renewed(item, &mut new))?)
+    write_all(vec.len(), vec, Renewed(first), out)
 }
 
 fn all_mut_back<W: Write>(vec: &mut StableVec<i64>, first: i64, out: &mut W) -> io::Result<()> {
-    let mut new = first;
     let len = vec.len();
-    write_all!(out, len, vec.iter_mut().rev(), item => write!(out, " {}", renewed(item, &mut new))?)
+    write_all(len, vec.iter_mut().rev(), Renewed(first), out)
 }
 
 // Writes how many slots a bucket has, and its items; or `none` if it isn't open.

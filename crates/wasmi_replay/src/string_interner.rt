@@ -1,9 +1,10 @@
 //! Calls on a `StringInterner`. A line names a symbol by its number.
 
 use crate::answers::{bad, done, keep, option, result, value};
+use crate::format::Text;
 use crate::interner_call::InternerCall;
 use crate::replay::Container;
-use crate::walk::take_steps;
+use crate::walk::{left, take_steps};
 use std::alloc::Global;
 use std::hash::{DefaultHasher, Hash, Hasher};
 use std::io;
@@ -72,7 +73,9 @@ fn counted<W: Write>(interner: &StringInterner, text: &str, out: &mut W) -> io::
 }
 
 fn iter<W: Write>(interner: &StringInterner, steps: &str, out: &mut W) -> io::Result<()> {
-    take_steps!(out, steps, interner.iter(), (symbol, text) => write!(out, "{symbol}=\"{text}\" ")?)
+    let mut texts = interner.iter();
+    take_steps(&mut texts, steps, Text, out)?;
+    left(out, texts.len())
 }
 
 // Writes two symbols, how they compare, and the hash of the first.

@@ -1,149 +1,168 @@
-//! Iterations that write what they come to, as the last words say.
+//! Iterations that write what they come to. Each of their functions is proved once, for all iterators.
+ghost use Rattle.std.specs.Iterator.{IsFinite, IsFiniteIterable};
 
-use std::mem;
+use crate::format::Format;
+use std::io;
+use std::io::Write;
 
 /// Takes so many items from an iterator, asks it how many are left, and takes these by a `for`.
-macro_rules! walk {
-    ($out:ident, $count:ident, $items:expr, $item:pat => $($text:tt)+) => {{
-        let mut items = $items;
-        for _ in 0..$count {
-            match items.next() {
-                Some($item) => write!($out, $($text)+)?,
-                None => write!($out, "none ")?,
-            }
-        }
-        write!($out, "left {} ", items.len())?;
-        for $item in items {
-            write!($out, $($text)+)?;
-        }
-        writeln!($out)
-    }};
+pub fn walk<I: ExactSizeIterator, F: Format<I::Item>, W: Write>(
+    mut items: I,
+    count: u16,
+    mut format: F,
+    out: &mut W,
+) -> io::Result<()>
+    requires again { (it : I) → I.can_next it × IsFinite (I.remaining it) }
+{
+    take(&mut items, count, &mut format, out)?;
+    write!(out, "left {} ", items.len())?;
+    rest(items, format, out)
 }
 
 /// The same of an iterator that doesn't know how many are left.
-macro_rules! walk_all {
-    ($out:ident, $count:ident, $items:expr) => {{
-        let mut items = $items;
-        for _ in 0..$count {
-            match items.next() {
-                Some(item) => write!($out, "{item} ")?,
-                None => write!($out, "none ")?,
-            }
-        }
-        write!($out, "left ")?;
-        for item in items {
-            write!($out, "{item} ")?;
-        }
-        writeln!($out)
-    }};
+pub fn walk_all<I: Iterator, F: Format<I::Item>, W: Write>(
+    mut items: I,
+    count: u16,
+    mut format: F,
+    out: &mut W,
+) -> io::Result<()>
+    requires again { (it : I) → I.can_next it × IsFinite (I.remaining it) }
+{
+    take(&mut items, count, &mut format, out)?;
+    write!(out, "left ")?;
+    rest(items, format, out)
 }
 
 /// Takes so many items from an iterator, from the front and the back in turn, and the rest by a `for`.
-macro_rules! walk_ends {
-    ($out:ident, $count:ident, $items:expr, $item:pat => $($text:tt)+) => {{
-        let mut items = $items;
-        for step in 0..$count {
-            let given = if step % 2 == 0 {
-                items.next()
-            } else {
-                items.next_back()
-            };
-            match given {
-                Some($item) => write!($out, $($text)+)?,
-                None => write!($out, "none ")?,
-            }
-        }
-        write!($out, "left ")?;
-        for $item in items {
-            write!($out, $($text)+)?;
-        }
-        writeln!($out)
-    }};
+pub fn walk_ends<I: DoubleEndedIterator, F: Format<I::Item>, W: Write>(
+    mut items: I,
+    count: u16,
+    mut format: F,
+    out: &mut W,
+) -> io::Result<()>
+    requires again { (it : I) → I.can_next it × I.can_next_back it × IsFinite (I.remaining it) }
+{
+    for step in 0..count {
+        let given = if step % 2 == 0 {
+            items.next()
+        } else {
+            items.next_back()
+        };
+        step_given(given, &mut format, out)?;
+    }
+    write!(out, "left ")?;
+    rest(items, format, out)
 }
 
-/// Takes items from the ends that the steps name, an `f` for the front, and then asks how many are left.
-macro_rules! take_steps {
-    ($out:ident, $steps:ident, $items:expr, $item:pat => $write:expr) => {{
-        let mut items = $items;
-        for step in $steps.bytes() {
-            let given = if step == b'f' {
-                items.next()
-            } else {
-                items.next_back()
-            };
-            match given {
-                Some($item) => $write,
-                None => write!($out, "none ")?,
-            }
-        }
-        writeln!($out, "left {}", items.len())
-    }};
+/// Takes items from the ends that the steps name, an `f` for the front.
+pub fn take_steps<I: DoubleEndedIterator, F: Format<I::Item>, W: Write>(
+    items: &mut I,
+    steps: &str,
+    mut format: F,
+    out: &mut W,
+) -> io::Result<()>
+    requires again { (it : I) → I.can_next it × I.can_next_back it }
+{
+    for step in steps.bytes() {
+        let given = if step == b'f' {
+            items.next()
+        } else {
+            items.next_back()
+        };
+        step_given(given, &mut format, out)?;
+    }
+    Ok(())
 }
 
-/// The same of the entries that an iterator lends. Each is shown as it was, and its item becomes the next number from
-/// `first` on. One that came to its end isn't asked again, since no contract says that it may be.
-macro_rules! write_steps_to_end {
-    ($container:ident, $steps:ident, $first:ident, $out:ident, $entries:ident => $rest:expr) => {{
-        let mut new = $first;
-        let mut ended = false;
-        let mut $entries = $container.iter_mut();
-        for step in $steps.bytes() {
-            if ended {
-                write!($out, "none ")?;
-                continue;
-            }
-            let given = if step == b'f' {
-                $entries.next()
-            } else {
-                $entries.next_back()
-            };
-            match given {
-                Some((key, item)) => {
-                    write!($out, "{}={item} ", key.into_usize())?;
-                    renewed(item, &mut new);
-                }
-                None => {
-                    ended = true;
-                    write!($out, "none ")?;
-                }
-            }
-        }
-        $rest
-    }};
+/// The same of an iterator that isn't asked again once it came to its end, since no contract says that it may be.
+pub fn take_steps_to_end<I: DoubleEndedIterator, F: Format<I::Item>, W: Write>(
+    items: &mut I,
+    steps: &str,
+    mut format: F,
+    out: &mut W,
+) -> io::Result<()>
+    requires can { I.can_next items.old }
+    requires both_ends { (it : I) → (I.can_next it → I.can_next_back it) × (I.can_next_back it → I.can_next it) }
+{
+    let mut ended = false;
+    for step in steps.bytes() {
+        let given = if ended {
+            None
+        } else if step == b'f' {
+            items.next()
+        } else {
+            items.next_back()
+        };
+        ended = given.is_none();
+        step_given(given, &mut format, out)?;
+    }
+    Ok(())
+}
+
+/// Ends a line with how many items are left.
+pub fn left<W: Write>(out: &mut W, len: usize) -> io::Result<()> {
+    writeln!(out, "left {len}")
 }
 
 /// Writes how many items there are, and each, by a `for`.
-macro_rules! write_all {
-    ($out:ident, $len:expr, $items:expr, $item:pat => $write:expr) => {{
-        write!($out, "{}:", $len)?;
-        for $item in $items {
-            $write;
-        }
-        writeln!($out)
-    }};
+pub fn write_all<U: IntoIterator + Drop, F: Format<U::Item>, W: Write>(
+    len: usize,
+    items: U,
+    mut format: F,
+    out: &mut W,
+) -> io::Result<()>
+where
+    U::Item: Drop,
+    requires { IsFiniteIterable U.into_iter_gives U.IntoIter.can_next U.IntoIter.remaining items }
+{
+    write!(out, "{len}:")?;
+    for item in items {
+        write!(out, " ")?;
+        format.write(item, out)?;
+    }
+    writeln!(out)
 }
 
-/// Writes how many entries there are, and each as it was. Their items become the numbers from `first` on.
-macro_rules! write_each {
-    ($out:ident, $first:ident, $len:expr, $entries:expr) => {{
-        let mut new = $first;
-        write_all!($out, $len, $entries, (key, item) => {
-            write!($out, " {}={item}", key.into_usize())?;
-            renewed(item, &mut new);
-        })
-    }};
+// Takes so many items.
+fn take<I: Iterator, F: Format<I::Item>, W: Write>(
+    items: &mut I,
+    count: u16,
+    format: &mut F,
+    out: &mut W,
+) -> io::Result<()>
+    requires again { (it : I) → I.can_next it × IsFinite (I.remaining it) }
+{
+    for _ in 0..count {
+        step_given(items.next(), format, out)?;
+    }
+    Ok(())
 }
 
-/// Puts a number in the place of an item, which it returns. The next number is one more.
-pub fn renewed(item: &mut i64, new: &mut i64) -> i64 {
-    let next = new.wrapping_add(1);
-    mem::replace(item, mem::replace(new, next))
+// Writes what a step gave, or `none`.
+fn step_given<T, F: Format<T>, W: Write>(
+    given: Option<T>,
+    format: &mut F,
+    out: &mut W,
+) -> io::Result<()> {
+    match given {
+        Some(item) => format.write(item, out)?,
+        None => write!(out, "none")?,
+    }
+    write!(out, " ")
 }
 
-pub(crate) use take_steps;
-pub(crate) use walk;
-pub(crate) use walk_all;
-pub(crate) use walk_ends;
-pub(crate) use write_all;
-pub(crate) use write_each;
-pub(crate) use write_steps_to_end;
+// Writes the items that are left, by a `for`, and ends the line.
+fn rest<I: Iterator, F: Format<I::Item>, W: Write>(
+    items: I,
+    mut format: F,
+    out: &mut W,
+) -> io::Result<()>
+    requires can { I.can_next items }
+    requires ends { IsFinite (I.remaining items) }
+{
+    for item in items {
+        format.write(item, out)?;
+        write!(out, " ")?;
+    }
+    writeln!(out)
+}
