@@ -6,7 +6,7 @@ use crate::format::{Number, Numbered, Plain, Renewed};
 use crate::pair_key::PairKey;
 use crate::replay::Container;
 use crate::stable_vec::answer_place;
-use crate::walk::{left, take_steps, take_steps_to_end, write_all};
+use crate::walk::{walk_steps, walk_steps_to_end, write_all};
 use std::alloc::Global;
 use std::io::Write;
 use std::ops::Range;
@@ -18,6 +18,17 @@ use wasmi_dense::Arena;
 /// An arena of numbers. The types of its iterators are its own, so a call on them is a method, and the macro that is
 /// its body stands below.
 trait AnyArena<Key: ArenaKey>: Sized {
+    /// Makes a call that all arenas have.
+    fn answer_call<W: Write>(
+        &mut self,
+        alloc: Global,
+        call: Call<'_>,
+        out: &mut W,
+    ) -> io::Result<()>;
+
+    /// Makes a call that a `DedupArena` doesn't have.
+    fn answer_keys<W: Write>(&mut self, call: Call<'_>, out: &mut W) -> io::Result<()>;
+
     /// Makes a call on the item under a key.
     fn answer_item<W: Write>(&mut self, key: Key, call: ItemCall, out: &mut W) -> io::Result<()>;
 
@@ -34,8 +45,8 @@ trait AnyArena<Key: ArenaKey>: Sized {
     fn write_back<W: Write>(&mut self, first: i64, out: &mut W) -> io::Result<()>;
 }
 
-macro_rules! answer_arena {
-    ($arena:ident, $alloc:ident, $call:ident, $out:ident, $own:expr) => {
+macro_rules! answer_call {
+    ($arena:ident, $alloc:ident, $call:ident, $out:ident) => {
         match $call {
             Call::Len => value($out, $arena.len()),
             Call::IsEmpty => value($out, $arena.is_empty()),
@@ -54,12 +65,12 @@ macro_rules! answer_arena {
             Call::For => $arena.show_all($out),
             Call::IterMut(steps, first) => $arena.write_steps(steps, first, $out),
             Call::ForMut(first) => $arena.write_each(first, $out),
-            _ => $own,
+            Call::RevMut(first) => $arena.write_back(first, $out),
+            call => $arena.answer_keys(call, $out),
         }
     };
 }
 
-// The calls that a `DedupArena` doesn't have.
 macro_rules! answer_keys {
     ($arena:ident, $call:ident, $out:ident) => {
         match $call {
@@ -73,7 +84,6 @@ macro_rules! answer_keys {
                 (Some(first), Some(second)) => done($out, $arena.swap(first, second)),
                 _ => value($out, "no key"),
             },
-            Call::RevMut(first) => $arena.write_back(first, $out),
             _ => bad($out),
         }
     };
@@ -98,14 +108,6 @@ macro_rules! answer_item {
             _ => $own,
         }
     };
-}
-
-macro_rules! show_steps {
-    ($arena:ident, $steps:ident, $out:ident) => {{
-        let mut entries = $arena.iter();
-        take_steps(&mut entries, $steps, Numbered, $out)?;
-        left($out, entries.len())
-    }};
 }
 
 // Writes the number of a key, or `error` and the text of the error.
@@ -143,8 +145,8 @@ impl<Key: ArenaKey> Container for StableArena<Key, i64> {
             Call::Clone => keep(out, self.clone(), other),
             Call::CloneIn => keep(out, self.clone_in(alloc), other),
             Call::Last => option(out, self.last()),
-            Call::Keys(steps) => keys(self, steps, out),
-            Call::Values(steps) => values(self, steps, out),
+            Call::Keys(steps) => walk_steps(self.keys(), steps, Number, out),
+            Call::Values(steps) => walk_steps(self.values(), steps, Plain, out),
             Call::Slices(_)
             | Call::Room
             | Call::OpenBuckets
@@ -152,18 +154,31 @@ impl<Key: ArenaKey> Container for StableArena<Key, i64> {
             | Call::Bucket(_)
             | Call::Place(_)
             | Call::SizeOfBucketAt(_) => answer_place(self.items(), call, out),
-            call => answer_arena!(self, alloc, call, out, answer_keys!(self, call, out)),
+            call => self.answer_call(alloc, call, out),
         }
     }
 }
 
 impl<Key: ArenaKey> AnyArena<Key> for StableArena<Key, i64> {
+    fn answer_call<W: Write>(
+        &mut self,
+        alloc: Global,
+        call: Call<'_>,
+        out: &mut W,
+    ) -> io::Result<()> {
+        answer_call!(self, alloc, call, out)
+    }
+
+    fn answer_keys<W: Write>(&mut self, call: Call<'_>, out: &mut W) -> io::Result<()> {
+        answer_keys!(self, call, out)
+    }
+
     fn answer_item<W: Write>(&mut self, key: Key, call: ItemCall, out: &mut W) -> io::Result<()> {
         answer_item!(self, key, call, out, bad(out))
     }
 
     fn show_steps<W: Write>(&self, steps: &str, out: &mut W) -> io::Result<()> {
-        show_steps!(self, steps, out)
+        walk_steps(self.iter(), steps, Numbered, out)
     }
 
     fn show_all<W: Write>(&self, out: &mut W) -> io::Result<()> {
@@ -171,9 +186,7 @@ impl<Key: ArenaKey> AnyArena<Key> for StableArena<Key, i64> {
     }
 
     fn write_steps<W: Write>(&mut self, steps: &str, first: i64, out: &mut W) -> io::Result<()> {
-        let mut entries = self.iter_mut();
-        take_steps(&mut entries, steps, Renewed(first), out)?;
-        left(out, entries.len())
+        walk_steps(self.iter_mut(), steps, Renewed(first), out)
     }
 
     fn write_each<W: Write>(&mut self, first: i64, out: &mut W) -> io::Result<()> {
@@ -184,26 +197,6 @@ impl<Key: ArenaKey> AnyArena<Key> for StableArena<Key, i64> {
         let len = self.len();
         write_all(len, self.iter_mut().rev(), Renewed(first), out)
     }
-}
-
-fn keys<Key: ArenaKey, W: Write>(
-    arena: &StableArena<Key, i64>,
-    steps: &str,
-    out: &mut W,
-) -> io::Result<()> {
-    let mut keys = arena.keys();
-    take_steps(&mut keys, steps, Number, out)?;
-    left(out, keys.len())
-}
-
-fn values<Key: ArenaKey, W: Write>(
-    arena: &StableArena<Key, i64>,
-    steps: &str,
-    out: &mut W,
-) -> io::Result<()> {
-    let mut items = arena.values();
-    take_steps(&mut items, steps, Plain, out)?;
-    left(out, items.len())
 }
 
 impl<Key: PairKey> Container for Arena<Key, i64> {
@@ -224,7 +217,7 @@ impl<Key: PairKey> Container for Arena<Key, i64> {
         match call {
             Call::IntoIter(steps) => {
                 let arena = mem::replace(self, Arena::new(alloc));
-                take_out(arena, steps, out)
+                walk_steps(arena.into_iter(), steps, Numbered, out)
             }
             Call::Reserve(count) => {
                 let additional = usize::from(count);
@@ -242,28 +235,31 @@ impl<Key: PairKey> Container for Arena<Key, i64> {
                     _ => value(out, "no key"),
                 }
             }
-            call => answer_arena!(self, alloc, call, out, answer_keys!(self, call, out)),
+            call => self.answer_call(alloc, call, out),
         }
     }
 }
 
-fn take_out<Key: ArenaKey, W: Write>(
-    arena: Arena<Key, i64>,
-    steps: &str,
-    out: &mut W,
-) -> io::Result<()> {
-    let mut entries = arena.into_iter();
-    take_steps(&mut entries, steps, Numbered, out)?;
-    left(out, entries.len())
-}
-
 impl<Key: PairKey> AnyArena<Key> for Arena<Key, i64> {
+    fn answer_call<W: Write>(
+        &mut self,
+        alloc: Global,
+        call: Call<'_>,
+        out: &mut W,
+    ) -> io::Result<()> {
+        answer_call!(self, alloc, call, out)
+    }
+
+    fn answer_keys<W: Write>(&mut self, call: Call<'_>, out: &mut W) -> io::Result<()> {
+        answer_keys!(self, call, out)
+    }
+
     fn answer_item<W: Write>(&mut self, key: Key, call: ItemCall, out: &mut W) -> io::Result<()> {
         answer_item!(self, key, call, out, bad(out))
     }
 
     fn show_steps<W: Write>(&self, steps: &str, out: &mut W) -> io::Result<()> {
-        show_steps!(self, steps, out)
+        walk_steps(self.iter(), steps, Numbered, out)
     }
 
     fn show_all<W: Write>(&self, out: &mut W) -> io::Result<()> {
@@ -271,9 +267,7 @@ impl<Key: PairKey> AnyArena<Key> for Arena<Key, i64> {
     }
 
     fn write_steps<W: Write>(&mut self, steps: &str, first: i64, out: &mut W) -> io::Result<()> {
-        let mut entries = self.iter_mut();
-        take_steps_to_end(&mut entries, steps, Renewed(first), out)?;
-        left(out, entries.len())
+        walk_steps_to_end(self.iter_mut(), steps, Renewed(first), out)
     }
 
     fn write_each<W: Write>(&mut self, first: i64, out: &mut W) -> io::Result<()> {
@@ -304,12 +298,25 @@ impl<Key: ArenaKey> Container for DedupArena<Key, i64> {
         match call {
             Call::KeyOf(item) => found_number(out, self.key_of(&item)),
             Call::IndexOf(item) => found_number(out, self.index().get(&item).copied()),
-            call => answer_arena!(self, alloc, call, out, bad(out)),
+            call => self.answer_call(alloc, call, out),
         }
     }
 }
 
 impl<Key: ArenaKey> AnyArena<Key> for DedupArena<Key, i64> {
+    fn answer_call<W: Write>(
+        &mut self,
+        alloc: Global,
+        call: Call<'_>,
+        out: &mut W,
+    ) -> io::Result<()> {
+        answer_call!(self, alloc, call, out)
+    }
+
+    fn answer_keys<W: Write>(&mut self, _call: Call<'_>, out: &mut W) -> io::Result<()> {
+        bad(out)
+    }
+
     fn answer_item<W: Write>(&mut self, key: Key, call: ItemCall, out: &mut W) -> io::Result<()> {
         answer_item!(
             self,
@@ -324,7 +331,7 @@ impl<Key: ArenaKey> AnyArena<Key> for DedupArena<Key, i64> {
     }
 
     fn show_steps<W: Write>(&self, steps: &str, out: &mut W) -> io::Result<()> {
-        show_steps!(self, steps, out)
+        walk_steps(self.iter(), steps, Numbered, out)
     }
 
     fn show_all<W: Write>(&self, out: &mut W) -> io::Result<()> {
@@ -332,9 +339,7 @@ impl<Key: ArenaKey> AnyArena<Key> for DedupArena<Key, i64> {
     }
 
     fn write_steps<W: Write>(&mut self, steps: &str, first: i64, out: &mut W) -> io::Result<()> {
-        let mut entries = self.iter_mut();
-        take_steps_to_end(&mut entries, steps, Renewed(first), out)?;
-        left(out, entries.len())
+        walk_steps_to_end(self.iter_mut(), steps, Renewed(first), out)
     }
 
     fn write_each<W: Write>(&mut self, first: i64, out: &mut W) -> io::Result<()> {

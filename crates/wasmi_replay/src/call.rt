@@ -142,14 +142,25 @@ impl<'a> Call<'a> {
             }
             "extend" => Call::Extend(counted(words)?),
             "from_iter" => Call::FromIter(counted(words)?),
-            "slices" => Call::Slices(steps(words)?),
-            "iter" => Call::Iter(steps(words)?),
-            "keys" => Call::Keys(steps(words)?),
-            "values" => Call::Values(steps(words)?),
-            "into_iter" => Call::IntoIter(steps(words)?),
-            "iter_mut" => Call::IterMut(steps(words)?, number(words)?),
-            "slices_mut" => Call::SlicesMut(steps(words)?, number(words)?),
+            "iter" | "keys" | "values" | "into_iter" | "slices" | "iter_mut" | "slices_mut" => {
+                return Call::of_steps(name, steps(words)?, words);
+            }
             _ => Call::Item(number(words)?, ItemCall::named(name, words)?),
+        };
+        Some(call)
+    }
+
+    // The call of a name that takes steps.
+    fn of_steps(name: &str, steps: &'a str, words: &mut Split<'a, char>) -> Option<Call<'a>> {
+        let call = match name {
+            "iter" => Call::Iter(steps),
+            "keys" => Call::Keys(steps),
+            "values" => Call::Values(steps),
+            "into_iter" => Call::IntoIter(steps),
+            "slices" => Call::Slices(steps),
+            "iter_mut" => Call::IterMut(steps, number(words)?),
+            "slices_mut" => Call::SlicesMut(steps, number(words)?),
+            _ => return None,
         };
         Some(call)
     }

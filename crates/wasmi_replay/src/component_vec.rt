@@ -1,10 +1,10 @@
 //! Calls on a `ComponentVec`. A line names a key by its number.
 
-use crate::answers::{bad, done, keep, option, refusal, value, written};
+use crate::answers::{bad, done, found, keep, option, value, written};
 use crate::call::{Call, ItemCall};
 use crate::format::{Numbered, Renewed};
 use crate::replay::Container;
-use crate::walk::{take_steps, take_steps_to_end, write_all};
+use crate::walk::{walk_steps, walk_steps_to_end, write_all};
 use std::alloc::Global;
 use std::io;
 use std::io::Write;
@@ -34,8 +34,8 @@ impl<Key: ArenaKey> Container for ComponentVec<Key, i64> {
             }
             Call::Reserve(count) => done(out, self.reserve(usize::from(count))),
             Call::Clone => keep(out, self.clone(), other),
-            Call::Iter(steps) => iter(self, steps, out),
-            Call::For => all(self, out),
+            Call::Iter(steps) => walk_steps(self.iter(), steps, Numbered, out),
+            Call::For => write_all(self.extent(), &*self, Numbered, out),
             Call::IterMut(steps, first) => iter_mut(self, steps, first, out),
             Call::ForMut(first) => all_mut(self, first, out),
             Call::Item(number, call) => match Key::from_usize(number) {
@@ -57,10 +57,7 @@ fn answer_item<Key: ArenaKey, W: Write>(
     match call {
         ItemCall::Get => option(out, components.get(key)),
         ItemCall::GetMut(new) => written(out, components.get_mut(key), new),
-        ItemCall::Set(new) => match components.set(key, new) {
-            Ok(old) => option(out, old),
-            Err(error) => refusal(out, error),
-        },
+        ItemCall::Set(new) => found(out, components.set(key, new), "none"),
         ItemCall::Has => value(out, components.has(key)),
         ItemCall::Unset => option(out, components.unset(key)),
         ItemCall::Index if components.get(key).is_some() => value(out, components[key]),
@@ -73,31 +70,13 @@ fn answer_item<Key: ArenaKey, W: Write>(
     }
 }
 
-// The iterators don't know how many components are left.
-fn iter<Key: ArenaKey, W: Write>(
-    components: &ComponentVec<Key, i64>,
-    steps: &str,
-    out: &mut W,
-) -> io::Result<()> {
-    take_steps(&mut components.iter(), steps, Numbered, out)?;
-    writeln!(out)
-}
-
-fn all<Key: ArenaKey, W: Write>(
-    components: &ComponentVec<Key, i64>,
-    out: &mut W,
-) -> io::Result<()> {
-    write_all(components.extent(), components, Numbered, out)
-}
-
 fn iter_mut<Key: ArenaKey, W: Write>(
     components: &mut ComponentVec<Key, i64>,
     steps: &str,
     first: i64,
     out: &mut W,
 ) -> io::Result<()> {
-    take_steps_to_end(&mut components.iter_mut(), steps, Renewed(first), out)?;
-    writeln!(out)
+    walk_steps_to_end(components.iter_mut(), steps, Renewed(first), out)
 }
 
 fn all_mut<Key: ArenaKey, W: Write>(

@@ -42,18 +42,26 @@ impl<'a> InternerCall<'a> {
             "len" => InternerCall::Len,
             "is_empty" => InternerCall::IsEmpty,
             "clear" => InternerCall::Clear,
-            "contains" => InternerCall::Contains(words.next()?),
-            "get" => InternerCall::Get(words.next()?),
-            "get_counted" => InternerCall::GetCounted(words.next()?),
-            "get_or_intern" => InternerCall::GetOrIntern(words.next()?),
-            "get_or_intern_with_hint" => {
-                InternerCall::GetOrInternWithHint(hint(words.next()?)?, words.next()?)
-            }
-            "extend" => InternerCall::Extend(words.next()?),
+            "clone" => InternerCall::Clone,
             "iter" => InternerCall::Iter(steps(words)?),
             "resolve" => InternerCall::Resolve(number(words)?),
             "symbols" => InternerCall::Symbols(number(words)?, number(words)?),
-            "clone" => InternerCall::Clone,
+            _ => return InternerCall::of_text(name, words.next()?, words),
+        };
+        Some(call)
+    }
+
+    // The call of a name that takes a text, which the next word is; or a hint, and then the text.
+    fn of_text(name: &str, word: &'a str, words: &mut Split<'a, char>) -> Option<InternerCall<'a>> {
+        let call = match name {
+            "contains" => InternerCall::Contains(word),
+            "get" => InternerCall::Get(word),
+            "get_counted" => InternerCall::GetCounted(word),
+            "get_or_intern" => InternerCall::GetOrIntern(word),
+            "extend" => InternerCall::Extend(word),
+            "get_or_intern_with_hint" => {
+                InternerCall::GetOrInternWithHint(hint(word)?, words.next()?)
+            }
             _ => return None,
         };
         Some(call)

@@ -9,6 +9,7 @@ mod counted;
 mod format;
 mod head_vec;
 mod interner_call;
+mod left;
 mod lines;
 mod map;
 mod named;

@@ -19,8 +19,8 @@ trait AnyMap: Sized {
     /// Makes a call on a key.
     fn answer_key<W: Write>(&mut self, key: i64, call: KeyCall, out: &mut W) -> io::Result<()>;
 
-    /// Writes what the entry of a key is.
-    fn look<W: Write>(&mut self, key: i64, out: &mut W) -> io::Result<()>;
+    /// The key of an entry, and its item if it is there.
+    fn look(&mut self, key: i64) -> Result<(i64, Option<i64>), ArenaError>;
 
     /// Makes a call on the entry of a key, whether or not it is there.
     fn on_entry(&mut self, key: i64, call: EntryCall) -> Result<i64, ArenaError>;
@@ -64,10 +64,7 @@ trait AnyMap: Sized {
 macro_rules! answer_key {
     ($map:ident, $key:ident, $call:ident, $out:ident) => {
         match $call {
-            KeyCall::Insert(item) => match $map.insert($key, item) {
-                Ok(old) => option($out, old),
-                Err(error) => refusal($out, error),
-            },
+            KeyCall::Insert(item) => found($out, $map.insert($key, item), "none"),
             KeyCall::Get => option($out, $map.get(&$key)),
             KeyCall::GetMut(new) => written($out, $map.get_mut(&$key), new),
             KeyCall::ContainsKey => value($out, $map.contains_key(&$key)),
@@ -82,17 +79,10 @@ macro_rules! answer_key {
 }
 
 macro_rules! look {
-    ($map:ident, $backing:ident, $key:ident, $out:ident) => {
-        match $map.entry($key) {
-            Ok($backing::Entry::Occupied(entry)) => {
-                let (key, item) = (*entry.key(), *entry.get());
-                writeln!($out, "occupied {key}={item}")
-            }
-            Ok($backing::Entry::Vacant(entry)) => {
-                let key = *entry.key();
-                writeln!($out, "vacant {key}")
-            }
-            Err(error) => refusal($out, error),
+    ($map:ident, $backing:ident, $key:ident) => {
+        match $map.entry($key)? {
+            $backing::Entry::Occupied(entry) => Ok((*entry.key(), Some(*entry.get()))),
+            $backing::Entry::Vacant(entry) => Ok((*entry.key(), None)),
         }
     };
 }
@@ -106,14 +96,14 @@ macro_rules! on_entry {
                 let entry = entry.and_modify(|item| *item = item.wrapping_add(add));
                 return Ok(*entry.or_insert(item)?);
             }
-            EntryCall::OrInsert(item, new) => (entry.or_insert(item)?, new),
-            EntryCall::OrInsertWith(item, new) => (entry.or_insert_with(|| item)?, new),
+            EntryCall::OrInsert(item, new) => (entry.or_insert(item), new),
+            EntryCall::OrInsertWith(item, new) => (entry.or_insert_with(|| item), new),
             EntryCall::OrInsertWithKey(new) => {
-                (entry.or_insert_with_key(|key| key.wrapping_neg())?, new)
+                (entry.or_insert_with_key(|key| key.wrapping_neg()), new)
             }
-            EntryCall::OrDefault(new) => (entry.or_default()?, new),
+            EntryCall::OrDefault(new) => (entry.or_default(), new),
         };
-        Ok(mem::replace(item, new))
+        Ok(mem::replace(item?, new))
     }};
 }
 
@@ -198,7 +188,7 @@ fn answer_own<M: AnyMap, W: Write>(
 ) -> io::Result<()> {
     match call {
         TableCall::Key(key, call) => map.answer_key(key, call, out),
-        TableCall::Look(key) => map.look(key, out),
+        TableCall::Look(key) => variant(out, map.look(key)),
         TableCall::Entry(key, call) => result(out, map.on_entry(key, call)),
         TableCall::Side(key, call) => found(out, map.on_side(key, call), call.other_side()),
         TableCall::TakeEntry(key) => match map.take_entry(key) {
@@ -214,6 +204,15 @@ fn answer_own<M: AnyMap, W: Write>(
         TableCall::Retain(mask, add) => value(out, map.thin(mask, add)),
         TableCall::Backing(call) => map.answer_backing(other, call, out),
         _ => bad(out),
+    }
+}
+
+// Writes which variant an entry is, with its key and item.
+fn variant<W: Write>(out: &mut W, entry: Result<(i64, Option<i64>), ArenaError>) -> io::Result<()> {
+    match entry {
+        Ok((key, Some(item))) => writeln!(out, "occupied {key}={item}"),
+        Ok((key, None)) => writeln!(out, "vacant {key}"),
+        Err(error) => refusal(out, error),
     }
 }
 
@@ -238,8 +237,8 @@ impl AnyMap for ordered::Map<i64, i64> {
         answer_key!(self, key, call, out)
     }
 
-    fn look<W: Write>(&mut self, key: i64, out: &mut W) -> io::Result<()> {
-        look!(self, ordered, key, out)
+    fn look(&mut self, key: i64) -> Result<(i64, Option<i64>), ArenaError> {
+        look!(self, ordered, key)
     }
 
     fn on_entry(&mut self, key: i64, call: EntryCall) -> Result<i64, ArenaError> {
@@ -338,8 +337,8 @@ impl AnyMap for hashed::Map<i64, i64> {
         answer_key!(self, key, call, out)
     }
 
-    fn look<W: Write>(&mut self, key: i64, out: &mut W) -> io::Result<()> {
-        look!(self, hashed, key, out)
+    fn look(&mut self, key: i64) -> Result<(i64, Option<i64>), ArenaError> {
+        look!(self, hashed, key)
     }
 
     fn on_entry(&mut self, key: i64, call: EntryCall) -> Result<i64, ArenaError> {

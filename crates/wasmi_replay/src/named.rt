@@ -49,13 +49,21 @@ impl Named {
             "hashed_map" => Named::HashedMap,
             "hashed_set" => Named::HashedSet,
             "string_interner" => Named::StringInterner,
-            "stable_arena" => Named::Keyed(Keyed::StableArena, Keys::parse(words.next()?)?),
-            "arena" => Named::Keyed(Keyed::Arena, Keys::parse(words.next()?)?),
-            "dedup_arena" => Named::Keyed(Keyed::DedupArena, Keys::parse(words.next()?)?),
-            "component_vec" => Named::Keyed(Keyed::ComponentVec, Keys::parse(words.next()?)?),
-            _ => return None,
+            name => Named::Keyed(Keyed::parse(name)?, Keys::parse(words.next()?)?),
         };
         ended(named, &mut words)
+    }
+}
+
+impl Keyed {
+    fn parse(name: &str) -> Option<Keyed> {
+        match name {
+            "stable_arena" => Some(Keyed::StableArena),
+            "arena" => Some(Keyed::Arena),
+            "dedup_arena" => Some(Keyed::DedupArena),
+            "component_vec" => Some(Keyed::ComponentVec),
+            _ => None,
+        }
     }
 }
 

@@ -113,15 +113,16 @@ fn serve<C: Container + PartialEq + Debug + Drop, R: Read + Drop, W: Write>(
         if line.starts_with("on ") {
             return Ok(true);
         }
-        match line {
+        let written = match line {
             "exchange" => {
                 mem::swap(&mut container, &mut other);
-                value(out, "done")?;
+                value(out, "done")
             }
-            "eq" => value(out, container == other)?,
-            "debug" => debug(out, &container)?,
-            _ => container.answer(&mut other, alloc, line, out)?,
-        }
+            "eq" => value(out, container == other),
+            "debug" => debug(out, &container),
+            _ => container.answer(&mut other, alloc, line, out),
+        };
+        written?;
     }
     Ok(false)
 }

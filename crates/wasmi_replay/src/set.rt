@@ -1,6 +1,6 @@
 //! Calls on a `Set` of either backing.
 
-use crate::answers::{bad, done, keep, option, refusal, result, value};
+use crate::answers::{bad, done, found, keep, option, result, value};
 use crate::format::Plain;
 use crate::replay::Container;
 use crate::table::answer_table;
@@ -50,10 +50,7 @@ macro_rules! answer_key {
             KeyCall::Add => result($out, $set.insert($key)),
             KeyCall::Get => option($out, $set.get(&$key)),
             KeyCall::Contains => value($out, $set.contains(&$key)),
-            KeyCall::Replace => match $set.replace($key) {
-                Ok(old) => option($out, old),
-                Err(error) => refusal($out, error),
-            },
+            KeyCall::Replace => found($out, $set.replace($key), "none"),
             KeyCall::Remove => value($out, $set.remove(&$key)),
             KeyCall::Take => option($out, $set.take(&$key)),
             _ => bad($out),

@@ -4,7 +4,7 @@ use crate::answers::{bad, debug, done, keep, option, result, value, written};
 use crate::call::{Call, ItemCall};
 use crate::format::{Bucket, Plain, Renewed};
 use crate::replay::Container;
-use crate::walk::{left, take_steps, write_all};
+use crate::walk::{walk_steps, write_all};
 use std::alloc::Global;
 use std::hash::{DefaultHasher, Hash, Hasher};
 use std::io;
@@ -46,13 +46,7 @@ impl Container for StableVec<i64> {
             Call::PartialCmp => debug(out, &(*self).partial_cmp(other)),
             Call::Cmp => debug(out, &(*self).cmp(other)),
             Call::Hash => value(out, hash_of(self)),
-            Call::Iter(steps) => iter(self, steps, out),
-            Call::For => all(self, out),
-            Call::IterMut(steps, first) => iter_mut(self, steps, first, out),
-            Call::SlicesMut(steps, first) => slices_mut(self, steps, first, out),
-            Call::ForMut(first) => all_mut(self, first, out),
-            Call::RevMut(first) => all_mut_back(self, first, out),
-            call => answer_place(self, call, out),
+            call => answer_walk(self, call, out),
         }
     }
 }
@@ -78,10 +72,23 @@ fn answer_item<W: Write>(
     }
 }
 
+// Makes a call on all items.
+fn answer_walk<W: Write>(vec: &mut StableVec<i64>, call: Call<'_>, out: &mut W) -> io::Result<()> {
+    match call {
+        Call::Iter(steps) => walk_steps(vec.iter(), steps, Plain, out),
+        Call::For => write_all(vec.len(), &*vec, Plain, out),
+        Call::IterMut(steps, first) => iter_mut(vec, steps, first, out),
+        Call::SlicesMut(steps, first) => slices_mut(vec, steps, first, out),
+        Call::ForMut(first) => all_mut(vec, first, out),
+        Call::RevMut(first) => all_mut_back(vec, first, out),
+        call => answer_place(vec, call, out),
+    }
+}
+
 /// Makes a call on where the items lie.
 pub fn answer_place<W: Write>(vec: &StableVec<i64>, call: Call<'_>, out: &mut W) -> io::Result<()> {
     match call {
-        Call::Slices(steps) => slices(vec, steps, out),
+        Call::Slices(steps) => walk_steps(vec.slices(), steps, Bucket, out),
         Call::Room => value(out, vec.room()),
         Call::OpenBuckets => value(out, vec.open_buckets()),
         Call::Slots => value(out, vec.slots()),
@@ -99,22 +106,6 @@ fn hash_of(vec: &StableVec<i64>) -> u64 {
     hasher.finish()
 }
 
-fn iter<W: Write>(vec: &StableVec<i64>, steps: &str, out: &mut W) -> io::Result<()> {
-    let mut items = vec.iter();
-    take_steps(&mut items, steps, Plain, out)?;
-    left(out, items.len())
-}
-
-fn slices<W: Write>(vec: &StableVec<i64>, steps: &str, out: &mut W) -> io::Result<()> {
-    let mut buckets = vec.slices();
-    take_steps(&mut buckets, steps, Bucket, out)?;
-    left(out, buckets.len())
-}
-
-fn all<W: Write>(vec: &StableVec<i64>, out: &mut W) -> io::Result<()> {
-    write_all(vec.len(), vec, Plain, out)
-}
-
 // The calls that write: each item is shown as it was. They become the numbers from `first` on.
 fn iter_mut<W: Write>(
     vec: &mut StableVec<i64>,
@@ -122,9 +113,7 @@ fn iter_mut<W: Write>(
     first: i64,
     out: &mut W,
 ) -> io::Result<()> {
-    let mut items = vec.iter_mut();
-    take_steps(&mut items, steps, Renewed(first), out)?;
-    left(out, items.len())
+    walk_steps(vec.iter_mut(), steps, Renewed(first), out)
 }
 
 fn slices_mut<W: Write>(
@@ -133,9 +122,7 @@ fn slices_mut<W: Write>(
     first: i64,
     out: &mut W,
 ) -> io::Result<()> {
-    let mut buckets = vec.slices_mut();
-    take_steps(&mut buckets, steps, Renewed(first), out)?;
-    left(out, buckets.len())
+    walk_steps(vec.slices_mut(), steps, Renewed(first), out)
 }
 
 fn all_mut<W: Write>(vec: &mut StableVec<i64>, first: i64, out: &mut W) -> io::Result<()> {

@@ -1,14 +1,15 @@
 //! Calls on a `StringInterner`. A line names a symbol by its number.
 
-use crate::answers::{bad, done, keep, option, result, value};
+use crate::answers::{bad, done, keep, option, refusal, value};
 use crate::format::Text;
 use crate::interner_call::InternerCall;
 use crate::replay::Container;
-use crate::walk::{left, take_steps};
+use crate::walk::walk_steps;
 use std::alloc::Global;
 use std::hash::{DefaultHasher, Hash, Hasher};
 use std::io;
 use std::io::Write;
+use wasmi_arena::ArenaError;
 use wasmi_collections::StringInterner;
 use wasmi_collections::string_interner::{InternHint, Steps, Sym};
 
@@ -37,16 +38,10 @@ impl Container for StringInterner {
             InternerCall::Contains(text) => value(out, self.contains(text)),
             InternerCall::Get(text) => option(out, self.get(text).map(Sym::into_u32)),
             InternerCall::GetCounted(text) => counted(self, text, out),
-            InternerCall::GetOrIntern(text) => {
-                result(out, self.get_or_intern(text).map(Sym::into_u32))
-            }
-            InternerCall::GetOrInternWithHint(hint, text) => {
-                write!(out, "{hint:?} ")?;
-                let symbol = self.get_or_intern_with_hint(text, hint);
-                result(out, symbol.map(Sym::into_u32))
-            }
+            InternerCall::GetOrIntern(text) => number(out, self.get_or_intern(text)),
+            InternerCall::GetOrInternWithHint(hint, text) => hinted(self, text, hint, out),
             InternerCall::Extend(texts) => done(out, self.extend(texts.split(','))),
-            InternerCall::Iter(steps) => iter(self, steps, out),
+            InternerCall::Iter(steps) => walk_steps(self.iter(), steps, Text, out),
             InternerCall::Resolve(number) => match self.resolve(Sym::from_u32(number)) {
                 Some(text) => writeln!(out, "\"{text}\""),
                 None => value(out, "none"),
@@ -55,6 +50,25 @@ impl Container for StringInterner {
             InternerCall::Clone => keep(out, self.clone(), other),
         }
     }
+}
+
+// Writes the number of a symbol, or `error` and the text of the error.
+fn number<W: Write>(out: &mut W, symbol: Result<Sym, ArenaError>) -> io::Result<()> {
+    match symbol {
+        Ok(symbol) => value(out, symbol.into_u32()),
+        Err(error) => refusal(out, error),
+    }
+}
+
+// Writes the hint, and the number of the symbol.
+fn hinted<W: Write>(
+    interner: &mut StringInterner,
+    text: &str,
+    hint: InternHint,
+    out: &mut W,
+) -> io::Result<()> {
+    write!(out, "{hint:?} ")?;
+    number(out, interner.get_or_intern_with_hint(text, hint))
 }
 
 // Writes the symbol of a text, and whether so many texts were compared as a binary search does: at
@@ -70,12 +84,6 @@ fn counted<W: Write>(interner: &StringInterner, text: &str, out: &mut W) -> io::
         Some(symbol) => writeln!(out, "{} {is_few}", symbol.into_usize()),
         None => writeln!(out, "none {is_few}"),
     }
-}
-
-fn iter<W: Write>(interner: &StringInterner, steps: &str, out: &mut W) -> io::Result<()> {
-    let mut texts = interner.iter();
-    take_steps(&mut texts, steps, Text, out)?;
-    left(out, texts.len())
 }
 
 // Writes two symbols, how they compare, and the hash of the first.

@@ -2,6 +2,7 @@
 ghost use Rattle.std.specs.Iterator.{IsFinite, IsFiniteIterable};
 
 use crate::format::Format;
+use crate::left::Left;
 use std::io;
 use std::io::Write;
 
@@ -54,9 +55,9 @@ pub fn walk_ends<I: DoubleEndedIterator, F: Format<I::Item>, W: Write>(
     rest(items, format, out)
 }
 
-/// Takes items from the ends that the steps name, an `f` for the front.
-pub fn take_steps<I: DoubleEndedIterator, F: Format<I::Item>, W: Write>(
-    items: &mut I,
+/// Takes items from the ends that the steps name, an `f` for the front, and then asks how many are left.
+pub fn walk_steps<I: DoubleEndedIterator + Left, F: Format<I::Item>, W: Write>(
+    mut items: I,
     steps: &str,
     mut format: F,
     out: &mut W,
@@ -71,17 +72,17 @@ pub fn take_steps<I: DoubleEndedIterator, F: Format<I::Item>, W: Write>(
         };
         step_given(given, &mut format, out)?;
     }
-    Ok(())
+    end(items.left(), out)
 }
 
 /// The same of an iterator that isn't asked again once it came to its end, since no contract says that it may be.
-pub fn take_steps_to_end<I: DoubleEndedIterator, F: Format<I::Item>, W: Write>(
-    items: &mut I,
+pub fn walk_steps_to_end<I: DoubleEndedIterator + Left, F: Format<I::Item>, W: Write>(
+    mut items: I,
     steps: &str,
     mut format: F,
     out: &mut W,
 ) -> io::Result<()>
-    requires can { I.can_next items.old }
+    requires can { I.can_next items }
     requires both_ends { (it : I) → (I.can_next it → I.can_next_back it) × (I.can_next_back it → I.can_next it) }
 {
     let mut ended = false;
@@ -96,12 +97,7 @@ pub fn take_steps_to_end<I: DoubleEndedIterator, F: Format<I::Item>, W: Write>(
         ended = given.is_none();
         step_given(given, &mut format, out)?;
     }
-    Ok(())
-}
-
-/// Ends a line with how many items are left.
-pub fn left<W: Write>(out: &mut W, len: usize) -> io::Result<()> {
-    writeln!(out, "left {len}")
+    end(items.left(), out)
 }
 
 /// Writes how many items there are, and each, by a `for`.
@@ -149,6 +145,14 @@ fn step_given<T, F: Format<T>, W: Write>(
         None => write!(out, "none")?,
     }
     write!(out, " ")
+}
+
+// Ends the line with how many items are left, if the iterator knew.
+fn end<W: Write>(left: Option<usize>, out: &mut W) -> io::Result<()> {
+    match left {
+        Some(left) => writeln!(out, "left {left}"),
+        None => writeln!(out),
+    }
 }
 
 // Writes the items that are left, by a `for`, and ends the line.

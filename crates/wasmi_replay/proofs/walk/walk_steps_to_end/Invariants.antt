@@ -1,5 +1,5 @@
 use Rattle.std.proofs.Common.{◌≡◌, false}
-use Rattle.wasmi_replay.proofs.walk.take_steps_to_end.Given as goal
+use Rattle.wasmi_replay.proofs.walk.walk_steps_to_end.Given as goal
 
 -- up to the end the iterator may be asked again
 abbrev pub invariant-loop-step : goal.invariant-loop-step
