@@ -4,7 +4,7 @@ use Rattle.std.proofs.lemmas.Bool.{cases_lt, lt-ltb, le-ltb}
 use Rattle.std.proofs.Math.Nat.{lt_of_lt_of_le}
 use Rattle.std.proofs.Math.ListN.{length-set, drop_of_length-le}
 use Rattle.std.proofs.Math.Seq.{take-suc}
-use Rattle.std.proofs.lemmas.List.{set_comm, set-get_or, get_or_default, take_all, length-take, get_or-take, get_or-drop}
+use Rattle.std.proofs.lemmas.List.{set-get_or, get_or_default, take_all, length-take, get_or-take, get_or-drop}
 use Rattle.std.proofs.lemmas.Option.{slice_get-get_or, slice_get_cases, get_or_from_slice_get}
 use Rattle.std.proofs.lemmas.List.Edits.{swap_is}
 use Rattle.std.specs.List.{swap}
@@ -12,7 +12,7 @@ use Rattle.wasmi_arena.specs.Geometry.{size, start, max_len, IsPlace, IsFewest, 
 use Rattle.wasmi_arena.specs.Bucket.{Bucket}
 use Rattle.wasmi_arena.specs.StableVec.{bucket_at}
 use Rattle.wasmi_arena.specs.Table.{items_of, items_in, bucket_filled, bucket_with, bucket_cut, with_item, write, bucket_from, IsTable, AreFilled, IsLaidOut, IsAhead}
-use Rattle.wasmi_arena.proofs.Geometry.{start-size, size-suc, size_pos, start_mono, start_below, fewest_is, fewest_is_least, fewest_of_none, fewest_of_place, below_of_start, place-next}
+use Rattle.wasmi_arena.proofs.Geometry.{start-size, size-suc, size_pos, start_mono, start_below, fewest_is, fewest_is_least, fewest_of_none, fewest_of_place, below_of_start, place-next, place-last}
 use Rattle.wasmi_arena.proofs.Table.{get_or-IsTable, items_of-IsTable, IsTable-set, IsTable-write, IsTable-cut, IsTable-take, AreFilled-take, IsTable-none}
 
 module _ {T : Type 0} where
@@ -141,8 +141,8 @@ module _ {T : Type 0} where
       bucket_read : found ≡ Some record { items = take (size b) (drop (start b) (items_of buckets)); capacity = size b }
       bucket_read = read ∙ (get_or_default buckets b found None (rw v.buckets_counted place.bucket_exists) ∙ get_or-open b place.bucket_exists (omega (arith, place.index_is)))
 
-      pub bucket_there : found ≡ None → ⊥
-      bucket_there shut = let full = bucket_read in cc
+      pub bucket_there : IsSome found
+      bucket_there = rw bucket_read refl
 
       module _ (bucket : Bucket T) (is : found ≡ Some bucket) (slice : List T) (whole : slice ≡ bucket.items) where
         slice_is : slice ≡ take (size b) (drop (start b) (items_of buckets))
@@ -215,15 +215,9 @@ module _ {T : Type 0} where
         slots_counted = refl;
       }
 
-    -- one more item goes to its slot
+    -- the slot of the next item
     module _ (b s : ℕ) (place : IsPlace len b s) where
-      pub items_of-push : (item : T) → items_of (set buckets b (bucket_with (size b) (get_or buckets b None) item)) ≡ items_of buckets ++ item ∷ []
-      items_of-push item = items_of-append b s place (item ∷ []) (omega arith) (omega (arith, place.slot_exists))
-
-      pub IsLaidOut-push : (item : T) → IsLaidOut (set buckets b (bucket_with (size b) (get_or buckets b None) item)) (b + 1) (start (b + 1)) (len + 1)
-      IsLaidOut-push item = IsLaidOut-append b s place (item ∷ []) (omega arith) (omega (arith, place.slot_exists))
-
-      -- its slot is the first free one of its bucket
+      -- it is the first free one of its bucket
       pub first_free : s ≡ length (items_in (get_or buckets b None))
       first_free = rw (get_or-buckets b place.bucket_exists, items_in-bucket_from)
           (omega (arith, length-take (size b) (drop (start b) (items_of buckets)), length-drop (start b) (items_of buckets), v.items_counted, place.index_is, place.slot_exists))
@@ -268,6 +262,26 @@ module _ {T : Type 0} where
         | inl early ↦ rw (get_or-open b place.bucket_exists early) refl
         | inr late ↦ absurd (let few = IsFewest-len.least b late in let is = v.fewest_open in omega arith)
       ]
+
+    -- a slot is free, so the next item goes to the last of the open buckets
+    module _ (free : len < slots) where
+      pub last-free : open_buckets - 1 + 1 ≡ open_buckets
+      last-free = let some = below_of_start 0 open_buckets (len + 1) (omega arith) (omega (arith, v.slots_counted)) in omega arith
+
+      pub place-free : IsPlace len (open_buckets - 1) (len - start (open_buckets - 1))
+      place-free = place-last len open_buckets v.few_items v.fewest_open (rw (← v.slots_counted) free)
+
+      -- all slots that are free are that bucket's
+      pub free_counted : length (items_in (get_or buckets (open_buckets - 1) None)) + (slots - len) ≡ size (open_buckets - 1)
+      free_counted =
+          let b = open_buckets - 1 in let held = first_free b (len - start b) place-free in let end = slots-end b (len - start b) place-free last-free in
+          omega (arith, place-free.index_is)
+
+      pub items_of-last : (item : T) → items_of (set buckets (open_buckets - 1) (bucket_with (size (open_buckets - 1)) (get_or buckets (open_buckets - 1) None) item)) ≡ items_of buckets ++ item ∷ []
+      items_of-last item = items_of-fill (open_buckets - 1) (len - start (open_buckets - 1)) place-free last-free (item ∷ []) (omega arith)
+
+      pub IsLaidOut-last : (item : T) → IsLaidOut (set buckets (open_buckets - 1) (bucket_with (size (open_buckets - 1)) (get_or buckets (open_buckets - 1) None) item)) open_buckets slots (len + 1)
+      IsLaidOut-last item = IsLaidOut-fill (open_buckets - 1) (len - start (open_buckets - 1)) place-free last-free (item ∷ []) (omega arith)
 
     -- the last item leaves its slot
     module _ (i b s : ℕ) (place : IsPlace i b s) (last : len ≡ i + 1) where
@@ -336,23 +350,8 @@ module _ {T : Type 0} where
         pub IsLaidOut-open_next : (item : T) → IsLaidOut (set buckets open_buckets (bucket_with (size open_buckets) None item)) (open_buckets + 1) (start (open_buckets + 1)) (len + 1)
         IsLaidOut-open_next item = IsLaidOut-open_next_with (item ∷ []) (omega arith) (omega (arith, size_pos open_buckets))
 
-  -- which of two items is named first makes no difference to their exchange
-  pub swap-comm : (items : List T) (i j : ℕ) → i ≢ j → swap items i j ≡ swap items j i
-  swap-comm [] i j apart = refl
-  swap-comm (x ∷ xs) i j apart = set_comm (x ∷ xs) i j (get_or (x ∷ xs) j x) (get_or (x ∷ xs) i x) apart
-
   -- the items at i and at j are exchanged, each in the other's slot
-  module _ (buckets : List (Option (Bucket T))) (open_buckets slots len : ℕ) (v : IsLaidOut buckets open_buckets slots len) (i b s : ℕ) (place-i : IsPlace i b s) (j d t : ℕ) (place-j : IsPlace j d t) (order : i < j) (below : j < len) where
-    -- the later one lies in no earlier bucket
-    pub bucket-order : b ≤ d
-    bucket-order = elim (cases_lt d b) [
-      | inl less ↦ absurd (omega (arith, start_below d b less, place-i.index_is, place-j.index_is, place-j.slot_exists, order))
-      | inr least ↦ least
-    ]
-
-    below-i : i < len
-    below-i = omega (arith, order)
-
+  module _ (buckets : List (Option (Bucket T))) (open_buckets slots len : ℕ) (v : IsLaidOut buckets open_buckets slots len) (i b s : ℕ) (place-i : IsPlace i b s) (below-i : i < len) (j d t : ℕ) (place-j : IsPlace j d t) (below : j < len) where
     there : (k : ℕ) → k < len → (x : T) × (slice_get (items_of buckets) k ≡ Some x)
     there k inside = elim (slice_get_cases (items_of buckets) k).1 [
       | inl some ↦ (some.0, some.2)

@@ -21,13 +21,16 @@ pub mod SlotRuns
 pub mod Frame
 pub mod Sharing
 pub mod Lending
+pub mod SomeMemory
 pub mod NewBlock
 pub mod TableMemory
 pub mod VecMemory
 pub mod ArenaMemory
 pub mod LoanMemory
+pub mod BucketMemory
+pub mod TwoOfRow
+pub mod PairMemory
 pub mod BucketLoans
-pub mod TwoBuckets
 pub mod PairLoans
 pub mod Refusals
 pub mod Answered

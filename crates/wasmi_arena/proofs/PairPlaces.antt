@@ -1,28 +1,15 @@
 -- Two items of a vector's buckets, by their places.
-use Rattle.std.proofs.Common.{◌≡◌, ◌≢◌, ℕ, ◌+◌, ◌<◌, List, [], length, get_or, set, slice_get, Option, Some, None, refl, sym, ◌∙◌, ap, arith, append-nil, IsSome}
+use Rattle.std.proofs.Common.{◌≡◌, ◌≢◌, ℕ, ◌+◌, ◌<◌, List, length, get_or, set, slice_get, Option, None, sym, ◌∙◌, ap}
 use Rattle.std.proofs.lemmas.List.{length-set}
 use Rattle.std.specs.List.{refill}
 use Rattle.wasmi_arena.specs.Bucket.{Bucket}
 use Rattle.wasmi_arena.specs.Geometry.{start, max_len, fewest, IsPlace}
-use Rattle.wasmi_arena.specs.Table.{items_of, items_in, with_item, with_items, write, write_all, IsLaidOut, HasBuckets}
+use Rattle.wasmi_arena.specs.Table.{items_of, items_in, write, IsLaidOut, HasBuckets}
 use Rattle.wasmi_arena.proofs.FilledParts.{HasBuckets-laid, HasBuckets-items}
 use Rattle.wasmi_arena.proofs.LaidOut.{index-lt_max, items_of-written, IsLaidOut-written, slot_filled, slice_get-slot}
 use Rattle.wasmi_arena.proofs.Refilled.{refill-whole}
-use Rattle.wasmi_arena.proofs.Rewritten.{filled_inside, with_items-like}
-use Rattle.wasmi_arena.proofs.Table.{write-write}
 
 module _ {T : Type 0} where
-  filled_open : (bucket : Option (Bucket T)) (s : ℕ) → s < length (items_in bucket) → IsSome bucket
-  filled_open None s filled = absurd (omega (arith, filled))
-  filled_open (Some bucket) s filled = refl
-
-  -- two writes to one bucket, as one of all its items
-  with_items-two : (bucket : Option (Bucket T)) (s t : ℕ) (x y : T) → with_items bucket (set (set (items_in bucket) s x) t y) ≡ with_item (with_item bucket s x) t y
-  with_items-two None s t x y = refl
-  with_items-two (Some bucket) s t x y =
-      let last = set (set bucket.items s x) t y in
-      ap (with_items (Some bucket)) (sym (append-nil last)) ∙ with_items-like (Some bucket) (Some record { items = last; capacity = bucket.capacity }) [] (length-set (set bucket.items s x) t y ∙ length-set bucket.items s x, refl)
-
   -- a vector's items once two of them were written through a loan
   pub ends_both : (items : List T) (buckets : List (Option (Bucket T))) → HasBuckets items buckets → (i j : ℕ) (x y : T) → refill (length items) items (set (set (items_of buckets) i x) j y) ≡ set (set items i x) j y
   ends_both items buckets has i j x y =
@@ -39,9 +26,6 @@ module _ {T : Type 0} where
       pub filled : s < length (items_in (get_or buckets b None))
       filled = slot_filled buckets (fewest (length (items_of buckets))) (start (fewest (length (items_of buckets)))) (length (items_of buckets)) laid i b s place below
 
-      pub opened : IsSome (get_or buckets b None)
-      opened = filled_open (get_or buckets b None) s filled
-
       pub reads : slice_get (items_in (get_or buckets b None)) s ≡ slice_get (items_of buckets) i
       reads = slice_get-slot buckets (fewest (length (items_of buckets))) (start (fewest (length (items_of buckets)))) (length (items_of buckets)) laid i b s place below
 
@@ -56,9 +40,3 @@ module _ {T : Type 0} where
           let open_buckets = fewest (length (items_of buckets)) in let slots = start open_buckets in let len = length (items_of buckets) in
           items_of-written (write buckets b s x) open_buckets slots len (IsLaidOut-written buckets open_buckets slots len laid i b s first one_in x) j d t second other_in y
           ∙ ap (λ (xs : List T). set xs j y) (items_of-written buckets open_buckets slots len laid i b s first one_in x)
-
-      pub ends_within : b ≡ d → (x y : T) → items_of (write_all buckets b (set (set (items_in (get_or buckets b None)) s x) t y)) ≡ set (set (items_of buckets) i x) j y
-      ends_within same x y =
-          let inside : b < length buckets = filled_inside buckets b s (filled i b s first one_in) in
-          ap (λ (bucket : Option (Bucket T)). items_of (set buckets b bucket)) (with_items-two (get_or buckets b None) s t x y)
-          ∙ (ap items_of (sym (write-write buckets b s t y x inside)) ∙ (ap (λ (c : ℕ). items_of (write (write buckets b s x) c t y)) same ∙ ends x y))

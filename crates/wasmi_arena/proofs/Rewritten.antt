@@ -96,15 +96,27 @@ module _ {T : Type 0} where
   refilled-write_all buckets b ws =
       refilled-like buckets (write_all buckets b ws) (all_like-set buckets buckets b (with_items (get_or buckets b None) ws) (all_like-own buckets) (like-items (get_or buckets b None) ws))
 
+  like-written : (bucket other : Option (Bucket T)) (slot : ℕ) (item : T) → AreLike bucket other → AreLike bucket (with_item other slot item)
+  like-written None None slot item like = tt
+  like-written None (Some other) slot item like = absurd like
+  like-written (Some bucket) None slot item like = absurd like
+  like-written (Some bucket) (Some other) slot item like = (length-set other.items slot item ∙ like.0, like.1)
+
+  all_like-write : (buckets others : List (Option (Bucket T))) (b slot : ℕ) (item : T) → AllLike buckets others → AllLike buckets (write others b slot item)
+  all_like-write [] [] b slot item all = tt
+  all_like-write [] (next ∷ others) b slot item all = absurd all
+  all_like-write (bucket ∷ buckets) [] b slot item all = absurd all
+  all_like-write (bucket ∷ buckets) (next ∷ others) zero slot item all = (like-written bucket next slot item all.0, all.1)
+  all_like-write (bucket ∷ buckets) (next ∷ others) (suc b) slot item all = (all.0, all_like-write buckets others b slot item all.1)
+
+  pub refilled-write : (buckets : List (Option (Bucket T))) (b s d t : ℕ) (x y : T) → refilled buckets (items_of (write (write buckets b s x) d t y)) ≡ write (write buckets b s x) d t y
+  refilled-write buckets b s d t x y =
+      let once = all_like-write buckets buckets b s x (all_like-own buckets) in
+      refilled-like buckets (write (write buckets b s x) d t y) (all_like-write buckets (write buckets b s x) d t y once)
+
   module _ (buckets : List (Option (Bucket T))) (b s d t : ℕ) (x y : T) (apart : b ≢ d) where
     -- the second write finds its bucket as it was
     pub write-apart : write (write buckets b s x) d t y ≡ set (set buckets b (with_item (get_or buckets b None) s x)) d (with_item (get_or buckets d None) t y)
     write-apart =
         let other = get_or-set_other buckets b d (with_item (get_or buckets b None) s x) None (λ same. apart (sym same)) in
         ap (λ (bucket : Option (Bucket T)). set (write buckets b s x) d (with_item bucket t y)) other
-
-    pub refilled-write : refilled buckets (items_of (write (write buckets b s x) d t y)) ≡ write (write buckets b s x) d t y
-    refilled-write =
-        let once = all_like-set buckets buckets b (with_item (get_or buckets b None) s x) (all_like-own buckets) (like-item (get_or buckets b None) s x) in
-        let twice = all_like-set buckets (write buckets b s x) d (with_item (get_or buckets d None) t y) once (like-item (get_or buckets d None) t y) in
-        rw write-apart (refilled-like buckets (set (write buckets b s x) d (with_item (get_or buckets d None) t y)) twice)

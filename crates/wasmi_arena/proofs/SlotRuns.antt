@@ -64,7 +64,7 @@ no_size n zero = let z : capped n ≡ 0 = eqb→eq (capped n) 0 (not-not (eqb (c
 abbrev pub sz : El → ℕ
 sz E = type_size (R E)
 
-abbrev as_rows : El → rows.El
+abbrev pub as_rows : El → rows.El
 as_rows E = record { row = E.row; laws = E.laws }
 
 module _ (E : El) {M : Type 1} {𝓤 : Ura M} (𝓛 : Logic 𝓤) (b o : ℕ) where

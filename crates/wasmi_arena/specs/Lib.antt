@@ -3,6 +3,7 @@ pub mod KeyLaws
 pub mod Errors
 pub mod Geometry
 pub mod Block
+pub mod OptionLend
 pub mod Slots
 pub mod SlotsLend
 pub mod Filled

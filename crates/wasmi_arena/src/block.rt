@@ -1,5 +1,4 @@
-//! The block of a bucket and the slots in it. Every raw pointer of the workspace is here and in the two
-//! files below.
+//! The block of a bucket and the slots in it.
 ghost use Rattle.std.specs.Prelude.{◌≡◌, ℕ, List, ⊤};
 ghost use base.Fml.{ftrue};
 ghost use denote.RawPtr.{Ptr};
@@ -14,7 +13,7 @@ use std::marker::{Model, PhantomData};
 
 /// A pointer to the first slot of a block. It owns nothing.
 pub struct BlockPtr<T> {
-    start: *mut T,
+    pub(crate) start: *mut T,
 }
 
 impl<T> Clone for BlockPtr<T> {

@@ -19,7 +19,7 @@ pub(crate) use taken::BucketItems;
 /// [`bucket`](crate::StableVec::bucket). The block is one block of the allocator's; items without a
 /// size need none.
 pub struct Bucket<T, A: Allocator = Global> {
-    ptr: BlockPtr<T>,
+    pub(crate) ptr: BlockPtr<T>,
     len: usize,
     capacity: usize,
     slots: Slots<T>,

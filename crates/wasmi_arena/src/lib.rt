@@ -10,10 +10,8 @@ mod bucket_table;
 mod error;
 mod key;
 pub mod laws;
+mod option;
 mod run;
-// A crate above whose arena lends two items of a slice lends them as a bucket does.
-#[doc(hidden)]
-pub mod slice_pair;
 mod stable_arena;
 mod stable_vec;
 

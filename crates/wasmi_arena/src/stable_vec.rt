@@ -22,6 +22,7 @@ mod pairs;
 mod slices;
 mod slices_mut;
 
+use crate::option::{unwrap_mut, unwrap_ref};
 use crate::{ArenaError, Bucket, BucketTable, ItemsLoan};
 pub use into_iter::StableVecIntoIter;
 pub use iter::StableVecIter;
@@ -98,22 +99,26 @@ fn place_in_last(len: usize, open_buckets: usize, slots: usize) -> (usize, usize
     (open_buckets - 1, len - (slots - 32) / 2)
 }
 
-// Puts `value` into a place, which is the first free slot of an open bucket.
+// Puts `value` into the first free slot of an open bucket, in which `free` slots are.
 #[inline]
-fn fill_at<T, A: Allocator>(buckets: &mut [Option<Bucket<T, A>>], place: (usize, usize), value: T)
-    requires in_table { place.0 < length buckets.old }
-    requires open { IsSome (slice_index_or buckets.old place.0 None) }
-    requires slot { place.1 ≡ length (items_in (slice_index_or buckets.old place.0 None)) }
-    requires free { place.1 < size place.0 }
-    requires capacity { ForSome (slice_index_or buckets.old place.0 None)
-        (λ b. b.capacity ≡ size place.0) }
-    ensures { buckets.new ≡ slice_set buckets.old place.0
-        (bucket_with (size place.0) (slice_index_or buckets.old place.0 None) value) }
+fn fill_next<T, A: Allocator>(
+    buckets: &mut [Option<Bucket<T, A>>],
+    bucket: usize,
+    free: usize,
+    value: T,
+)
+    requires in_table { bucket < length buckets.old }
+    requires open { IsSome (slice_index_or buckets.old bucket None) }
+    requires capacity { ForSome (slice_index_or buckets.old bucket None)
+        (λ b. b.capacity ≡ size bucket) }
+    requires free { length (items_in (slice_index_or buckets.old bucket None)) + free ≡ size bucket }
+    requires some { 0 < free }
+    ensures { buckets.new ≡ slice_set buckets.old bucket
+        (bucket_with (size bucket) (slice_index_or buckets.old bucket None) value) }
 {
-    match &mut buckets[place.0] {
-        Some(open) => open.push(place.1, value),
-        None => unreachable!(),
-    }
+    let open = unwrap_mut(&mut buckets[bucket]);
+    let slot = open.capacity() - free;
+    open.push(slot, value);
 }
 
 // Opens a bucket, and puts `value` into its first slot.
@@ -141,15 +146,12 @@ fn open_with<T: Drop, A: Allocator + Clone>(
 }
 
 // The item in a filled slot of an open bucket, to write to.
-pub(crate) fn slot_mut<T, A: Allocator>(bucket: &mut Option<Bucket<T, A>>, slot: usize) -> &mut T
+fn slot_mut<T, A: Allocator>(bucket: &mut Option<Bucket<T, A>>, slot: usize) -> &mut T
     requires { slot < length (items_in bucket.old) }
     ensures* writes_back { sem 𝓛 (lends_slot T.row A.row A.Allocator bucket.entry slot result) }
     ensures value { slice_get (items_in bucket.old) slot ≡ Some result.now }
 {
-    match bucket {
-        Some(open) => open.item_mut(slot),
-        None => unreachable!(),
-    }
+    unwrap_mut(bucket).item_mut(slot)
 }
 
 impl<T> StableVec<T> {
@@ -251,10 +253,8 @@ impl<T, A: Allocator> StableVec<T, A> {
         let (bucket, slot) = StableVec::<T>::place(index);
         // proof: by the slice, since an index into the array asks for the size of all of it.
         let buckets = &self.table.buckets[..];
-        match &buckets[bucket] {
-            Some(open) => Some(&open.slice()[slot]),
-            None => unreachable!(),
-        }
+        let open = unwrap_ref(&buckets[bucket]);
+        Some(&open.slice()[slot])
     }
 
     // The item at an index, to write to.
@@ -381,8 +381,8 @@ impl<T, A: Allocator> StableVec<T, A> {
     {
         let index = self.len;
         if index < self.slots {
-            let place = place_in_last(index, self.open_buckets, self.slots);
-            fill_at(&mut self.table.buckets[..], place, value);
+            let last = self.open_buckets - 1;
+            fill_next(&mut self.table.buckets[..], last, self.slots - index, value);
             self.len = index + 1;
             return Ok(index);
         }

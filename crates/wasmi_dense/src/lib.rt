@@ -4,6 +4,7 @@
 pub mod arena;
 mod component_vec;
 pub mod laws;
+mod slice_pair;
 
 pub use arena::Arena;
 pub use component_vec::{ComponentVec, ComponentVecIter, ComponentVecIterMut};

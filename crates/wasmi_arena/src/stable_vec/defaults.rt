@@ -9,6 +9,7 @@ ghost use Rattle.wasmi_arena.specs.Apart.{AreOpenApart};
 ghost use Rattle.wasmi_arena.specs.Table.{items_in, FillsBucket};
 
 use super::{BUCKETS, place_in_last};
+use crate::option::unwrap_mut;
 use crate::{ArenaError, Bucket, BucketTable, StableVec};
 use std::alloc::Allocator;
 use std::array;
@@ -73,10 +74,7 @@ fn fill_bucket<T: Default, A: Allocator>(
         (λ b. b.capacity ≡ size place.0) }
     ensures { FillsBucket (All T.is_default) amount place.0 buckets.old buckets.new }
 {
-    match &mut buckets[place.0] {
-        Some(open) => open.push_defaults(place.1, amount),
-        None => unreachable!(),
-    }
+    unwrap_mut(&mut buckets[place.0]).push_defaults(place.1, amount);
 }
 
 impl<T: Default + Drop, A: Allocator + Clone> StableVec<T, A> {

@@ -1,85 +1,15 @@
 //! Two items of a stable vector at once.
-ghost use Rattle.std.specs.Prelude.{◌≡◌, ◌≢◌, ◌<◌, ◌≤◌, ◌↔◌, ◌⊎◌, ℕ, [], ◌∷◌, length, IfOk, IfErr, OnOk, OnErr, IsOk, IsErrOf, slice_get, slice_index_or, Some, None};
+ghost use Rattle.std.specs.Prelude.{◌≡◌, ◌≢◌, ◌<◌, ◌≤◌, ◌↔◌, ◌⊎◌, ℕ, [], ◌∷◌, length, IfOk, IfErr, OnOk, OnErr, IsOk, IsErrOf, slice_get, Some};
 ghost use Rattle.std.specs.Borrow.{sem};
 ghost use Rattle.wasmi_arena.specs.Pairs.{PairAnswer, AreNumbers};
 ghost use Rattle.std.specs.List.{swap};
-ghost use Rattle.wasmi_arena.specs.Table.{items_in, with_item, write};
 ghost use Rattle.wasmi_arena.specs.VecLend.{lends_two, lends_pair, lends_both};
 
-use super::{StableVec, slot_mut};
-use crate::{ArenaError, Bucket};
+use super::StableVec;
+use crate::ArenaError;
 use std::alloc::Allocator;
-use std::mem;
-
-// Exchanges the items in two filled slots of an open bucket.
-fn swap_in<T, A: Allocator>(bucket: &mut Option<Bucket<T, A>>, first: usize, second: usize)
-    requires first { first < length (items_in bucket.old) }
-    requires second { second < length (items_in bucket.old) }
-    ensures { (x y : T) → slice_get (items_in bucket.old) first ≡ Some x
-        → slice_get (items_in bucket.old) second ≡ Some y
-        → bucket.new ≡ with_item (with_item bucket.old first y) second x }
-{
-    match bucket {
-        Some(open) => open.slice_mut().swap(first, second),
-        None => unreachable!(),
-    }
-}
-
-// Exchanges the items in a filled slot of a bucket and of one behind it.
-fn swap_across<T, A: Allocator>(
-    buckets: &mut [Option<Bucket<T, A>>],
-    first: (usize, usize),
-    second: (usize, usize),
-)
-    requires order { first.0 < second.0 }
-    requires in_table { second.0 < length buckets.old }
-    requires first { first.1 < length (items_in (slice_index_or buckets.old first.0 None)) }
-    requires second { second.1 < length (items_in (slice_index_or buckets.old second.0 None)) }
-    ensures { (x y : T) → slice_get (items_in (slice_index_or buckets.old first.0 None)) first.1 ≡ Some x
-        → slice_get (items_in (slice_index_or buckets.old second.0 None)) second.1 ≡ Some y
-        → buckets.new ≡ write (write buckets.old first.0 first.1 y) second.0 second.1 x }
-{
-    let (front, back) = buckets.split_at_mut(second.0);
-    let one = slot_mut(&mut front[first.0], first.1);
-    let other = slot_mut(&mut back[0], second.1);
-    mem::swap(one, other);
-}
-
-// Exchanges the items in two filled slots, of which the first lies in no later bucket.
-fn swap_slots<T, A: Allocator>(
-    buckets: &mut [Option<Bucket<T, A>>],
-    first: (usize, usize),
-    second: (usize, usize),
-)
-    requires order { first.0 ≤ second.0 }
-    requires in_table { second.0 < length buckets.old }
-    requires first { first.1 < length (items_in (slice_index_or buckets.old first.0 None)) }
-    requires second { second.1 < length (items_in (slice_index_or buckets.old second.0 None)) }
-    ensures { (x y : T) → slice_get (items_in (slice_index_or buckets.old first.0 None)) first.1 ≡ Some x
-        → slice_get (items_in (slice_index_or buckets.old second.0 None)) second.1 ≡ Some y
-        → buckets.new ≡ write (write buckets.old first.0 first.1 y) second.0 second.1 x }
-{
-    if first.0 == second.0 {
-        swap_in(&mut buckets[first.0], first.1, second.1);
-    } else {
-        swap_across(buckets, first, second);
-    }
-}
 
 impl<T, A: Allocator> StableVec<T, A> {
-    // Exchanges the items at two indices, of which `low` comes first.
-    fn swap_in_order(&mut self, low: usize, high: usize)
-        requires order { low < high }
-        requires in_bounds { high < length self.old }
-        ensures { self.new ≡ swap self.old low high }
-    {
-        // proof: an index of an item has a place, which the invariant of the table tells.
-        let _ = &self.table;
-        let first = StableVec::<T>::place(low);
-        let second = StableVec::<T>::place(high);
-        swap_slots(&mut self.table.buckets[..], first, second);
-    }
-
     /// Exchanges the items at two indices.
     ///
     /// Fails with `AliasingPairAccess` if the indices are equal, and then with `KeyOutOfBounds` if one
@@ -96,15 +26,12 @@ impl<T, A: Allocator> StableVec<T, A> {
         if first == second {
             return Err(ArenaError::AliasingPairAccess);
         }
-        let (low, high) = if first < second {
-            (first, second)
-        } else {
-            (second, first)
-        };
-        if high >= self.len {
+        if first >= self.len || second >= self.len {
             return Err(ArenaError::KeyOutOfBounds);
         }
-        self.swap_in_order(low, high);
+        let (bucket, slot) = StableVec::<T>::place(first);
+        let (other_bucket, other_slot) = StableVec::<T>::place(second);
+        self.table.swap(bucket, slot, other_bucket, other_slot);
         Ok(())
     }
 

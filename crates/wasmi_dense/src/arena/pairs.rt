@@ -6,8 +6,8 @@ ghost use Rattle.wasmi_dense.specs.ArenaLend.{lends_all};
 ghost use Rattle.wasmi_dense.specs.ArenaPair.{lends_both};
 
 use super::Arena;
+use crate::slice_pair::pair_within;
 use std::alloc::Allocator;
-use wasmi_arena::slice_pair::pair_within;
 use wasmi_arena::{ArenaError, ArenaKey};
 
 // Two items of a slice, or why it has no two such items.

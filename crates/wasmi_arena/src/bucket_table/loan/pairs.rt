@@ -6,10 +6,9 @@ ghost use Rattle.wasmi_arena.specs.LoanLend.{lends_slots, lends_pair};
 ghost use Rattle.wasmi_arena.specs.Table.{items_in, items_of, HasBuckets};
 
 use super::ItemsLoan;
-use crate::StableVec;
-use crate::slice_pair::pair_within;
-use crate::stable_vec::slot_mut;
+use crate::{Bucket, StableVec};
 use std::alloc::Allocator;
+use std::mem::align_of;
 
 // The bucket and the slot of one index, and those of another.
 fn places(first: usize, second: usize) -> (usize, usize, usize, usize)
@@ -24,15 +23,16 @@ fn places(first: usize, second: usize) -> (usize, usize, usize, usize)
 }
 
 impl<'a, T, A: Allocator> ItemsLoan<'a, T, A> {
-    // The items in a filled slot of one bucket and in one of another.
-    fn pair_across(
+    // The items in two filled slots, of one bucket or of two. Each is found by its own bucket's pointer, so
+    // nothing is tested.
+    fn pair_slots(
         self,
         bucket: usize,
         slot: usize,
         other_bucket: usize,
         other_slot: usize,
     ) -> (&'a mut T, &'a mut T)
-        requires apart { bucket ≢ other_bucket }
+        requires apart { bucket ≡ other_bucket → slot ≢ other_slot }
         requires first { slot < length (items_in (slice_index_or self.buckets bucket None)) }
         requires second { other_slot < length (items_in (slice_index_or self.buckets other_bucket None)) }
         ensures* writes_back { sem 𝓛 (lends_slots T.row A.row self.entry bucket slot other_bucket other_slot result) }
@@ -42,9 +42,11 @@ impl<'a, T, A: Allocator> ItemsLoan<'a, T, A> {
             ≡ Some result.1.now }
     {
         let ItemsLoan { first, marker: _ } = self;
-        let one = slot_mut(unsafe { &mut *first.add(bucket) }, slot);
-        let other = slot_mut(unsafe { &mut *first.add(other_bucket) }, other_slot);
-        (one, other)
+        unsafe {
+            let one = block_of!(first, bucket);
+            let other = block_of!(first, other_bucket);
+            (&mut *one.add(slot), &mut *other.add(other_slot))
+        }
     }
 
     /// The items at two indices.
@@ -58,10 +60,6 @@ impl<'a, T, A: Allocator> ItemsLoan<'a, T, A> {
         ensures second { slice_get (items_of self.entry.buckets) second ≡ Some result.1.now }
     {
         let (bucket, slot, other_bucket, other_slot) = places(first, second);
-        if bucket == other_bucket {
-            pair_within(self.bucket(bucket), slot, other_slot)
-        } else {
-            self.pair_across(bucket, slot, other_bucket, other_slot)
-        }
+        self.pair_slots(bucket, slot, other_bucket, other_slot)
     }
 }

@@ -8,6 +8,7 @@ ghost use Rattle.wasmi_arena.specs.TableLend.{lends_filled};
 
 use super::ItemsLoan;
 use crate::Bucket;
+use crate::option::unwrap_mut;
 use std::alloc::Allocator;
 use std::marker::PhantomData;
 
@@ -17,10 +18,7 @@ fn items_mut<T, A: Allocator>(bucket: &mut Option<Bucket<T, A>>) -> &mut [T]
     ensures* writes_back { sem 𝓛 (lends_filled T.row A.row A.Allocator bucket.entry result) }
     ensures value { result.now ≡ items_in bucket.old }
 {
-    match bucket {
-        Some(open) => open.slice_mut(),
-        None => unreachable!(),
-    }
+    unwrap_mut(bucket).slice_mut()
 }
 
 impl<'a, T, A: Allocator> ItemsLoan<'a, T, A> {

@@ -1,38 +1,36 @@
-use Rattle.std.proofs.Common.{refl, inr}
-use Rattle.std.proofs.Math.Nat.{lt_of_lt_of_le, not-le_of_lt}
-use Rattle.std.proofs.Math.Numerals.{lt-add-one, add-one-le}
+use Rattle.std.proofs.Common.{refl, inr, arith}
+use Rattle.std.proofs.Math.Nat.{not-le_of_lt}
+use Rattle.std.proofs.Math.Numerals.{add-one-le}
 use Rattle.wasmi_arena.proofs.Passed.{passed_is}
-use Rattle.wasmi_arena.proofs.LaidOut.{first_free, open_size, place-open, slots-le_max, len-fits, open-fits, free-lt_max, other-lt_max, max-le_length, room-full, no_room, place-full, items_of-push, IsLaidOut-push, items_of-open_next, IsLaidOut-open_next}
+use Rattle.wasmi_arena.proofs.LaidOut.{open_size, place-open, place-free, last-free, free_counted, len-fits, open-fits, free-lt_max, other-lt_max, max-le_length, room-full, no_room, place-full, items_of-last, IsLaidOut-last, items_of-open_next, IsLaidOut-open_next}
 use Rattle.wasmi_arena.proofs.stable_vec.StableVec.push.Goals as goal
 
-pub place_in_last-place-requires-clause-below : goal.place_in_last-place-requires-clause-below
-place_in_last-place-requires-clause-below g c = lt_of_lt_of_le c.if-index-self.true (slots-le_max _ _ _ _ c.self.invariant)
+pub overflow_sub-last : goal.overflow_sub-last
+overflow_sub-last g c = let last = last-free _ _ _ _ c.self.invariant c.if-index-self.true in omega arith
 
-pub fill_at-requires-clause-in_table : goal.fill_at-requires-clause-in_table
-fill_at-requires-clause-in_table g c = rw c.self.invariant.buckets_counted c.place_in_last-place.ensures.place.bucket_exists
+pub fill_next-requires-clause-in_table : goal.fill_next-requires-clause-in_table
+fill_next-requires-clause-in_table g c = rw c.self.invariant.buckets_counted (place-free _ _ _ _ c.self.invariant c.if-index-self.true).bucket_exists
 
-pub fill_at-requires-clause-open : goal.fill_at-requires-clause-open
-fill_at-requires-clause-open g c = place-open _ _ _ _ c.self.invariant _ _ c.place_in_last-place.ensures.place (rw (← c.place_in_last-place.ensures.last) (lt-add-one c.place_in_last-place.result.0))
+pub fill_next-requires-clause-open : goal.fill_next-requires-clause-open
+fill_next-requires-clause-open g c =
+    let last = last-free _ _ _ _ c.self.invariant c.if-index-self.true in place-open _ _ _ _ c.self.invariant _ _ (place-free _ _ _ _ c.self.invariant c.if-index-self.true) (omega arith)
 
-pub fill_at-requires-clause-slot : goal.fill_at-requires-clause-slot
-fill_at-requires-clause-slot g c = first_free _ _ _ _ c.self.invariant _ _ c.place_in_last-place.ensures.place
+pub fill_next-requires-clause-capacity : goal.fill_next-requires-clause-capacity
+fill_next-requires-clause-capacity g c = open_size _ _ _ _ c.self.invariant _ _ (place-free _ _ _ _ c.self.invariant c.if-index-self.true)
 
-pub fill_at-requires-clause-capacity : goal.fill_at-requires-clause-capacity
-fill_at-requires-clause-capacity g c = open_size _ _ _ _ c.self.invariant _ _ c.place_in_last-place.ensures.place
-
-pub fill_at-requires-clause-free : goal.fill_at-requires-clause-free
-fill_at-requires-clause-free g c = c.place_in_last-place.ensures.place.slot_exists
+pub fill_next-requires-clause-free : goal.fill_next-requires-clause-free
+fill_next-requires-clause-free g c = free_counted _ _ _ _ c.self.invariant c.if-index-self.true
 
 pub overflow_add-self : goal.overflow_add-self
 overflow_add-self g c = record { fits = len-fits _ _ _ _ c.self.invariant }
 
 pub invariant_of-self : goal.invariant_of-self
 invariant_of-self g c =
-    rw (c.fill_at.ensures, c.self.invariant.slots_counted, ← c.place_in_last-place.ensures.last) (IsLaidOut-push _ _ _ _ c.self.invariant _ _ c.place_in_last-place.ensures.place c.args.value)
+    rw c.fill_next.ensures (IsLaidOut-last _ _ _ _ c.self.invariant c.if-index-self.true c.args.value)
 
 pub returns-then-index-self-clause-ok : goal.returns-then-index-self-clause-ok
 returns-then-index-self-clause-ok g c =
-    rw (c.fill_at.ensures, ← c.self.view_is) (items_of-push _ _ _ _ c.self.invariant _ _ c.place_in_last-place.ensures.place c.args.value)
+    rw (c.fill_next.ensures, ← c.self.view_is) (items_of-last _ _ _ _ c.self.invariant c.if-index-self.true c.args.value)
 
 pub returns-then-index-self-clause-index : goal.returns-then-index-self-clause-index
 returns-then-index-self-clause-index g c = rw (← c.self.view_is) c.self.invariant.items_counted

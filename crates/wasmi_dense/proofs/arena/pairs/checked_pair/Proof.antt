@@ -45,8 +45,8 @@ use Rattle.wasmi_arena.proofs.Frame.{let_go, gone}
 use Rattle.wasmi_arena.proofs.Refusals.{error_val, place_of, error_made, pair_val, pair_told}
 use Rattle.wasmi_arena.specs.Pairs.{names_if_ok}
 use Rattle.wasmi_dense.specs.contracts.arena.pairs.checked_pair as F
-use Rattle.wasmi_arena.specs.contracts.slice_pair.pair_within as Two
-use Rattle.wasmi_arena.proofs.slice_pair.pair_within.Met as LendsTwo
+use Rattle.wasmi_dense.specs.contracts.slice_pair.pair_within as Two
+use Rattle.wasmi_dense.proofs.slice_pair.pair_within.Met as LendsTwo
 use Rattle.wasmi_dense.proofs.arena.pairs.checked_pair.Statement.{statement}
 use Rattle.wasmi_dense.proofs.arena.pairs.checked_pair.Code as code
 use Rattle.wasmi_dense.proofs.PairLoans.{Reads, Outside, Alike, Errors, Told, told_outside, told_alike, told_lent}
@@ -118,7 +118,7 @@ checked_pair_spec 𝓤 𝓛 𝓜 𝓡 wired X LX =
     use0 𝓛 (raw (fact 𝓤 (other < n))) (fact_i 𝓤 _ (emp 𝓤) other_in) $ use0 𝓛 (raw (fact 𝓤 (one < n))) (fact_i 𝓤 _ (emp 𝓤) one_in) $ join ! $
     use0 𝓛 (raw (fact 𝓤 (one ≢ other))) (fact_i 𝓤 _ (emp 𝓤) apart) $ join ! $ use0 𝓛 (raw (fact 𝓤 (κs.1.0 ⊑ X.lives))) (fact_i 𝓤 _ (emp 𝓤) in_X) $ join ! $
     move ! (1 ∷ 0 ∷ []) $ use2 𝓛 (raw (G.pre z)) (id⊢ 𝓤 _) $
-    calls_at ! (framed 𝓤 𝓛.H 𝓜 𝓣) G (LendsTwo.met 𝓤 𝓛 𝓜 𝓡 (code.calls-wasmi_arena::slice_pair::pair_within 𝓡.env wired) X LX) z
+    calls_at ! (framed 𝓤 𝓛.H 𝓜 𝓣) G (LendsTwo.met 𝓤 𝓛 𝓜 𝓡 (code.calls-wasmi_dense::slice_pair::pair_within 𝓡.env wired) X LX) z
     (and_then ! (get ! refl) (and_then ! (get ! refl) (and_then ! (get ! refl) (no_more !)))) (λ v.
     use1 𝓛 (later (some (λ (r : MutBor X.Denot × MutBor X.Denot). (alive ⊛ ‵ (Pair.own_val r (v ∷ []))) ⊛
     some (λ (ws : Unit {0} × (Unit {0} × (Unit {0} × Unit {0}))). ‵ (lasts (Two.ended X) κs a ws) ⊛ ‵ (follows_both Items Item Item γ r.0.ghost_name r.1.ghost_name (λ x y. slice_set (slice_set items one x) other y))

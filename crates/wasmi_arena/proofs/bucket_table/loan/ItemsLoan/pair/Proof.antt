@@ -1,62 +1,54 @@
--- `pair` lends two items of one bucket, or of two. Assumes `Logic`.
-use Rattle.std.proofs.Common.{◌≡◌, ◌≢◌, ℕ, ◌<◌, List, [], ◌∷◌, length, get_or, set, None, Some, refl, sym, ap, ◌∙◌, subst, w64, MutBor}
+-- `pair` lends two items by their slots. Assumes `Logic`.
+use Rattle.std.proofs.Common.{◌≡◌, ◌≢◌, ◌<◌, List, [], ◌∷◌, length, get_or, set, None, Some, refl, sym, ap, ◌∙◌, subst, w64, MutBor}
 use Rattle.std.proofs.raw_atomic.Walks.{proved}
-use Rattle.std.specs.Prelude.{slice_get, IsSome}
+use Rattle.std.specs.Prelude.{slice_get}
 use lib.Dec as dec
 use lib.Dec.{eqb→eq}
 use base.Logic.{emp, id⊢}
 use base.Fml.{ftrue, flft}
-use mir.Syntax.{named, Args, a_type, dcons, dnil}
+use mir.Syntax.{Args, a_type, dcons, dnil}
 use mir.MapTy.{inst_fn}
 use mir.Val.{Val, vint, vstruct, vcons, vnil, has_ty, WT}
 use contract.BorrowLft.{◌⊑◌}
 use contract.Fact.{fact_i}
-use contract.Lifetimes.{Lfts, Shares}
 use contract.Monad.{fact}
 use contract.Running.{tables}
-use types.Kit.{join, use0, use1, use2, ‵, raw, ◌⊛◌, some, later, prop, at_ret, Sq, ◌$◌, ◌∵◌, !, qed, done, move, keep, drop, split, split3, group, pick, await, frame, rewrite, suffices}
+use types.Kit.{join, use0, use1, use2, ‵, raw, ◌⊛◌, some, later, prop, Sq, ◌$◌, ◌∵◌, !, qed, done, move, keep, drop, split, split3, group, pick, await, frame, rewrite, suffices}
 use types.Part.{whole, sub}
-use types.Run.{enter, of_opd, bin, fld, stop, first, branches, exec, returns_within, and_then, no_more}
-use types.ByLocal.{alloc_all, pass_all, free_all, look_at, get, get_in, sets, lands_as, lands_last, env}
+use types.Run.{enter, of_opd, fld, stop, returns, and_then, no_more}
+use types.ByLocal.{alloc_all, pass_all, free_all, look_at, get, get_in, sets, lands_as, env}
 use denote.Array.{Array}
 use denote.Builtin.{usize}
 use denote.Exit.{yes, no}
-use denote.Follow.{follows, follows_both}
+use denote.Follow.{follows_both}
 use denote.Laws.{shows}
 use denote.Param.{bounded, layout}
 use denote.Plain.{uint_vals, uint_Tells, uint_Makes}
 use denote.Signature.{plain, named_lft}
-use denote.Slice.{MutSlice, slice_val, mut_slice_vals}
 use denote.Steps.{nothing, heard, owned, peeks, facts, only}
 use denote.Struct.Declared as Declared
 use denote.Struct.Struct.{Struct-Tells}
 use denote.Struct.Tuple.{Tuple, tuple_type}
-use denote.Triple.Call.{calls_at, calls_at_last}
+use denote.Triple.Call.{calls_at}
 use denote.Triple.Clauses.{lasts}
 use denote.Triple.Spec.{triple_of}
 use denote.Triple.Table.{framed}
 use denote.Triple.Walked.{Stays, walk_of, stay_dropped, Goes-dropped, ends_at}
 use Rattle.core.proofs.alloc.Calls.{Al, Goes-blank}
 use Rattle.core.proofs.mem.Param.{El, R}
-use Rattle.std_alloc.proofs.VecSteps.Shapes.{after as rest_of}
 use Rattle.wasmi_arena.specs.Geometry.{IsPlace, max_len}
-use Rattle.wasmi_arena.specs.Table.{items_of, items_in, write, write_all, HasBuckets}
+use Rattle.wasmi_arena.specs.Table.{items_of, items_in, write, HasBuckets}
 use Rattle.wasmi_arena.specs.contracts.bucket_table.loan.ItemsLoan.pair as F
-use Rattle.wasmi_arena.specs.contracts.bucket_table.loan.ItemsLoan.bucket as One
-use Rattle.wasmi_arena.specs.contracts.bucket_table.loan.ItemsLoan.pair_across as Across
-use Rattle.wasmi_arena.specs.contracts.slice_pair.pair_within as Within
+use Rattle.wasmi_arena.specs.contracts.bucket_table.loan.ItemsLoan.pair_slots as Slots
 use Rattle.wasmi_arena.specs.contracts.bucket_table.loan.pairs.places as Places
-use Rattle.wasmi_arena.proofs.bucket_table.loan.ItemsLoan.bucket.Met as LendsOne
-use Rattle.wasmi_arena.proofs.bucket_table.loan.ItemsLoan.pair_across.Met as LendsAcross
-use Rattle.wasmi_arena.proofs.slice_pair.pair_within.Met as LendsWithin
+use Rattle.wasmi_arena.proofs.bucket_table.loan.ItemsLoan.pair_slots.Met as LendsSlots
 use Rattle.wasmi_arena.proofs.bucket_table.loan.pairs.places.Met as Placed
 use Rattle.wasmi_arena.proofs.bucket_table.loan.ItemsLoan.pair.Statement.{statement}
 use Rattle.wasmi_arena.proofs.bucket_table.loan.ItemsLoan.pair.Code as code
 use Rattle.wasmi_arena.proofs.Frame.{let_go, gone, says_two}
 use Rattle.wasmi_arena.proofs.LoanMemory.{LoanRow, loan_val, loan_tells, loan_good}
-use Rattle.wasmi_arena.proofs.PairLoans.{follows_both_then}
-use Rattle.wasmi_arena.proofs.PairPlaces.{below_max, filled, opened, reads, slots_apart, ends, ends_within}
-use Rattle.wasmi_arena.proofs.Refusals.{Pair, pair_told, neqb→neq}
+use Rattle.wasmi_arena.proofs.PairPlaces.{below_max, filled, reads, slots_apart, ends}
+use Rattle.wasmi_arena.proofs.Refusals.{Pair, pair_told}
 
 pub pair_spec : {M : Type 1} → statement M
 pair_spec 𝓤 𝓛 𝓜 𝓡 wired X Y LX LY g d dd met md =
@@ -108,79 +100,29 @@ pair_spec 𝓤 𝓛 𝓜 𝓡 wired X Y LX LY g d dd met md =
     sets ! (of_opd ! (get_in ! (fld ! refl (stop !)) (sub ! 1 refl (whole !)))) refl (tt, record { fits = fits₂ }) $
     sets ! (of_opd ! (get_in ! (fld ! refl (stop !)) (sub ! 2 refl (whole !)))) refl (tt, record { fits = fits₃ }) $
     sets ! (of_opd ! (get_in ! (fld ! refl (stop !)) (sub ! 3 refl (whole !)))) refl (tt, record { fits = fits₄ }) $
+    let distinct : b ≡ e → s ≢ t = slots_apart it.buckets has i b s place_i one_in j e t place_j other_in apart in
     let one = get_or it.buckets b None in let other = get_or it.buckets e None in
     let s_in = filled it.buckets has i b s place_i one_in in let t_in = filled it.buckets has j e t place_j other_in in
     let at_i = reads it.buckets has i b s place_i one_in in let at_j = reads it.buckets has j e t place_j other_in in
-    sets ! (bin ! (get ! refl) (get ! refl) tt) refl (tt, tt) $ first ! $ branches ! (get ! refl)
-    (λ alike. let same : b ≡ e = eqb→eq b e alike in
     sets ! (of_opd ! (get ! refl)) refl (loan_good ℓ E Z it.first) $
-    -- the one bucket
-    let G₂ = triple_of 𝓛 (One.signature X Y g d dd) (One.spec X Y g d dd 𝓛 𝓜.mem 𝓡.returns) in let z₂ : G₂.Ghost = ((κs, qs, bounds, (it, (b, tt)), (loan ∷ [], (uint_vals w64 b, tt))), tt) in
-    let is_open = opened it.buckets has i b s place_i one_in in
-    nothing ! $ owned ! usize _ (uint_Makes 𝓛 w64) b _ (refl, fits₁) $ join ! $ move ! (1 ∷ 0 ∷ []) $ join ! $ move ! (1 ∷ 0 ∷ []) $ join ! $
-    use0 𝓛 (raw (fact 𝓤 (IsSome one))) (fact_i 𝓤 (IsSome one) (emp 𝓤) is_open) $ use0 𝓛 (raw (fact 𝓤 (κs.1.1.0 ⊑ Y.lives))) (fact_i 𝓤 _ (emp 𝓤) in_A) $ join ! $
-    use0 𝓛 (raw (fact 𝓤 (κs.1.0 ⊑ X.lives))) (fact_i 𝓤 _ (emp 𝓤) in_T) $ join ! $ move ! (1 ∷ 0 ∷ []) $ use2 𝓛 (raw (G₂.pre z₂)) (id⊢ 𝓤 _) $
-    calls_at ! (framed 𝓤 𝓛.H 𝓜 𝓣) G₂ (LendsOne.met 𝓤 𝓛 𝓜 𝓡 (code.calls-wasmi_arena::bucket_table::loan::ItemsLoan::bucket 𝓡.env wired) X Y LX LY g d dd met md) z₂
-    (and_then ! (get ! refl) (and_then ! (get ! refl) (no_more !))) (λ v₂.
-    let Slice = MutSlice (named 0) κ T in let With = λ (last : List X.Denot). items_of (write_all it.buckets b last) in
-    use1 𝓛 (later (some (λ (u : MutBor (List X.Denot)). (alive ⊛ ‵ (Slice.own_val u (v₂ ∷ []))) ⊛
-    some (λ (ws : Unit {0} × (Unit {0} × Unit {0})). ‵ (lasts (One.ended X Y g d dd) κs (it, (b, tt)) ws) ⊛ ‵ (follows Items Items it.name u.ghost_name With) ⊛ raw (fact 𝓤 (u.now ≡ items_in one)))))) (id⊢ 𝓤 _) $
-    await ! tt $ pick ! (λ u. split ! $ split ! $ move ! (2 ∷ []) $ pick ! (λ ws. split3 ! $ drop ! $ move ! (1 ∷ []) $ heard ! _ (λ value. move ! (2 ∷ []) $
-    peeks ! Slice _ (shows 𝓛 Slice) u (v₂ ∷ []) (λ seen₂.
-    let slice = slice_val u.ref_ptr (length u.now) in let e₂ : v₂ ≡ slice = ap only seen₂.0.0 in
-    lands_as ! e₂ refl (tt, (tt, (record { fits = seen₂.0.1.0 }, tt))) $ rewrite ! 0 (λ (v : Val). ‵ (Slice.own_val u (v ∷ []))) e₂ refl $
-    -- [the slice; what the loan is afterwards; the tokens]
-    -- two of its items
-    let κs₃ : Lfts 2 = (κ, (κs.1.0, tt)) in let qs₃ : Shares 2 = (q, (qs.1.0, tt)) in let G₃ = triple_of 𝓛 (Within.signature X) (Within.spec X 𝓛 𝓜.mem 𝓡.returns) in
-    let z₃ : G₃.Ghost = ((κs₃, qs₃, (bounds.0, tt), (u, (s, (t, tt))), (mut_slice_vals u, (uint_vals w64 s, (uint_vals w64 t, tt)))), tt) in
-    let s_in' : s < length u.now = subst (λ (xs : List X.Denot). s < length xs) (sym value) s_in in
-    let t_in' : t < length u.now = subst (λ (xs : List X.Denot). t < length xs) (sym value) (subst (λ (c : ℕ). t < length (items_in (get_or it.buckets c None))) (sym same) t_in) in
-    let distinct : s ≢ t = slots_apart it.buckets has i b s place_i one_in j e t place_j other_in apart same in
-    move ! (2 ∷ []) $ split3 ! $
-    nothing ! $ owned ! usize _ (uint_Makes 𝓛 w64) t _ (refl, fits₄) $ join ! $ owned ! usize _ (uint_Makes 𝓛 w64) s _ (refl, fits₂) $ join ! $ move ! (4 ∷ 0 ∷ []) $ join ! $
-    nothing ! $ move ! (3 ∷ 0 ∷ []) $ join ! $ move ! (2 ∷ 0 ∷ []) $ join ! $ join ! $
-    use0 𝓛 (raw (fact 𝓤 (t < length u.now))) (fact_i 𝓤 _ (emp 𝓤) t_in') $ use0 𝓛 (raw (fact 𝓤 (s < length u.now))) (fact_i 𝓤 _ (emp 𝓤) s_in') $ join ! $
-    use0 𝓛 (raw (fact 𝓤 (s ≢ t))) (fact_i 𝓤 _ (emp 𝓤) distinct) $ join ! $ use0 𝓛 (raw (fact 𝓤 (κs.1.0 ⊑ X.lives))) (fact_i 𝓤 _ (emp 𝓤) in_T) $ join ! $
-    move ! (1 ∷ 0 ∷ []) $ use2 𝓛 (raw (G₃.pre z₃)) (id⊢ 𝓤 _) $
-    -- [what the call asks; the other tokens; what the loan is afterwards]
-    calls_at_last ! (framed 𝓤 𝓛.H 𝓜 𝓣) G₃ (LendsWithin.met 𝓤 𝓛 𝓜 𝓡 (code.calls-wasmi_arena::slice_pair::pair_within 𝓡.env wired) X LX) z₃
-    (and_then ! (get ! refl) (and_then ! (get ! refl) (and_then ! (get ! refl) (no_more !)))) (λ v₃.
-    let Ends = λ (x y : X.Denot). set (set u.now s x) t y in
-    use1 𝓛 (later (some (λ (r : Two). ((‵ (flft κ q) ⊛ ‵ (flft κs.1.0 qs.1.0) ⊛ ‵ ftrue) ⊛ ‵ ((Pair κ T).own_val r (v₃ ∷ []))) ⊛
-    some (λ (ws : Unit {0} × (Unit {0} × (Unit {0} × Unit {0}))). ‵ (lasts (Within.ended X) κs₃ (u, (s, (t, tt))) ws) ⊛ ‵ (follows_both Items T T u.ghost_name r.0.ghost_name r.1.ghost_name Ends)
-    ⊛ raw (fact 𝓤 (slice_get u.now s ≡ Some r.0.now)) ⊛ raw (fact 𝓤 (slice_get u.now t ≡ Some r.1.now)))))) (id⊢ 𝓤 _) $
-    await ! tt $ pick ! (λ r. split ! $ split ! $ move ! (2 ∷ []) $ pick ! (λ ws₃. split3 ! $ drop ! $ move ! (1 ∷ []) $ split ! $ heard ! _ (λ first_is. heard ! _ (λ second_is. move ! (2 ∷ []) $
-    peeks ! (Pair κ T) _ (shows 𝓛 (Pair κ T)) r (v₃ ∷ []) (λ seen₃.
-    let good = subst (λ (v : Val). dec.T (has_ty (layout (Pair κ T)) v) × WT v) (sym (pair_told κ T r v₃ seen₃)) (tt, (tt, (tt, tt))) in
-    lands_last ! refl good $ exec ! 𝓣.C 𝓣.Λ here (rest_of 7 function.body) (at_ret here (W.post y)) $ sets ! (of_opd ! (get ! refl)) refl good $ returns_within ! (W.post y) refl (look_at ! 0 refl) $ free_all ! refl $
-    -- [the pair; what the slice is afterwards; the tokens of the borrow and T; the other tokens; what the loan is afterwards]
-    let is : (λ x y. With (Ends x y)) ≡ Final = λ k x y. (ap (λ (xs : List X.Denot). With (set (set xs s x) t y)) value ∙ ends_within it.buckets has i b s place_i one_in j e t place_j other_in same x y) k in
-    move ! (4 ∷ 1 ∷ []) $ use2 𝓛 (‵ (follows_both Items T T it.name r.0.ghost_name r.1.ghost_name (λ x y. With (Ends x y)))) (follows_both_then 𝓛 Items Items T T With Ends it.name u.ghost_name r.0.ghost_name r.1.ghost_name) $
-    rewrite ! 0 (λ (f : X.Denot → X.Denot → List X.Denot). ‵ (follows_both Items T T it.name r.0.ghost_name r.1.ghost_name f)) is refl $
-    move ! (2 ∷ []) $ split3 ! $ move ! (1 ∷ 5 ∷ []) $ join ! $ move ! (1 ∷ 0 ∷ []) $ join ! $ keep ! (2 ∷ 3 ∷ 0 ∷ []) $
-    out r v₃ (sym at_i ∙ (ap (λ (xs : List X.Denot). slice_get xs s) (sym value) ∙ first_is))
-    (sym at_j ∙ (ap (λ (c : ℕ). slice_get (items_in (get_or it.buckets c None)) t) (sym same) ∙ (ap (λ (xs : List X.Denot). slice_get xs t) (sym value) ∙ second_is)))))))))))))))
-    (λ differ. let across : b ≢ e = neqb→neq b e differ in
-    sets ! (of_opd ! (get ! refl)) refl (loan_good ℓ E Z it.first) $
-    -- a slot of each of the two buckets
-    let G₄ = triple_of 𝓛 (Across.signature X Y g d dd) (Across.spec X Y g d dd 𝓛 𝓜.mem 𝓡.returns) in
-    let z₄ : G₄.Ghost = ((κs, qs, bounds, (it, (b, (s, (e, (t, tt))))), (loan ∷ [], (uint_vals w64 b, (uint_vals w64 s, (uint_vals w64 e, (uint_vals w64 t, tt)))))), tt) in
+    let G₂ = triple_of 𝓛 (Slots.signature X Y g d dd) (Slots.spec X Y g d dd 𝓛 𝓜.mem 𝓡.returns) in
+    let z₂ : G₂.Ghost = ((κs, qs, bounds, (it, (b, (s, (e, (t, tt))))), (loan ∷ [], (uint_vals w64 b, (uint_vals w64 s, (uint_vals w64 e, (uint_vals w64 t, tt)))))), tt) in
     nothing ! $ owned ! usize _ (uint_Makes 𝓛 w64) t _ (refl, fits₄) $ join ! $ owned ! usize _ (uint_Makes 𝓛 w64) e _ (refl, fits₃) $ join ! $ owned ! usize _ (uint_Makes 𝓛 w64) s _ (refl, fits₂) $ join ! $
     owned ! usize _ (uint_Makes 𝓛 w64) b _ (refl, fits₁) $ join ! $ move ! (1 ∷ 0 ∷ []) $ join ! $ move ! (1 ∷ 0 ∷ []) $ join ! $
     use0 𝓛 (raw (fact 𝓤 (t < length (items_in other)))) (fact_i 𝓤 _ (emp 𝓤) t_in) $ use0 𝓛 (raw (fact 𝓤 (s < length (items_in one)))) (fact_i 𝓤 _ (emp 𝓤) s_in) $ join ! $
-    use0 𝓛 (raw (fact 𝓤 (b ≢ e))) (fact_i 𝓤 _ (emp 𝓤) across) $ join ! $ use0 𝓛 (raw (fact 𝓤 (κs.1.1.0 ⊑ Y.lives))) (fact_i 𝓤 _ (emp 𝓤) in_A) $ join ! $
-    use0 𝓛 (raw (fact 𝓤 (κs.1.0 ⊑ X.lives))) (fact_i 𝓤 _ (emp 𝓤) in_T) $ join ! $ move ! (1 ∷ 0 ∷ []) $ use2 𝓛 (raw (G₄.pre z₄)) (id⊢ 𝓤 _) $
-    calls_at_last ! (framed 𝓤 𝓛.H 𝓜 𝓣) G₄ (LendsAcross.met 𝓤 𝓛 𝓜 𝓡 (code.calls-wasmi_arena::bucket_table::loan::ItemsLoan::pair_across 𝓡.env wired) X Y LX LY g d dd met md) z₄
-    (and_then ! (get ! refl) (and_then ! (get ! refl) (and_then ! (get ! refl) (and_then ! (get ! refl) (and_then ! (get ! refl) (no_more !)))))) (λ v₄.
+    use0 𝓛 (raw (fact 𝓤 (b ≡ e → s ≢ t))) (fact_i 𝓤 _ (emp 𝓤) distinct) $ join ! $ use0 𝓛 (raw (fact 𝓤 (κs.1.1.0 ⊑ Y.lives))) (fact_i 𝓤 _ (emp 𝓤) in_A) $ join ! $
+    use0 𝓛 (raw (fact 𝓤 (κs.1.0 ⊑ X.lives))) (fact_i 𝓤 _ (emp 𝓤) in_T) $ join ! $ move ! (1 ∷ 0 ∷ []) $ use2 𝓛 (raw (G₂.pre z₂)) (id⊢ 𝓤 _) $
+    calls_at ! (framed 𝓤 𝓛.H 𝓜 𝓣) G₂ (LendsSlots.met 𝓤 𝓛 𝓜 𝓡 (code.calls-wasmi_arena::bucket_table::loan::ItemsLoan::pair_slots 𝓡.env wired) X Y LX LY g d dd met md) z₂
+    (and_then ! (get ! refl) (and_then ! (get ! refl) (and_then ! (get ! refl) (and_then ! (get ! refl) (and_then ! (get ! refl) (no_more !)))))) (λ v₂.
     let Ends = λ (x y : X.Denot). items_of (write (write it.buckets b s x) e t y) in
-    use1 𝓛 (later (some (λ (r : Two). (alive ⊛ ‵ ((Pair κ T).own_val r (v₄ ∷ []))) ⊛
-    some (λ (ws : Unit {0} × (Unit {0} × (Unit {0} × (Unit {0} × (Unit {0} × Unit {0}))))). ‵ (lasts (Across.ended X Y g d dd) κs (it, (b, (s, (e, (t, tt))))) ws) ⊛ ‵ (follows_both Items T T it.name r.0.ghost_name r.1.ghost_name Ends)
+    use1 𝓛 (later (some (λ (r : Two). (alive ⊛ ‵ ((Pair κ T).own_val r (v₂ ∷ []))) ⊛
+    some (λ (ws : Unit {0} × (Unit {0} × (Unit {0} × (Unit {0} × (Unit {0} × Unit {0}))))). ‵ (lasts (Slots.ended X Y g d dd) κs (it, (b, (s, (e, (t, tt))))) ws) ⊛ ‵ (follows_both Items T T it.name r.0.ghost_name r.1.ghost_name Ends)
     ⊛ raw (fact 𝓤 (slice_get (items_in one) s ≡ Some r.0.now)) ⊛ raw (fact 𝓤 (slice_get (items_in other) t ≡ Some r.1.now)))))) (id⊢ 𝓤 _) $
-    await ! tt $ pick ! (λ r. split ! $ split ! $ move ! (2 ∷ []) $ pick ! (λ ws₄. split3 ! $ drop ! $ move ! (1 ∷ []) $ split ! $ heard ! _ (λ first_is. heard ! _ (λ second_is. move ! (2 ∷ []) $
-    peeks ! (Pair κ T) _ (shows 𝓛 (Pair κ T)) r (v₄ ∷ []) (λ seen₄.
-    let good = subst (λ (v : Val). dec.T (has_ty (layout (Pair κ T)) v) × WT v) (sym (pair_told κ T r v₄ seen₄)) (tt, (tt, (tt, tt))) in
-    lands_last ! refl good $ exec ! 𝓣.C 𝓣.Λ here (rest_of 7 function.body) (at_ret here (W.post y)) $ sets ! (of_opd ! (get ! refl)) refl good $ returns_within ! (W.post y) refl (look_at ! 0 refl) $ free_all ! refl $
+    await ! tt $ pick ! (λ r. split ! $ split ! $ move ! (2 ∷ []) $ pick ! (λ ws₂. split3 ! $ drop ! $ move ! (1 ∷ []) $ split ! $ heard ! _ (λ first_is. heard ! _ (λ second_is. move ! (2 ∷ []) $
+    peeks ! (Pair κ T) _ (shows 𝓛 (Pair κ T)) r (v₂ ∷ []) (λ seen₂.
+    let good = subst (λ (v : Val). dec.T (has_ty (layout (Pair κ T)) v) × WT v) (sym (pair_told κ T r v₂ seen₂)) (tt, (tt, (tt, tt))) in
+    lands_as ! refl refl good $ returns ! (look_at ! 0 refl) $ free_all ! refl $
     -- [the pair; what the loan is afterwards; the tokens]
     let is : Ends ≡ Final = λ k x y. ends it.buckets has i b s place_i one_in j e t place_j other_in x y k in
     move ! (1 ∷ []) $ rewrite ! 0 (λ (f : X.Denot → X.Denot → List X.Denot). ‵ (follows_both Items T T it.name r.0.ghost_name r.1.ghost_name f)) is refl $
-    out r v₄ (sym at_i ∙ first_is) (sym at_j ∙ second_is))))))))))))))))))))))
+    out r v₂ (sym at_i ∙ first_is) (sym at_j ∙ second_is)))))))))))))))))))))

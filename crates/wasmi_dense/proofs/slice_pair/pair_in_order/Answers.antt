@@ -1,7 +1,7 @@
 use Rattle.std.proofs.Common.{◌≡◌, ◌<◌, ◌≤◌, ◌-◌, length, slice_set, refl, arith}
 use Rattle.std.proofs.lemmas.List.{length-set, set-append_left, set-append_right, get_or_append_left, get_or-append_right}
 use Rattle.std.proofs.lemmas.Option.{slice_get_read}
-use Rattle.wasmi_arena.proofs.slice_pair.pair_in_order.Goals as goal
+use Rattle.wasmi_dense.proofs.slice_pair.pair_in_order.Goals as goal
 
 pub returns : goal.returns
 returns g c =

@@ -1,6 +1,6 @@
 use Rattle.std.proofs.Common.{refl, sym}
 use Rattle.std.proofs.lemmas.List.{set_comm}
-use Rattle.wasmi_arena.proofs.slice_pair.pair_within.Goals as goal
+use Rattle.wasmi_dense.proofs.slice_pair.pair_within.Goals as goal
 
 pub returns-else-one-other : goal.returns-else-one-other
 returns-else-one-other g c = (

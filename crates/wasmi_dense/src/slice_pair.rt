@@ -16,7 +16,7 @@ fn pair_in_order<T>(items: &mut [T], low: usize, high: usize) -> (&mut T, &mut T
 }
 
 /// Two items of a slice, in the order of their places. Constant time.
-pub fn pair_within<T>(items: &mut [T], one: usize, other: usize) -> (&mut T, &mut T)
+pub(crate) fn pair_within<T>(items: &mut [T], one: usize, other: usize) -> (&mut T, &mut T)
     requires apart { one ≢ other }
     requires first { one < length items.old }
     requires second { other < length items.old }
