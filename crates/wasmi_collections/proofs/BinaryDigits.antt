@@ -1,6 +1,8 @@
 -- Facts on the number of binary digits.
-use Rattle.std.proofs.Common.{◌≡◌, ℕ, zero, suc, ◌+◌, ◌/◌, ◌^◌, ◌<◌, ◌≤◌, refl, ap, arith}
+use Rattle.std.proofs.Common.{◌≡◌, ℕ, zero, suc, ◌+◌, ◌/◌, ◌^◌, ◌<◌, ◌≤◌, refl, ap, arith, inl, inr}
+use Rattle.std.proofs.lemmas.Bool.{cases_lt}
 use Rattle.std.proofs.Math.Nat.{pow-succ'}
+use Rattle.std.proofs.Math.Pow.{pow_mono}
 use Rattle.wasmi_collections.specs.BinaryDigits.{digits_up_to, digits}
 
 digits_up_to_mono : (most m n : ℕ) → m ≤ n → digits_up_to most m ≤ digits_up_to most n
@@ -75,3 +77,10 @@ digits_double m (suc n) h =
     let halves = digits_up_to_mono 63 (suc n / 2) m (omega (arith, h)) in
     let more = digits_up_to_more 63 m in
     omega (arith, halves, more)
+
+-- from a power of two on a number has more digits than that
+pub digits_from : (n d : ℕ) → n < 2 ^ 64 → 2 ^ d ≤ n → d < digits n
+digits_from n d small from = elim (cases_lt d (digits n)) [
+  | inl more ↦ more
+  | inr less ↦ absurd (let large : 2 ^ digits n ≤ 2 ^ d = pow_mono {i = digits n} {j = d} less in omega (arith, digits_above n small))
+]

@@ -4,7 +4,7 @@ use Rattle.std.proofs.lemmas.Bool.{cases_lt}
 use Rattle.std.proofs.lemmas.Option.{same_Some}
 use Rattle.std.specs.declared.cmp.Ordering.{Ordering}
 use Rattle.std.specs.declared.cmp.Ordering.TheVariants.{Less, Greater}
-use Rattle.wasmi_collections.specs.Search.{sorted_orders, IsSearchable}
+use Rattle.wasmi_collections.specs.Search.{sorted_orders, IsSearchable, IsNarrowed, IsOneRun}
 
 slice_get-replicate : {A : Type 0} → (n i : ℕ) (x : A) → i < length (replicate n x) → slice_get (replicate n x) i ≡ Some x
 slice_get-replicate zero i x h = absurd (omega arith)
@@ -53,13 +53,6 @@ greater_after orders s i at j after within = elim (cases_lt i j) [
   | inr more ↦ let same : j ≡ i = omega arith in rw same at
 ]
 
--- what is searched can only lie from `low` on and before `high`
-pub record IsNarrowed (orders : List Ordering) (low high : ℕ) : Type 0 where
-  pub ends : low ≤ high
-  pub within : high ≤ length orders
-  pub before : (i : ℕ) → i < low → slice_get orders i ≡ Some Less
-  pub after : (i : ℕ) → high ≤ i → i < length orders → slice_get orders i ≡ Some Greater
-
 pub not_narrowed : (orders : List Ordering) → IsNarrowed orders 0 (length orders)
 not_narrowed orders = record {
   ends = omega arith;
@@ -69,23 +62,23 @@ not_narrowed orders = record {
 }
 
 pub narrowed_low :
-    (orders : List Ordering) (low high middle : ℕ) → IsSearchable orders → IsNarrowed orders low high → middle < high
-    → slice_get orders middle ≡ Some Less → IsNarrowed orders (middle + 1) high
-narrowed_low orders low high middle s narrowed h at = record {
-  ends = omega arith;
-  within = narrowed.within;
-  before = less_before orders s middle (let within = narrowed.within in omega arith) at;
-  after = narrowed.after;
+    (orders : List Ordering) (low high middle next end : ℕ) → IsSearchable orders → IsNarrowed orders low high → middle < high
+    → next ≤ middle + 1 → next ≤ end → end ≡ high → slice_get orders middle ≡ Some Less → IsNarrowed orders next end
+narrowed_low orders low high middle next end s narrowed h small ends same at = record {
+  ends = ends;
+  within = omega (arith, same, narrowed.within);
+  before = λ i less. less_before orders s middle (let within = narrowed.within in omega arith) at i (omega arith);
+  after = λ i more. narrowed.after i (omega (arith, same, more));
 }
 
 pub narrowed_high :
-    (orders : List Ordering) (low high middle : ℕ) → IsSearchable orders → IsNarrowed orders low high → low ≤ middle → middle < high
-    → slice_get orders middle ≡ Some Greater → IsNarrowed orders low middle
-narrowed_high orders low high middle s narrowed l h at = record {
-  ends = l;
-  within = let within = narrowed.within in omega arith;
-  before = narrowed.before;
-  after = greater_after orders s middle at;
+    (orders : List Ordering) (low high middle next end : ℕ) → IsSearchable orders → IsNarrowed orders low high → low ≤ middle → middle < high
+    → next ≡ low → end ≡ middle → slice_get orders middle ≡ Some Greater → IsNarrowed orders next end
+narrowed_high orders low high middle next end s narrowed l h here same at = record {
+  ends = omega (arith, l, here, same);
+  within = let within = narrowed.within in omega (arith, same);
+  before = λ i less. narrowed.before i (omega (arith, here, less));
+  after = λ i more. greater_after orders s middle at i (omega (arith, same, more));
 }
 
 all_greater :
@@ -98,7 +91,7 @@ all_greater (x ∷ xs) each =
     rw (first) (ap (λ (l : List Ordering). Greater ∷ l) rest)
 
 -- all before `low` are `Less`, and all from it on `Greater`
-pub narrowed_to_none :
+narrowed_to_none :
     (low : ℕ) (orders : List Ordering) → low ≤ length orders → ((i : ℕ) → i < low → slice_get orders i ≡ Some Less)
     → ((i : ℕ) → low ≤ i → i < length orders → slice_get orders i ≡ Some Greater)
     → (greater : ℕ) × (orders ≡ replicate low Less ++ replicate greater Greater)
@@ -108,3 +101,16 @@ narrowed_to_none (suc low) (x ∷ xs) h before after =
     let first : x ≡ Less = same_Some _ _ (before 0 (omega arith)) in
     let rest = narrowed_to_none low xs (omega arith) (λ i less. before (suc i) (omega arith)) (λ i more within. after (suc i) (omega arith) (omega arith)) in
     (rest.0, rw first (ap (λ (l : List Ordering). Less ∷ l) rest.1))
+
+-- only of no places it can be said whatever the width
+pub nothing_left : (low len : ℕ) → IsOneRun low len 0 → len ≡ 0
+nothing_left low len run = elim run [
+  | inl none ↦ none
+  | inr some ↦ absurd (omega (arith, some.0))
+]
+
+-- where none are left, all before are `Less` and all behind are `Greater`
+pub none_left : (orders : List Ordering) (low len : ℕ) → IsNarrowed orders low (low + len) → len ≡ 0
+    → (greater : ℕ) × (orders ≡ replicate low Less ++ replicate greater Greater)
+none_left orders low len left none =
+    narrowed_to_none low orders (omega (arith, left.ends, left.within)) left.before (λ i more. left.after i (omega (arith, more, none)))

@@ -1,5 +1,5 @@
 -- Facts on the keys of texts.
-use Rattle.std.proofs.Common.{◌≡◌, ℕ, zero, suc, ◌+◌, ◌*◌, ◌^◌, ◌<◌, ◌≤◌, ◌⊎◌, inl, inr, List, [], ◌∷◌, length, get_or, refl, sym, ◌∙◌, arith, ◌≢◌, Less, Equal, Greater}
+use Rattle.std.proofs.Common.{◌≡◌, ℕ, zero, suc, ◌+◌, ◌*◌, ◌^◌, ◌<◌, ◌≤◌, ◌⊎◌, inl, inr, List, [], ◌∷◌, length, get_or, refl, sym, arith, true, false, not, nat_eq, nat_lt, ◌&&◌, ◌||◌, Less, Equal, Greater}
 use Rattle.std.specs.Cmp.{nat_cmp_is}
 use Rattle.std.specs.Cmp.Lexicographic.{slice_cmp}
 use Rattle.std.specs.Int.{w32, w64, from_be_bytes}
@@ -98,31 +98,20 @@ module _ (head tail : ℕ) (x : List ℕ) (of_x : IsKeyOf head tail x) (other_he
   when_greater : key_of y < key_of x → len_cmp x y ≡ Greater
   when_greater above = turned y x (key_less y x of_y.bytes of_x.bytes above)
 
-  -- where the upper parts differ, they tell how the texts compare
-  pub heads_tell : head ≢ other_head → nat_cmp head other_head ≡ len_cmp x y
-  heads_tell differ = next (cases_lt head other_head)
-    where
-      next : (head < other_head) ⊎ (other_head ≤ head) → nat_cmp head other_head ≡ len_cmp x y
-      next (inl below) = less head other_head below ∙ sym (when_less (omega (arith, below, of_x.upper, of_y.upper)))
-      next (inr above) =
-          let more : other_head < head = omega (arith, above, differ) in
-          sym (nat_cmp_is head other_head Greater more) ∙ sym (when_greater (omega (arith, more, of_x.upper, of_y.upper)))
+  -- the lesser key is of the lesser text
+  pub key_tells_less : true ≡ (nat_lt head other_head || (nat_eq head other_head && nat_lt tail other_tail)) → len_cmp x y ≡ Less
+  key_tells_less is = when_less (grind (arith, nat_tests, is, of_x.upper, of_y.upper, of_x.lower, of_y.lower))
 
-  -- where those are equal, the lower parts do
-  pub tails_tell : head ≡ other_head → tail ≢ other_tail → nat_cmp tail other_tail ≡ len_cmp x y
-  tails_tell is differ = next (cases_lt tail other_tail)
-    where
-      next : (tail < other_tail) ⊎ (other_tail ≤ tail) → nat_cmp tail other_tail ≡ len_cmp x y
-      next (inl below) = less tail other_tail below ∙ sym (when_less (omega (arith, is, below, of_x.upper, of_y.upper, of_x.lower, of_y.lower)))
-      next (inr above) =
-          let more : other_tail < tail = omega (arith, above, differ) in
-          sym (nat_cmp_is tail other_tail Greater more) ∙ sym (when_greater (omega (arith, is, more, of_x.upper, of_y.upper, of_x.lower, of_y.lower)))
+  -- and of two that differ the other is of the greater
+  pub key_tells_greater : true ≡ not (nat_eq tail other_tail && nat_eq head other_head) → false ≡ (nat_lt head other_head || (nat_eq head other_head && nat_lt tail other_tail))
+      → len_cmp x y ≡ Greater
+  key_tells_greater differ is = when_greater (grind (arith, nat_tests, differ, is, of_x.upper, of_y.upper, of_x.lower, of_y.lower))
 
   -- equal keys of at most eleven bytes are of one text
-  pub all_told : head ≡ other_head → tail ≡ other_tail → head < 12 * 2 ^ 56 → Equal ≡ len_cmp x y
-  all_told heads tails few =
-      let keys : key_of x ≡ key_of y = omega (arith, heads, tails, of_x.upper, of_y.upper, of_x.lower, of_y.lower) in
-      sym ((len_cmp-Equal x y).1 (key_same x y of_x.bytes of_y.bytes keys (omega (arith, few, of_x.upper))))
+  pub key_tells_equal : false ≡ not (nat_eq tail other_tail && nat_eq head other_head) → true ≡ nat_lt other_head (12 * 2 ^ 56) → len_cmp x y ≡ Equal
+  key_tells_equal is few =
+      let keys : key_of x ≡ key_of y = grind (arith, nat_tests, is, of_x.upper, of_y.upper, of_x.lower, of_y.lower) in
+      (len_cmp-Equal x y).1 (key_same x y of_x.bytes of_y.bytes keys (grind (arith, nat_tests, few, keys, of_y.upper)))
 
 module _ (text : List ℕ) where
   key_of-large : 255 ≤ length text → key_of text ≡ 255 * 2 ^ 88

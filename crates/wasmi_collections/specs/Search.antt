@@ -1,5 +1,5 @@
 -- A search in a list that is sorted, seen as how each item compares with what is searched.
-use Rattle.std.specs.Prelude.{◌≡◌, ℕ, Bool, List, [], ◌∷◌, ◌++◌, replicate, Some, Result, Ok, Err, if◌then◌else◌, slice_get}
+use Rattle.std.specs.Prelude.{◌≡◌, ℕ, ◌+◌, ◌-◌, ◌/◌, ◌<◌, ◌≤◌, ◌⊎◌, Bool, List, [], ◌∷◌, ◌++◌, length, replicate, Option, None, Some, Result, Ok, Err, if◌then◌else◌, slice_get}
 use Rattle.std.specs.declared.cmp.Ordering.{Ordering}
 use Rattle.std.specs.declared.cmp.Ordering.TheVariants.{Less, Equal, Greater}
 
@@ -19,3 +19,20 @@ pub record IsSearchable (orders : List Ordering) : Type 0 where
 abbrev pub IsFound : List Ordering → Result ℕ ℕ → Type 0
 IsFound orders (Ok place) = slice_get orders place ≡ Some Equal
 IsFound orders (Err less) = (greater : ℕ) × (orders ≡ replicate less Less ++ replicate greater Greater)
+
+-- what is searched stands or belongs from `low` on and before `high`, or at `high`
+pub record IsNarrowed (orders : List Ordering) (low high : ℕ) : Type 0 where
+  pub ends : low ≤ high
+  pub within : high ≤ length orders
+  pub before : (i : ℕ) → i < low → slice_get orders i ≡ Some Less
+  pub after : (i : ℕ) → high ≤ i → i < length orders → slice_get orders i ≡ Some Greater
+
+-- these places are none, or lie between two multiples of a width
+abbrev pub IsOneRun : ℕ → ℕ → ℕ → Type 0
+IsOneRun low len width = (len ≡ 0) ⊎ ((0 < width) × (low / width ≡ (low + len - 1) / width))
+
+-- where a search goes on after it looked at an item of this order: at `next` where it is `Less`, at `low` where
+-- it is `Greater`, and nowhere where it is `Equal`
+abbrev pub GoesOn : Option Ordering → ℕ → ℕ → Option ℕ → Type 0
+GoesOn order low next None = order ≡ Some Equal
+GoesOn order low next (Some place) = ((place ≡ next) × (order ≡ Some Less)) ⊎ ((place ≡ low) × (order ≡ Some Greater))

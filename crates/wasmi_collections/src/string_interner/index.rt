@@ -1,14 +1,15 @@
 //! The index of an interner.
-ghost use Rattle.std.specs.Prelude.{◌≡◌, ◌<◌, ◌≤◌, [], length, IfOk, OnOk, IsOkUnless, Some, slice_get};
+ghost use Rattle.std.specs.Prelude.{◌≡◌, ℕ, ◌/◌, ◌%◌, ◌<◌, ◌≤◌, [], length, IfOk, OnOk, IsOkUnless, Some, slice_get};
 ghost use Rattle.std.specs.List.{insert};
+ghost use Rattle.wasmi_collections.specs.IndexBlocks.{width};
 
 mod block;
 mod blocks;
 mod ring;
 
 use super::entry::Entry;
-use block::Block;
-use ring::WIDTH;
+pub(super) use block::Block;
+pub(super) use ring::WIDTH;
 use std::alloc::Allocator;
 use std::marker::Model;
 use wasmi_arena::ArenaError;
@@ -59,7 +60,16 @@ impl<A: Allocator> Index<A> {
         requires { rank < length self.now.entries }
         ensures { slice_get self.now.entries rank ≡ Some result }
     {
-        self.blocks[rank / WIDTH].at(rank % WIDTH)
+        self.block(rank).at(rank % WIDTH)
+    }
+
+    // The block of a rank.
+    pub(super) fn block(&self, rank: usize) -> &Block<A>
+        requires { rank < length self.now.entries }
+        ensures { (other : ℕ) → other / width ≡ rank / width → other < length self.now.entries
+            → slice_get result.now.entries (other % width) ≡ slice_get self.now.entries other }
+    {
+        &self.blocks[rank / WIDTH]
     }
 
     // Makes room for one more entry.

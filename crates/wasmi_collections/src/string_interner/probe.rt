@@ -1,8 +1,9 @@
 //! A binary search.
-ghost use Rattle.std.specs.Prelude.{◌≡◌, ℕ, ◌+◌, ◌-◌, ◌<◌, ◌≤◌, ◌^◌, List, length, IfErr, Some, slice_get};
+ghost use Rattle.std.specs.Prelude.{◌≡◌, ℕ, ◌+◌, ◌-◌, ◌<◌, ◌≤◌, ◌^◌, List, length, IfOk, IfErr, Some, slice_get};
 ghost use Rattle.std.specs.declared.cmp.Ordering.{Ordering};
+ghost use Rattle.std.specs.declared.cmp.Ordering.TheVariants.{Equal};
 ghost use Rattle.wasmi_collections.specs.BinaryDigits.{digits};
-ghost use Rattle.wasmi_collections.specs.Search.{IsSearchable, IsFound};
+ghost use Rattle.wasmi_collections.specs.Search.{IsSearchable, IsFound, IsNarrowed, IsOneRun, GoesOn};
 
 use std::cmp::Ordering;
 
@@ -38,15 +39,101 @@ pub fn search<P: Probe>(len: usize, probe: &mut P) -> Result<usize, usize>
     ensures looked { 0 < len → P.looks probe.old < P.looks probe.new }
     ensures many_looks { IfErr result (λ _. P.looks probe.old + digits (len + 1) ≤ P.looks probe.new + 1) }
 {
-    let mut low = 0;
-    let mut high = len;
-    while low < high {
-        let middle = low + (high - low) / 2;
-        match probe.look(middle) {
-            Ordering::Less => low = middle + 1,
-            Ordering::Equal => return Ok(middle),
-            Ordering::Greater => high = middle,
+    match search_rest(Rest { low: 0, len }, 0, probe) {
+        Ok(place) => Ok(place),
+        Err(rest) => Err(rest.low),
+    }
+}
+
+// What a search has left: so many items from a place on. What is searched stands or belongs at one of these,
+// or right behind them.
+#[derive(Copy, Clone)]
+pub(super) struct Rest {
+    pub(super) low: usize,
+    pub(super) len: usize,
+}
+
+// As a `Probe`, for a part of a list, and tells where the search goes on. A `match` on the answer of `look` is
+// a branch, which is foreseen half the time. Here the place goes on where the order is known, by a select.
+pub(super) trait Narrow {
+    // How each item of the list compares with what is searched.
+    ghost orders: { Self → List Ordering };
+
+    // How many times an item was looked at.
+    ghost looks: { Self → ℕ };
+
+    // The places that can be looked at.
+    ghost reads: { Self → ℕ → Type 0 };
+
+    // Compares the item at a place with what is searched: `next` where the item is less, `low` where it is
+    // greater, and nothing where it is equal.
+    fn narrow(&mut self, at: usize, low: usize, next: usize) -> Option<usize>
+        requires within { reads self.old at }
+        requires countable { looks self.old < 2 ^ 64 - 1 }
+        ensures goes_on { GoesOn (slice_get (orders self.old) at) low next result }
+        ensures kept { orders self.new ≡ orders self.old }
+        ensures readable { (place : ℕ) → reads self.old place → reads self.new place }
+        ensures counted { looks self.new ≡ looks self.old + 1 };
+}
+
+impl<P: Probe> Narrow for P {
+    ghost orders = { P.orders };
+
+    ghost looks = { P.looks };
+
+    ghost reads = { λ probe place. place < length (P.orders probe) };
+
+    fn narrow(&mut self, at: usize, low: usize, next: usize) -> Option<usize> {
+        match self.look(at) {
+            Ordering::Less => Some(next),
+            Ordering::Equal => None,
+            Ordering::Greater => Some(low),
         }
     }
-    Err(low)
+}
+
+// Searches in the rest of a list, until it is found, or what is left lies between two multiples of `width`, or
+// is nothing. After the first look so many items are left as are one less than a power of two, whatever
+// the look told, and half of them after each other one: a search looks as often whatever it finds.
+pub(super) fn search_rest<N: Narrow>(rest: Rest, width: usize, list: &mut N) -> Result<usize, Rest>
+    requires in_order { IsSearchable (N.orders list.old) }
+    requires rest { IsNarrowed (N.orders list.old) rest.low (rest.low + rest.len) }
+    requires fits { rest.low + rest.len < 2 ^ 64 }
+    requires readable { (place : ℕ) → rest.low ≤ place → place < rest.low + rest.len → N.reads list.old place }
+    requires countable { N.looks list.old ≤ 2 ^ 63 + 64 }
+    ensures found { IfOk result (λ place. slice_get (N.orders list.old) place ≡ Some Equal) }
+    ensures left { IfErr result (λ left. IsNarrowed (N.orders list.old) left.low (left.low + left.len)) }
+    ensures run { IfErr result (λ left. IsOneRun left.low left.len width) }
+    ensures kept { N.orders list.new ≡ N.orders list.old }
+    ensures few_looks { N.looks list.new ≤ N.looks list.old + digits rest.len }
+    ensures fewer_looks { IfErr result (λ left. N.looks list.new + digits left.len ≤ N.looks list.old + digits rest.len) }
+    ensures looked { IfOk result (λ _. N.looks list.old < N.looks list.new) }
+    ensures more_looks { N.looks list.old ≤ N.looks list.new }
+    ensures moved { IfErr result (λ left. left.len < rest.len → N.looks list.old < N.looks list.new) }
+    ensures many_looks { IfErr result (λ left. N.looks list.old + digits (rest.len + 1)
+        ≤ N.looks list.new + digits (left.len + 1)) }
+{
+    let mut low = rest.low;
+    let mut len = rest.len;
+    while 0 < len && (width == 0 || low / width != (low + len - 1) / width) {
+        let half = half_of(len);
+        let at = low + half;
+        match list.narrow(at, low, low + (len - half)) {
+            Some(place) => low = place,
+            None => return Ok(at),
+        }
+        len = half;
+    }
+    Err(Rest { low, len })
+}
+
+// The greatest number that is less than another one, and one less than a power of two.
+#[inline]
+fn half_of(len: usize) -> usize
+    requires { 0 < len }
+    ensures less { result < len }
+    ensures half { len ≤ result + result + 1 }
+    ensures digit { digits result + 1 ≤ digits len }
+{
+    (1 << len.ilog2()) - 1
 }

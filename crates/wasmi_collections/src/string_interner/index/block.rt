@@ -11,7 +11,7 @@ use std::marker::Model;
 // The first entries of a ring. What a full ring has behind them stands for none, so that an entry goes to the
 // front as to the end, and moves no other.
 #[derive(Drop)]
-pub(super) struct Block<A: Allocator> {
+pub(in crate::string_interner) struct Block<A: Allocator> {
     ring: Ring<A>,
     len: usize,
 }
@@ -46,7 +46,7 @@ impl<A: Allocator> Block<A> {
     }
 
     // The entry at a place.
-    pub(super) fn at(&self, place: usize) -> Entry
+    pub(in crate::string_interner) fn at(&self, place: usize) -> Entry
         requires { place < length self.now.entries }
         ensures { result ≡ slice_index_or self.now.entries place result }
     {

@@ -10,7 +10,7 @@ use std::marker::Model;
 use std::mem;
 
 // How many entries a full ring has, and so a full block.
-pub(super) const WIDTH: usize = 1024;
+pub(in crate::string_interner) const WIDTH: usize = 1024;
 
 // Entries in a ring.
 #[derive(Drop)]

@@ -1,19 +1,8 @@
 use Rattle.std.proofs.Common.{map, string_bytes, arith, sym, ◌∙◌}
 use Rattle.std.proofs.lemmas.List.{length-map}
 use Rattle.wasmi_collections.specs.TextIndex.{symbols_of}
-use Rattle.wasmi_collections.proofs.TextIndex.{AreEntriesOf-insert, IsSearchable-texts, found_nowhere, found_symbol, length-orders, length-symbols, place_within, rank_within, symbol_at, symbol_of-at, symbol_of-nowhere}
+use Rattle.wasmi_collections.proofs.TextIndex.{AreEntriesOf-insert, found_nowhere, found_symbol, place_within, rank_within, symbol_at, symbol_of-at, symbol_of-nowhere}
 use Rattle.wasmi_collections.proofs.string_interner.find.find.Goals as goal
-
-pub invariant_of-probe : goal.invariant_of-probe
-invariant_of-probe g c = record { keyed = c.requires.keyed; entries = c.requires.indexed.each }
-
-pub search-found-requires-clause-whole : goal.search-found-requires-clause-whole
-search-found-requires-clause-whole g c =
-    let texts = map (string_bytes {Z = g.row.A.Denot}) c.args.texts.now.items in let symbols = symbols_of c.args.index.now.entries in
-    omega (arith, c.len.ensures, length-orders c.args.text.now texts symbols, length-symbols texts symbols c.requires.indexed.index, length-map c.args.texts.now.items (string_bytes {Z = g.row.A.Denot}))
-
-pub search-found-requires-clause-in_order : goal.search-found-requires-clause-in_order
-search-found-requires-clause-in_order g c = IsSearchable-texts c.args.text.now _ c.requires.indexed.index.ascending
 
 pub at-requires : goal.at-requires
 at-requires g c =
