@@ -1,9 +1,6 @@
 //! Answers the script on standard input on standard output.
 #![tactic(auto)]
 
-#[cfg(test)]
-mod tests;
-
 use std::process::ExitCode;
 use wasmi_script_lib::{exit_status, run};
 

@@ -1,4 +1,4 @@
-//! Tests of the entity store.
+//! Tests of scripts and of the entity store.
 #![tactic(auto)]
 
 #[cfg(test)]
@@ -6,4 +6,8 @@ mod memory;
 #[cfg(test)]
 mod or_abort;
 #[cfg(test)]
+mod scripts;
+#[cfg(test)]
 mod store;
+#[cfg(test)]
+mod streams;

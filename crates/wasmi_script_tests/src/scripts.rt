@@ -1,0 +1,130 @@
+//! Scripts: worked replies, texts and statuses of errors, long scripts.
+use crate::or_abort::OrAbort;
+use std::process::Abort;
+use wasmi_script_lib::{ScriptError, answer};
+use wasmi_vectors::assert_equal;
+
+#[test]
+fn replies(rt: HostRuntime) {
+    let cases = [
+        (
+            "a \ng 0\n\ng\ng 00\np 4294967263\np 4294967264\nr 99999999999\n\
+                g 18446744073709551616\na\n",
+            "key 0\ntext \nbad line 3\nbad line 4\ntext \nplace 26 2147483647\nnone\nnone\n\
+                bad line 9\nbad line 10\n",
+        ),
+        (
+            "g 0\na x\na x\ng +0\ng 18446744073709551615\nn",
+            "error encounteded out of bounds key\nkey 0\nkey 1\nbad line 4\n\
+                error encounteded out of bounds key\ncounts 2 0 0 32\n",
+        ),
+        ("a x\r\ng 0\r\ng 0", "key 0\nbad line 2\ntext x\r\n"),
+        (
+            "d x\nd y\nd x\nn\ni x\n",
+            "key 0\nkey 1\nkey 0\ncounts 0 2 0 0\nsym 0\n",
+        ),
+        (
+            "i x\ni y\ni x\nn\nr 0\nr 01\nr 2\nr 4294967295\nr 4294967296\nr +0\nr\n",
+            "sym 0\nsym 1\nsym 0\ncounts 0 0 2 0\ntext x\ntext y\nnone\nnone\nnone\n\
+                bad line 10\nbad line 11\n",
+        ),
+        (
+            "d\ni\nd \ni \nr 0\na \ng 0\nd  \nn\n",
+            "bad line 1\nbad line 2\nkey 0\nsym 0\ntext \nkey 0\ntext \nkey 1\n\
+                counts 1 2 1 32\n",
+        ),
+        (
+            "e ann user\ne bob user\ne ann group\nv 1 42\nv 1 7\nk 0 admin\nq 1\nq 2\n\
+                k 2 admin\nk 5 admin\nq 5\nq\nn\ne x\nv 0 x\ne ann \n",
+            "entity 0\nentity 1\nentity 2\nwas none\nwas 42\ndone\nis 7 bob admin\n\
+                is none ann group\nerror item is already in the arena\n\
+                error encounteded out of bounds key\nerror encounteded out of bounds key\n\
+                bad line 12\ncounts 0 0 0 0\nbad line 14\nbad line 15\nentity 3\n",
+        ),
+        (
+            "e a b c \nq 0\nk 0 \nq 00\ne  k\ne\ne \nv 0\nv 0 \nv 0 +1\nv 0 1 2\nk 0\nk  x\nk 0  x\n\
+                q 0\nv 4294967296 1\nv 18446744073709551616 1\nv 0 18446744073709551615\n\
+                k 4294967295 x\nk 4294967296 x\nq 4294967296\nq 18446744073709551616\nq 0 \nq 0",
+            "entity 0\nis none a b c \ndone\nis none a \nbad line 5\nbad line 6\nbad line 7\nbad line 8\n\
+                bad line 9\nbad line 10\nbad line 11\nbad line 12\nbad line 13\ndone\n\
+                is none a  x\nerror encounteded out of bounds key\nbad line 17\nwas none\n\
+                error encounteded out of bounds key\nerror encounteded out of bounds key\n\
+                error encounteded out of bounds key\nbad line 22\nbad line 23\n\
+                is 18446744073709551615 a  x\n",
+        ),
+    ];
+    for (script, wanted) in cases {
+        let replies = answer(rt.alloc(), script).or_abort(&rt);
+        assert_equal!(rt; replies.as_str(), wanted);
+    }
+}
+
+#[test]
+fn errors_have_texts_and_statuses(rt: HostRuntime) {
+    let cases = [
+        (ScriptError::NoMemory, "out of memory", 1),
+        (ScriptError::ReadFailed, "read failed", 1),
+        (ScriptError::WriteFailed, "write failed", 1),
+        (ScriptError::NotUtf8, "not UTF-8", 2),
+    ];
+    for (error, text, status) in cases {
+        assert_equal!(rt; error.to_string(rt.alloc()).or_abort(&rt).as_str(), text);
+        assert_equal!(rt; error.status(), status, "of {text}");
+    }
+}
+
+// 200,000 lines, and 17 MiB of replies.
+#[test]
+fn long_scripts(rt: HostRuntime) {
+    let mut script = String::new(rt.alloc());
+    for _ in 0..200_000u32 {
+        script.push_str("n\n").or_abort(&rt);
+    }
+    let replies = answer(rt.alloc(), &script).or_abort(&rt);
+    assert_equal!(rt; replies.lines().count(), 200_000);
+    assert!(rt; replies.lines().all(|line| line == "counts 0 0 0 0"));
+    let mut script = String::new(rt.alloc());
+    script.push_str("a ").or_abort(&rt);
+    for _ in 0..65_536u32 {
+        script.push_str("0123456789abcdef").or_abort(&rt);
+    }
+    for _ in 0..17u32 {
+        script.push_str("\ng 0").or_abort(&rt);
+    }
+    let replies = answer(rt.alloc(), &script).or_abort(&rt);
+    assert_equal!(rt; replies.len(), 6 + 17 * (6 + (1 << 20)));
+}
+
+// 5,000 entities of as many names and kinds. The property of the last comes first.
+#[test]
+fn many_entities(rt: HostRuntime) {
+    let mut script = String::new(rt.alloc());
+    for number in 0..5_000u32 {
+        writeln!(script, "e name_{number} kind_{number}").or_abort(&rt);
+    }
+    writeln!(script, "v 4999 1").or_abort(&rt);
+    for number in 0..5_000u32 {
+        writeln!(script, "v {number} {number}\nq {number}").or_abort(&rt);
+    }
+    let replies = answer(rt.alloc(), &script).or_abort(&rt);
+    assert_equal!(rt; replies.lines().count(), 15_001);
+    assert!(rt; replies.lines().all(|line| !line.starts_with("error")));
+    assert!(rt; replies.ends_with("\nwas 1\nis 4999 name_4999 kind_4999\n"));
+}
+
+// A name and a kind of 5,000 characters.
+#[test]
+fn long_names_and_kinds(rt: HostRuntime) {
+    let mut long = String::new(rt.alloc());
+    for _ in 0..500u32 {
+        long.push_str("0123456789").or_abort(&rt);
+    }
+    let script = format!(in rt.alloc(); "e {long} {long}\nq 0\nv 0 7\nk 0 x{long}\nq 0").or_abort(
+        &rt,
+    );
+    let wanted = format!(in rt.alloc();
+        "entity 0\nis none {long} {long}\nwas none\ndone\nis 7 {long} x{long}\n"
+    ).or_abort(&rt);
+    let replies = answer(rt.alloc(), &script).or_abort(&rt);
+    assert_equal!(rt; replies.as_str(), wanted.as_str());
+}
