@@ -3,7 +3,7 @@ use Rattle.std.proofs.lemmas.List.Elements.{length_all_zip}
 use Rattle.wasmi_arena.specs.Bucket.{Bucket}
 use Rattle.wasmi_arena.specs.Geometry.{size, fewest}
 use Rattle.wasmi_arena.proofs.Geometry.{size_pos, start_below}
-use Rattle.wasmi_arena.proofs.Cloned.{cloned_none, cloned_next, part_some, part_bucket, part_no_room, part_fits, part_within, part_all}
+use Rattle.wasmi_arena.proofs.Cloned.{cloned_none, cloned_next, part_of_none, part_some, part_bucket, part_no_room, part_fits, part_within, part_all}
 use Rattle.wasmi_arena.proofs.stable_vec.StableVec.clone_in.Goals as goal
 
 pub loop-part-init : goal.loop-part-init
@@ -59,3 +59,15 @@ append_bucket-requires g c =
 pub loop-part-preserved : goal.loop-part-preserved
 loop-part-preserved g c =
     rw c.append_bucket.ensures (cloned_next g.T.Clone.is_clone _ _ _ _ (rw c.in-Some.ensures.steps at c.loop-part.invariant) c.slices-part-items.ensures.bound _ c.in_ok-push_clones.ensures.items)
+
+pub returns-in_err-clone-clause-empty : goal.returns-in_err-clone-clause-empty
+returns-in_err-clone-clause-empty g c = λ none.
+    absurd (part_of_none g.T.Clone.is_clone _ _ _ _ (rw c.in-Some.ensures.steps at c.loop-part.invariant) c.slices-part-items.ensures.bound none)
+
+pub returns-in_err-next-clause-empty : goal.returns-in_err-next-clause-empty
+returns-in_err-next-clause-empty g c = λ none.
+    absurd (part_of_none g.T.Clone.is_clone _ _ _ _ (rw c.in-Some.ensures.steps at c.loop-part.invariant) c.slices-part-items.ensures.bound none)
+
+pub returns-in_err-push_clones-clause-empty : goal.returns-in_err-push_clones-clause-empty
+returns-in_err-push_clones-clause-empty g c = λ none.
+    absurd (part_of_none g.T.Clone.is_clone _ _ _ _ (rw c.in-Some.ensures.steps at c.loop-part.invariant) c.slices-part-items.ensures.bound none)

@@ -75,3 +75,11 @@ returns-in_ok-replace-in-None-clause-ok g c =
     let told = c.texts_handed_in.ensures.replaced old c.replace.new.self c.args.number value c.in_ok-replace-in-None.field-0 (rw c.in_ok-from_str-in-None.ensures.ok absent) c.in_ok-replace-in-None.ensures.ok in
     let low = rw (← c.self.view_is) at c.requires in
     rw (← c.self.view_is) (told.0 ∙ (ap (slice_set (texts_of old) c.args.number) c.in_ok-from_str-in-None.ensures.ok ∙ renamed-set (slice_index_or (texts_of old) c.args.number []) c.args.kind.now (texts_of old) c.args.number (c.texts_handed_in.ensures.distinct old.handed c.len.ensures.distinct) (slice_get-get_or (texts_of old) c.args.number [] low)))
+
+pub returns-in_err-replace-in-None-clause-same : goal.returns-in_err-replace-in-None-clause-same
+returns-in_err-replace-in-None-clause-same g c =
+    let old = c.self.inside.texts in
+    let absent : symbol_of (texts_of old) c.args.kind.now ≡ None = no_place_found _ c.in-None.ensures.value in
+    let distinct = c.texts_handed_in.ensures.distinct old.handed c.len.ensures.distinct in
+    let low = rw (← c.self.view_is) at c.requires in
+    rw (← c.self.view_is) (λ same. absurd (none-some c.args.number (sym absent ∙ c.symbols_of_distinct_texts.ensures.stands (texts_of old) c.args.kind.now c.args.number distinct (slice_get-get_or (texts_of old) c.args.number [] low ∙ ap Some same))))

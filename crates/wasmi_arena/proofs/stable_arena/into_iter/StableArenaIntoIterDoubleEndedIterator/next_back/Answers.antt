@@ -25,3 +25,16 @@ pub overflow_add-self-inside : goal.overflow_add-self-inside
 overflow_add-self-inside g c =
     let one_less = ap length c.in_ok-item.ensures.steps in
     omega (arith, c.len.ensures, c.self.invariant, one_less, length-append c.next_back.new.self (c.in_ok-item.item ∷ []))
+
+pub unreachable-requires : goal.unreachable-requires
+unreachable-requires g c =
+    let one_less = ap length c.in_ok-item.ensures.steps in
+    c.in-None.ensures (omega (arith, c.len.ensures, c.self.invariant, one_less, length-append c.next_back.new.self (c.in_ok-item.item ∷ [])))
+
+pub invariant_of-self : goal.invariant_of-self
+invariant_of-self g c = omega (arith, c.self.invariant, ap length c.in_err-item.ensures.steps.1)
+
+pub invariant_of-self-2 : goal.invariant_of-self-2
+invariant_of-self-2 g c =
+    let one_less = ap length c.in_ok-item.ensures.steps in
+    omega (arith, c.self.invariant, one_less, length-append c.next_back.new.self (c.in_ok-item.item ∷ []))
