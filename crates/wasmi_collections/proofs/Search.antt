@@ -102,7 +102,7 @@ narrowed_to_none (suc low) (x ∷ xs) h before after =
     let rest = narrowed_to_none low xs (omega arith) (λ i less. before (suc i) (omega arith)) (λ i more within. after (suc i) (omega arith) (omega arith)) in
     (rest.0, rw first (ap (λ (l : List Ordering). Less ∷ l) rest.1))
 
--- only of no places it can be said whatever the width
+-- with no width, no places are left
 pub nothing_left : (low len : ℕ) → IsOneRun low len 0 → len ≡ 0
 nothing_left low len run = elim run [
   | inl none ↦ none

@@ -94,7 +94,8 @@ impl<P: Probe> Narrow for P {
 
 // Searches in the rest of a list, until it is found, or what is left lies between two multiples of `width`, or
 // is nothing. After the first look so many items are left as are one less than a power of two, whatever
-// the look told, and half of them after each other one: a search looks as often whatever it finds.
+// the look told, and half of them after each other one: a search that finds nothing looks as often whatever
+// it sees.
 pub(super) fn search_rest<N: Narrow>(rest: Rest, width: usize, list: &mut N) -> Result<usize, Rest>
     requires in_order { IsSearchable (N.orders list.old) }
     requires rest { IsNarrowed (N.orders list.old) rest.low (rest.low + rest.len) }
