@@ -1,6 +1,5 @@
 //! Scripts: worked replies, texts and statuses of errors, long scripts.
 use crate::or_abort::OrAbort;
-use std::process::Abort;
 use wasmi_script_lib::{ScriptError, answer};
 use wasmi_vectors::assert_equal;
 

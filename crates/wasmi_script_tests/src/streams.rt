@@ -1,7 +1,6 @@
 //! Readers and writers of a script that go byte by byte or fail.
 use std::alloc::Global;
 use std::io::{self, ErrorKind, Read, Write};
-use std::process::Abort;
 use wasmi_script_lib::{ScriptError, exit_status, run};
 use wasmi_vectors::assert_equal;
 
