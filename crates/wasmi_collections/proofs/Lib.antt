@@ -16,4 +16,5 @@ mod Search
 mod SetRuns
 mod TextIndex
 mod TextKey
+mod Texts
 mod WithSymbols

@@ -1,13 +1,12 @@
 -- Facts on an interner's texts and on the index of them.
-use Rattle.std.proofs.Common.{◌≡◌, ◌≢◌, ℕ, zero, suc, ◌+◌, ◌<◌, ◌≤◌, Bool, true, false, cond, List, [], ◌∷◌, ◌++◌, length, map, take, drop, replicate, get_or, Some, None, option_map, slice_get, string_bytes, ◌&&◌, ◌||◌, refl, sym, ap, subst, ◌∙◌, arith, Ordering, Less, Equal, Greater}
-use Rattle.std.specs.List.{All, AllByRecursion, AllZip, Contains, IsDistinct, insert, list_any, position_from, range_with_len}
+use Rattle.std.proofs.Common.{◌≡◌, ◌≢◌, ℕ, zero, suc, ◌+◌, ◌<◌, ◌≤◌, Bool, true, false, cond, List, [], ◌∷◌, ◌++◌, length, take, drop, replicate, get_or, Some, None, option_map, slice_get, ◌||◌, refl, sym, ap, subst, ◌∙◌, arith, Ordering, Less, Equal, Greater}
+use Rattle.std.specs.List.{All, AllByRecursion, Contains, IsDistinct, insert, list_any, position_from, range_with_len}
 use Rattle.std.specs.List.Sorted.{IsStrictlySortedBy}
 use Rattle.std.specs.Ordering.{ordering_reverse}
 use Rattle.std.specs.Str.{bytes_eq}
-use Rattle.std.specs.declared.string.String.{String}
-use Rattle.std.specs.Cmp.Lexicographic.{pointwise, nat_list_eq_equiv}
+use Rattle.std.specs.Cmp.Lexicographic.{nat_list_eq_equiv}
 use Rattle.std.proofs.lemmas.Iterator.Adapters.{position_from-zero}
-use Rattle.std.proofs.lemmas.List.{get_or_append_left, get_or-map, get_or_push, length_push, length-append, length-map, length-replicate, take-map, drop-map, map-append}
+use Rattle.std.proofs.lemmas.List.{get_or_append_left, get_or_push, length_push, length-append, length-map, length-replicate, take-map, drop-map, map-append}
 use Rattle.std.proofs.lemmas.List.Elements.{All-append, All-cons, All-drop, All-head, All-nil, All-tail, All-take, All-weaker}
 use Rattle.std.proofs.lemmas.List.FromFn.{length-range_with_len, get_or-range_with_len}
 use Rattle.std.proofs.lemmas.List.Quantifiers.{position-Some}
@@ -181,10 +180,6 @@ module _ (text : List ℕ) (texts : List (List ℕ)) (symbols : List ℕ) where
   rank_within less greater orders =
       omega (arith, length-orders, ap length orders, length-append (replicate less Less) (replicate greater Greater), length-replicate less Less)
 
--- what is read of a text in memory is read of its bytes
-pub get_or-bytes : {Z : Type 0} (items : List (String Z)) (s : ℕ) (item : String Z) → s < length items → item ≡ get_or items s item → get_or (map string_bytes items) s [] ≡ string_bytes item
-get_or-bytes items s item below read = get_or-map string_bytes items s item [] below ∙ ap string_bytes (sym read)
-
 no_equal : (less greater i : ℕ) → slice_get (replicate less Less ++ replicate greater Greater) i ≡ Some Equal → ⊥
 no_equal zero zero i at = none-some Equal at
 no_equal zero (suc greater) zero at = absurd (cc)
@@ -313,21 +308,3 @@ AreEntriesOf-nil = record { index = IsIndexOf-nil; each = All-nil (IsEntryOf [])
 pub AreDistinctTexts-nil : AreDistinctTexts []
 unfolding IsDistinct
 AreDistinctTexts-nil = tt
-
--- ---- texts in memory
-
-module _ {Z : Type 0} where
-  -- clones of texts have their bytes
-  pub bytes_of_clones : (items clones : List (String Z)) → AllZip (λ (s t : String Z). string_bytes t ≡ string_bytes s) items clones → map string_bytes clones ≡ map string_bytes items
-  bytes_of_clones [] [] same = refl
-  bytes_of_clones [] (y ∷ ys) same = absurd same
-  bytes_of_clones (x ∷ xs) [] same = absurd same
-  bytes_of_clones (x ∷ xs) (y ∷ ys) same =
-      let rest = bytes_of_clones xs ys same.1 in λ i. same.0 i ∷ rest i
-
-  -- texts are equal where their bytes are
-  pub pointwise-bytes : (xs ys : List (String Z)) → pointwise (λ (s t : String Z). bytes_eq (string_bytes s) (string_bytes t)) xs ys ≡ pointwise bytes_eq (map string_bytes xs) (map string_bytes ys)
-  pointwise-bytes [] [] = refl
-  pointwise-bytes [] (y ∷ ys) = refl
-  pointwise-bytes (x ∷ xs) [] = refl
-  pointwise-bytes (x ∷ xs) (y ∷ ys) = ap (λ b. bytes_eq (string_bytes x) (string_bytes y) && b) (pointwise-bytes xs ys)

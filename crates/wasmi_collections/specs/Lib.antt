@@ -18,3 +18,4 @@ pub mod SetCalls
 pub mod SetSteps
 pub mod TextIndex
 pub mod TextKey
+pub mod Texts

@@ -38,3 +38,7 @@ pub record AreEntriesOf (texts : List (List ℕ)) (entries : List Entry) : Type 
 -- how each of these texts compares with another
 abbrev pub orders_with : List ℕ → List (List ℕ) → List Ordering
 orders_with text texts = map (λ other. len_cmp other text) texts
+
+-- how the text of each entry of an index of these texts compares with another
+abbrev pub orders_by_rank : List ℕ → List (List ℕ) → List Entry → List Ordering
+orders_by_rank text texts entries = orders_with text (texts_of texts (symbols_of entries))

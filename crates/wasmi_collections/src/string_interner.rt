@@ -18,19 +18,22 @@ mod iter;
 mod key;
 mod len_order;
 mod probe;
+mod sought;
 mod steps;
+mod texts;
 
 use entry::Entry;
 use find::find;
 use index::Index;
 pub use iter::Iter;
-use key::Key;
 pub use len_order::LenOrder;
 pub use probe::{Probe, search};
+use sought::Sought;
 use std::alloc::{Allocator, Global};
 use std::fmt::{self, Debug, Display, Formatter, Write};
 use std::marker::Model;
 pub use steps::Steps;
+use texts::Texts;
 use wasmi_arena::{ArenaError, ArenaKey};
 
 /// What the caller expects of a text that it interns.
@@ -129,25 +132,26 @@ impl ArenaKey for Sym {
 ///
 /// An index of the symbols, sorted by [`LenOrder`], finds a text by a binary search. The texts are kept for the
 /// life of the interner, so a symbol is good for as long, and is cheaper to copy, compare and store than
-/// its text. There are at most 2^32 texts.
+/// its text. They lie one behind another in one block of memory, which grows as a vector does. There are at
+/// most 2^32 texts.
 #[derive(Drop)]
 pub struct StringInterner<A: Allocator = Global> {
-    texts: Vec<String<A>, A>,
+    texts: Texts<A>,
     index: Index<A>,
 }
 
 impl<A: Allocator> Model for StringInterner<A> {
-    ghost use Rattle.std.specs.Prelude.{◌≤◌, ◌^◌, ℕ, List, length, map, string_bytes};
+    ghost use Rattle.std.specs.Prelude.{◌≤◌, ◌^◌, ℕ, List, length};
     ghost use Rattle.wasmi_collections.specs.Interner.{AreDistinctTexts};
     ghost use Rattle.wasmi_collections.specs.TextIndex.{AreEntriesOf};
 
     ghost Value = { List (List ℕ) };
 
-    ghost view = { λ interner. map string_bytes interner.texts.items };
+    ghost view = { λ interner. interner.texts };
 
-    ghost invariant = { λ interner. AreDistinctTexts (map string_bytes interner.texts.items)
-        × AreEntriesOf (map string_bytes interner.texts.items) interner.index.entries
-        × (length interner.texts.items ≤ 2 ^ 32) };
+    ghost invariant = { λ interner. AreDistinctTexts interner.texts
+        × AreEntriesOf interner.texts interner.index.entries
+        × (length interner.texts ≤ 2 ^ 32) };
 }
 
 impl<A: Allocator> StringInterner<A> {
@@ -159,7 +163,7 @@ impl<A: Allocator> StringInterner<A> {
         ensures { result ≡ [] }
     {
         StringInterner {
-            texts: Vec::new(alloc),
+            texts: Texts::new(alloc),
             index: Index::new(alloc),
         }
     }
@@ -217,7 +221,7 @@ impl<A: Allocator> StringInterner<A> {
         ensures many_steps { symbol_of self.now text.now ≡ None
             → steps.old + digits (length self.now + 1) ≤ steps.new + 1 }
     {
-        find(&self.index, &self.texts, text, Key::of(text), steps).ok()
+        find(&self.index, &Sought::new(&self.texts, text), steps).ok()
     }
 
     /// The symbol of a text. A text that isn't there is copied, and its symbol is the number of texts
@@ -260,8 +264,9 @@ impl<A: Allocator> StringInterner<A> {
         A: Clone,
         ensures { Interning self.old text.now result self.new }
     {
-        let key = Key::of(text);
-        let rank = match find(&self.index, &self.texts, text, key, &mut Steps::new()) {
+        let sought = Sought::new(&self.texts, text);
+        let key = sought.key;
+        let rank = match find(&self.index, &sought, &mut Steps::new()) {
             Ok(symbol) => return Ok(symbol),
             Err(rank) => rank,
         };
@@ -270,10 +275,8 @@ impl<A: Allocator> StringInterner<A> {
         };
         let symbol = Sym::from_u32(number);
         self.index.reserve()?;
-        self.texts.reserve(1)?;
-        let copy = String::from_str(self.texts.allocator().clone()?, text)?;
+        self.texts.push(text)?;
         self.index.insert(rank, Entry::new(key, symbol));
-        self.texts.push_reserved(copy);
         Ok(symbol)
     }
 
@@ -300,9 +303,11 @@ impl<A: Allocator> StringInterner<A> {
     pub fn resolve(&self, symbol: Sym) -> Option<&str>
         ensures { option_copied result ≡ slice_get self.now symbol }
     {
-        match self.texts.get(symbol.into_usize()) {
-            Some(text) => Some(text.as_str()),
-            None => None,
+        let number = symbol.into_usize();
+        if number < self.len() {
+            Some(self.texts.get(number))
+        } else {
+            None
         }
     }
 
@@ -312,7 +317,7 @@ impl<A: Allocator> StringInterner<A> {
         requires { symbol < length self.now }
         ensures { slice_get self.now symbol ≡ Some result.now }
     {
-        self.texts[symbol.into_usize()].as_str()
+        self.texts.get(symbol.into_usize())
     }
 
     /// Each symbol with its text, in the order of the symbols. Constant time for each step.
@@ -322,8 +327,9 @@ impl<A: Allocator> StringInterner<A> {
         ensures bound { length self.now ≤ 2 ^ 32 }
     {
         Iter {
-            texts: self.texts.iter(),
+            texts: &self.texts,
             next: 0,
+            end: self.len(),
         }
     }
 }
@@ -374,7 +380,9 @@ impl<A: Allocator> Eq for StringInterner<A> {
 impl<A: Allocator> Debug for StringInterner<A> {
     fn fmt<W: Write>(&self, f: &mut Formatter<W>) -> fmt::Result {
         let mut list = f.debug_list();
-        list.entries(&self.texts);
+        for (_, text) in self {
+            list.entry(&text);
+        }
         list.finish()
     }
 }

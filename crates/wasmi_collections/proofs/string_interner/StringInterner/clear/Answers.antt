@@ -3,4 +3,4 @@ use Rattle.wasmi_collections.proofs.TextIndex.{AreDistinctTexts-nil, AreEntriesO
 use Rattle.wasmi_collections.proofs.string_interner.StringInterner.clear.Goals as goal
 
 pub invariant_of-self : goal.invariant_of-self
-invariant_of-self g c = rw (c.clear.ensures.items, c.clear-2.ensures) (AreDistinctTexts-nil, AreEntriesOf-nil, omega arith)
+invariant_of-self g c = rw (c.clear.ensures, c.clear-2.ensures) (AreDistinctTexts-nil, AreEntriesOf-nil, omega arith)

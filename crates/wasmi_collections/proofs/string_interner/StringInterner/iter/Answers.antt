@@ -1,10 +1,14 @@
-use Rattle.std.proofs.Common.{◌∙◌, sym, string_bytes}
-use Rattle.std.proofs.lemmas.List.{length-map}
-use Rattle.std.specs.Slice.Iter.{iter_rest}
-use Rattle.wasmi_collections.proofs.WithSymbols.{length-with_symbols_from}
+use Rattle.std.proofs.Common.{◌≡◌, length, sym, ap, ◌∙◌}
+use Rattle.wasmi_collections.specs.Interner.{with_symbols}
+use Rattle.wasmi_collections.proofs.WithSymbols.{length-with_symbols_from, symbols_of_all}
 use Rattle.wasmi_collections.proofs.string_interner.StringInterner.iter.Goals as goal
+
+pub returns-clause-entries : goal.returns-clause-entries
+returns-clause-entries g c =
+    let all : c.len.result ≡ length c.self.inside.texts = c.len.ensures.value ∙ ap length (sym c.self.view_is) in
+    symbols_of_all c.self.inside.texts c.len.result all ∙ ap with_symbols c.self.view_is
 
 pub returns-clause-len : goal.returns-clause-len
 returns-clause-len g c =
-    length-with_symbols_from 0 (iter_rest c.iter.result)
-    ∙ (rw (c.iter.ensures.rest, c.deref.ensures.value, ← c.self.view_is) (sym (length-map c.self.inside.texts.items (string_bytes {Z = g.row.A.Denot}))))
+    let all : c.len.result ≡ length c.self.inside.texts = c.len.ensures.value ∙ ap length (sym c.self.view_is) in
+    ap length (symbols_of_all c.self.inside.texts c.len.result all) ∙ (length-with_symbols_from 0 c.self.inside.texts ∙ ap length c.self.view_is)

@@ -3,4 +3,4 @@ use Rattle.wasmi_collections.proofs.TextIndex.{AreDistinctTexts-nil, AreEntriesO
 use Rattle.wasmi_collections.proofs.string_interner.StringInterner.new.Goals as goal
 
 pub invariant_of-result : goal.invariant_of-result
-invariant_of-result g c = rw (c.new.ensures.items, c.new-2.ensures) (AreDistinctTexts-nil, AreEntriesOf-nil, omega arith)
+invariant_of-result g c = rw (c.new.ensures, c.new-2.ensures) (AreDistinctTexts-nil, AreEntriesOf-nil, omega arith)

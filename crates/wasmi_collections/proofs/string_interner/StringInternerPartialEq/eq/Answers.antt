@@ -1,8 +1,4 @@
-use Rattle.std.proofs.Common.{◌∙◌}
-use Rattle.wasmi_collections.proofs.TextIndex.{pointwise-bytes}
 use Rattle.wasmi_collections.proofs.string_interner.StringInternerPartialEq.eq.Goals as goal
 
 pub returns : goal.returns
-returns g c =
-    rw (← c.self.view_is, ← c.other.view_is) (
-    c.eq.ensures ∙ pointwise-bytes c.self.inside.texts.items c.other.inside.texts.items)
+returns g c = rw (← c.self.view_is, ← c.other.view_is) c.eq.ensures

@@ -5,7 +5,7 @@ use Rattle.wasmi_collections.proofs.TextIndex.{IsSearchable-texts}
 use Rattle.wasmi_collections.proofs.string_interner.find.find_in_block.Goals as goal
 
 pub search_rest-found-requires-clause-in_order : goal.search_rest-found-requires-clause-in_order
-search_rest-found-requires-clause-in_order g c = IsSearchable-texts c.args.text.now _ c.requires.indexed.index.ascending
+search_rest-found-requires-clause-in_order g c = IsSearchable-texts c.args.sought.now.text.now _ c.requires.indexed.index.ascending
 
 pub returns-in-Err-clause-found : goal.returns-in-Err-clause-found
 returns-in-Err-clause-found g c =

@@ -1,8 +1,7 @@
-use Rattle.std.proofs.Common.{string_bytes, map}
 use Rattle.wasmi_collections.proofs.TextIndex.{entry_order}
 use Rattle.wasmi_collections.proofs.string_interner.find.IndexLooksNarrow.narrow.Goals as goal
 
 pub returns-clause-goes_on : goal.returns-clause-goes_on
 returns-clause-goes_on g c =
-    let self = c.args.self.now in let texts = map (string_bytes {Z = g.row.A.Denot}) self.texts.now.items in
-    rw (entry_order self.text.now texts self.index.now.entries c.args.at c.at.result c.at.ensures) c.compared.ensures
+    let self = c.args.self.now in let texts = self.sought.now.texts.now in
+    rw (entry_order self.sought.now.text.now texts self.index.now.entries c.args.at c.at.result c.at.ensures) c.compared.ensures

@@ -1,14 +1,15 @@
-use Rattle.std.proofs.Common.{arith, ap, length, length-append, [], ◌∷◌}
-use Rattle.std.specs.Slice.Iter.{iter_rest}
-use Rattle.wasmi_collections.proofs.WithSymbols.{length-with_symbols_from}
+use Rattle.std.proofs.Common.{◌<◌, ◌-◌, arith}
+use Rattle.wasmi_collections.proofs.WithSymbols.{symbols_left, with_symbols_last}
 use Rattle.wasmi_collections.proofs.string_interner.iter.IterDoubleEndedIterator.next_back.Goals as goal
+
+pub returns-clause-steps : goal.returns-clause-steps
+returns-clause-steps g c =
+    let it = c.self.inside in let some : it.next < it.end = omega (arith, c.self.invariant.0, c.if-self.false) in
+    rw (← c.self.view_is, c.from_usize.ensures) (with_symbols_last it.texts.now it.next it.end c.get.result.now some c.self.invariant.1 c.get.ensures)
 
 pub returns-clause-goes : goal.returns-clause-goes
 returns-clause-goes g c =
-    let old = iter_rest c.self.inside.texts in let new = iter_rest c.next_back.new.self in let text = c.in_ok-text.text.now in
-    let one_less = ap length c.in_ok-text.ensures.steps in
-    rw (← c.self.view_is) (record {
-      on = λ _. (tt, tt, omega (arith, one_less, length-append new (text ∷ []), length-with_symbols_from c.self.inside.next old, length-with_symbols_from c.self.inside.next new));
-      keeps = tt;
-      rests = λ _. tt;
-    })
+    let it = c.self.inside in let some : it.next < it.end = omega (arith, c.self.invariant.0, c.if-self.false) in
+    let before = symbols_left it.texts.now it.next it.end c.self.invariant.0 c.self.invariant.1 in
+    let after = symbols_left it.texts.now it.next (it.end - 1) (omega (arith, some)) (omega (arith, c.self.invariant.1)) in
+    rw (← c.self.view_is) (record { on = λ _. (tt, tt, omega (arith, before, after, some)); keeps = tt; rests = λ _. tt })
