@@ -1,92 +1,101 @@
--- Facts on texts that stand one behind another.
-use Rattle.std.proofs.Common.{◌≡◌, ℕ, zero, suc, ◌+◌, ◌-◌, ◌<◌, ◌≤◌, ◌&&◌, List, [], ◌∷◌, ◌++◌, length, take, drop, get_or, slice_range, slice_get, Some, inl, inr, IsUtf8, IsCharBoundary, refl, sym, ap, subst, append-nil, ◌∙◌, arith}
+-- Facts on texts that are joined to one.
+use Rattle.std.proofs.Common.{◌≡◌, ℕ, zero, suc, ◌+◌, ◌-◌, ◌<◌, ◌≤◌, ◌&&◌, Bool, List, [], ◌∷◌, ◌++◌, length, take, drop, get_or, slice_range, slice_get, option_map, Some, inl, inr, IsUtf8, IsCharBoundary, Decides, nat_eq, refl, sym, ap, subst, ◌∙◌, arith}
 use Rattle.std.specs.Cmp.Lexicographic.{pointwise}
 use Rattle.std.specs.Str.{bytes_eq}
-use Rattle.std.proofs.lemmas.Bool.Decides.{leb_tells, same_from_decides, Decides-and, Decides-like}
-use Rattle.std.proofs.lemmas.List.{length-append, length-drop, length-take-le, get_or_append_left, take-append-le, take_all, drop-append-le, drop_at}
+use Rattle.std.proofs.lemmas.Bool.Decides.{leb_tells, same_from_decides, Decides-and, Decides-eqb, Decides-like}
+use Rattle.std.proofs.lemmas.List.{length-append, length-drop, length-map, length-take-le, get_or_append_left, take-append-le, take_all, drop-append-le, drop_all, drop_at}
 use Rattle.std.proofs.lemmas.List.Folds.{drop_split}
+use Rattle.std.proofs.lemmas.Option.{slice_get-get_or, slice_get-map}
 use Rattle.std.proofs.lemmas.Slice.Eq.{bytes_eq-Decides, slice_eq-Decides}
 use Rattle.std.proofs.lemmas.Str.{IsCharBoundary-at_seam}
-use Rattle.wasmi_collections.specs.Texts.{AreEnds, texts_between}
+use Rattle.wasmi_collections.specs.Texts.{AreJoined, texts_at}
+use Rattle.wasmi_collections.specs.declared.string_interner.texts.Part.{Part}
 
 module _ (joined : List ℕ) where
-  -- there are as many texts as ends
-  pub length-texts_between : (from : ℕ) (ends : List ℕ) → length (texts_between joined from ends) ≡ length ends
-  length-texts_between from [] = refl
-  length-texts_between from (end ∷ ends) = ap suc (length-texts_between end ends)
+  pub length-texts_at : (parts : List Part) → length (texts_at joined parts) ≡ length parts
+  length-texts_at parts = length-map parts (λ part. slice_range joined part.start part.end)
 
-  -- a text lies between the end of the one before and its own
-  pub text_between : (from : ℕ) (ends : List ℕ) (i d : ℕ) → i < length (texts_between joined from ends) → slice_get (texts_between joined from ends) i ≡ Some (slice_range joined (get_or (from ∷ ends) i 0) (get_or ends i d))
-  text_between from [] i d within = absurd (omega (arith, within))
-  text_between from (end ∷ ends) zero d within = refl
-  text_between from (end ∷ ends) (suc i) d within = text_between end ends i d (omega (arith, within))
+  -- the text at a position is the part there
+  pub text_at : (parts : List Part) (i : ℕ) (d : Part) → i < length (texts_at joined parts) → slice_get (texts_at joined parts) i ≡ Some (slice_range joined (get_or parts i d).start (get_or parts i d).end)
+  text_at parts i d within =
+      let range : Part → List ℕ = λ part. slice_range joined part.start part.end in
+      slice_get-map range parts i ∙ ap (option_map range) (slice_get-get_or parts i d (omega (arith, within, length-texts_at parts)))
 
-  pub start_le_end : (from : ℕ) (ends : List ℕ) (i d : ℕ) → AreEnds joined from ends → i < length (texts_between joined from ends) → get_or (from ∷ ends) i 0 ≤ get_or ends i d
-  start_le_end from [] i d are within = absurd (omega (arith, within))
-  start_le_end from (end ∷ ends) zero d are within = are.0
-  start_le_end from (end ∷ ends) (suc i) d are within = start_le_end end ends i d are.2 (omega (arith, within))
+  -- a part ends at or behind its start, and both lie between characters
+  pub record IsPart (part : Part) : Type 0 where
+    pub ends : part.start ≤ part.end
+    pub start : 0 < part.start → IsCharBoundary joined part.start
+    pub end : IsCharBoundary joined part.end
 
-  pub end_boundary : (from : ℕ) (ends : List ℕ) (i d : ℕ) → AreEnds joined from ends → i < length (texts_between joined from ends) → IsCharBoundary joined (get_or ends i d)
-  end_boundary from [] i d are within = absurd (omega (arith, within))
-  end_boundary from (end ∷ ends) zero d are within = are.1
-  end_boundary from (end ∷ ends) (suc i) d are within = end_boundary end ends i d are.2 (omega (arith, within))
+  part_from : (from : ℕ) (parts : List Part) (i : ℕ) (d : Part) → (0 < from → IsCharBoundary joined from) → AreJoined joined from parts → i < length parts → IsPart (get_or parts i d)
+  part_from from [] i d begins are within = absurd (omega (arith, within))
+  part_from from (part ∷ parts) zero d begins are within =
+      record { ends = omega (arith, are.0, are.1); start = rw (are.0) begins; end = are.2 }
+  part_from from (part ∷ parts) (suc i) d begins are within = part_from part.end parts i d (λ _. are.2) are.3 (omega (arith, within))
 
-  pub start_boundary : (ends : List ℕ) (i : ℕ) → AreEnds joined 0 ends → i < length (texts_between joined 0 ends) → 0 < get_or (0 ∷ ends) i 0 → IsCharBoundary joined (get_or (0 ∷ ends) i 0)
-  start_boundary ends zero are within some = absurd (omega (arith, some))
-  start_boundary ends (suc i) are within some = end_boundary 0 ends i 0 are (omega (arith, within))
+  pub part_at : (parts : List Part) (i : ℕ) (d : Part) → AreJoined joined 0 parts → i < length (texts_at joined parts) → IsPart (get_or parts i d)
+  part_at parts i d are within =
+      part_from 0 parts i d (λ some. absurd (omega (arith, some))) are (omega (arith, within, length-texts_at parts))
 
   -- ---- a text that is added
 
-  module _ (text : List ℕ) (utf8 : IsUtf8 text) where
-    boundary_kept : (end : ℕ) → IsCharBoundary joined end → IsCharBoundary (joined ++ text) end
-    boundary_kept end is = elim (leb_tells (length joined) end) [
+  module _ (text : List ℕ) where
+    boundary_kept : IsUtf8 text → (end : ℕ) → IsCharBoundary joined end → IsCharBoundary (joined ++ text) end
+    boundary_kept utf8 end is = elim (leb_tells (length joined) end) [
       | inl all ↦ subst (IsCharBoundary (joined ++ text)) (omega (arith, all.1, is.0)) (IsCharBoundary-at_seam (joined ++ text) joined text refl utf8)
       | inr less ↦
           let same = get_or_append_left joined text 0 end less.1 in
           (omega (arith, is.0, length-append joined text), λ within high. omega (arith, same, is.1 less.1 (omega (arith, same, high))))
     ]
 
-    pub AreEnds-push : (from : ℕ) (ends : List ℕ) → AreEnds joined from ends → AreEnds (joined ++ text) from (ends ++ length (joined ++ text) ∷ [])
-    AreEnds-push from [] are = (omega (arith, are, length-append joined text), (omega arith, λ within. absurd (omega (arith, within))), refl)
-    AreEnds-push from (end ∷ ends) are = (are.0, boundary_kept end are.1, AreEnds-push end ends are.2)
+    pub AreJoined-push : IsUtf8 text → (from : ℕ) (parts : List Part) → AreJoined joined from parts → AreJoined (joined ++ text) from (parts ++ record { start = length joined; end = length (joined ++ text) } ∷ [])
+    AreJoined-push utf8 from [] are = (sym are, omega (arith, are, length-append joined text), (omega arith, λ within. absurd (omega (arith, within))), refl)
+    AreJoined-push utf8 from (part ∷ parts) are = (are.0, are.1, boundary_kept utf8 part.end are.2, AreJoined-push utf8 part.end parts are.3)
 
-  pub texts_between-push : (text : List ℕ) (from : ℕ) (ends : List ℕ) → AreEnds joined from ends → texts_between (joined ++ text) from (ends ++ length (joined ++ text) ∷ []) ≡ texts_between joined from ends ++ text ∷ []
-  texts_between-push text from [] are =
-      let rest : drop from (joined ++ text) ≡ text = drop_at joined text from (sym are) in
-      ap (λ last. last ∷ []) (ap (take (length (joined ++ text) - from)) rest ∙ take_all (length (joined ++ text) - from) text (omega (arith, are, length-append joined text)))
-  texts_between-push text from (end ∷ ends) are =
-      let first : slice_range (joined ++ text) from end ≡ slice_range joined from end =
-      ap (take (end - from)) (drop-append-le from joined text (omega (arith, are.0, are.1.0)))
-      ∙ take-append-le (end - from) (drop from joined) text (omega (arith, are.0, are.1.0, length-drop from joined)) in
-      let rest = texts_between-push text end ends are.2 in
-      λ i. first i ∷ rest i
+    pub texts_at-push : (from : ℕ) (parts : List Part) → AreJoined joined from parts → texts_at (joined ++ text) (parts ++ record { start = length joined; end = length (joined ++ text) } ∷ []) ≡ texts_at joined parts ++ text ∷ []
+    texts_at-push from [] are =
+        let n = length (joined ++ text) - length joined in
+        ap (λ last. last ∷ []) (ap (take n) (drop_at joined text (length joined) refl) ∙ take_all n text (omega (arith, length-append joined text)))
+    texts_at-push from (part ∷ parts) are =
+        let first : slice_range (joined ++ text) part.start part.end ≡ slice_range joined part.start part.end =
+        ap (take (part.end - part.start)) (drop-append-le part.start joined text (omega (arith, are.0, are.1, are.2.0)))
+        ∙ take-append-le (part.end - part.start) (drop part.start joined) text (omega (arith, are.0, are.1, are.2.0, length-drop part.start joined)) in
+        let rest = texts_at-push part.end parts are.3 in
+        λ i. first i ∷ rest i
 
 -- ---- texts that are equal
 
-length-between : (joined : List ℕ) (from end : ℕ) → from ≤ end → end ≤ length joined → from + length (slice_range joined from end) ≡ end
-length-between joined from end le within =
+length-part : (joined : List ℕ) (from end : ℕ) → from ≤ end → end ≤ length joined → from + length (slice_range joined from end) ≡ end
+length-part joined from end le within =
     omega (arith, le, within, length-take-le (end - from) (drop from joined) (omega (arith, le, within, length-drop from joined)))
 
-drop_all : (joined : List ℕ) (from : ℕ) → from ≡ length joined → drop from joined ≡ []
-drop_all joined from end = ap (drop from) (sym (append-nil joined)) ∙ drop_at joined [] from (sym end)
+-- what two parts are compared by
+abbrev pub part_eq : Part → Part → Bool
+part_eq p q = nat_eq p.start q.start && nat_eq p.end q.end
+
+part_Decides : (p q : Part) → Decides (part_eq p q) (p ≡ q)
+part_Decides p q =
+    Decides-like _ (λ same. λ i. record { start = same.0 i; end = same.1 i }) (λ same. (ap (λ (r : Part). r.start) same, ap (λ (r : Part). r.end) same)) (Decides-and _ _ (Decides-eqb p.start q.start) (Decides-eqb p.end q.end))
 
 module _ (xs ys : List ℕ) where
-  -- the texts tell what they are joined to, and where they end
-  same_parts : (from : ℕ) (ends others : List ℕ) → AreEnds xs from ends → AreEnds ys from others → texts_between xs from ends ≡ texts_between ys from others → (drop from xs ≡ drop from ys) × (ends ≡ others)
-  same_parts from [] [] left right same = (drop_all xs from left ∙ sym (drop_all ys from right), refl)
-  same_parts from [] (b ∷ others) left right same = absurd (cc)
-  same_parts from (a ∷ ends) [] left right same = absurd (cc)
-  same_parts from (a ∷ ends) (b ∷ others) left right same =
-      let first : slice_range xs from a ≡ slice_range ys from b = cc in
-      let next : texts_between xs a ends ≡ texts_between ys b others = cc in
-      let end : b ≡ a = omega (arith, ap length first, length-between xs from a left.0 left.1.0, length-between ys from b right.0 right.1.0) in
-      let rest = same_parts a ends others left.2 (rw end at right.2) (rw end at next) in (
-        drop_split xs from a left.0 ∙ ((λ i. first i ++ rest.0 i) ∙ (ap (λ e. slice_range ys from b ++ drop e ys) (sym end) ∙ sym (drop_split ys from b right.0))),
-        (λ i. sym end i ∷ rest.1 i),
+  -- texts tell what they are joined to, and where each lies
+  same_parts : (from : ℕ) (ps qs : List Part) → AreJoined xs from ps → AreJoined ys from qs → texts_at xs ps ≡ texts_at ys qs → (drop from xs ≡ drop from ys) × (ps ≡ qs)
+  same_parts from [] [] left right same = (drop_all from xs (omega (arith, left)) ∙ sym (drop_all from ys (omega (arith, right))), refl)
+  same_parts from [] (q ∷ qs) left right same = absurd (cc)
+  same_parts from (p ∷ ps) [] left right same = absurd (cc)
+  same_parts from (p ∷ ps) (q ∷ qs) left right same =
+      let text : slice_range xs p.start p.end ≡ slice_range ys q.start q.end = cc in
+      let first : slice_range xs from p.end ≡ slice_range ys from q.end =
+      ap (λ start. slice_range xs start p.end) (sym left.0) ∙ (text ∙ ap (λ start. slice_range ys start q.end) right.0) in
+      let others : texts_at xs ps ≡ texts_at ys qs = cc in
+      let end : q.end ≡ p.end = omega (arith, ap length first, length-part xs from p.end left.1 left.2.0, length-part ys from q.end right.1 right.2.0) in
+      let rest = same_parts p.end ps qs left.3 (rw end at right.3) others in (
+        drop_split xs from p.end left.1 ∙ ((λ i. first i ++ rest.0 i) ∙ (ap (λ e. slice_range ys from q.end ++ drop e ys) (sym end) ∙ sym (drop_split ys from q.end right.1))),
+        (λ i. record { start = (left.0 ∙ sym right.0) i; end = sym end i } ∷ rest.1 i),
       )
 
-  pub texts_equal : (ends others : List ℕ) → AreEnds xs 0 ends → AreEnds ys 0 others → (bytes_eq xs ys && bytes_eq ends others) ≡ pointwise bytes_eq (texts_between xs 0 ends) (texts_between ys 0 others)
-  texts_equal ends others left right =
+  pub texts_equal : (ps qs : List Part) → AreJoined xs 0 ps → AreJoined ys 0 qs → (bytes_eq xs ys && pointwise part_eq ps qs) ≡ pointwise bytes_eq (texts_at xs ps) (texts_at ys qs)
+  texts_equal ps qs left right =
       same_from_decides _ _
-      (Decides-like _ (λ same. λ i. texts_between (same.0 i) 0 (same.1 i)) (same_parts 0 ends others left right) (Decides-and _ _ (bytes_eq-Decides xs ys) (bytes_eq-Decides ends others)))
-      (slice_eq-Decides bytes_eq-Decides (texts_between xs 0 ends) (texts_between ys 0 others) _ refl)
+      (Decides-like _ (λ same. λ i. texts_at (same.0 i) (same.1 i)) (same_parts 0 ps qs left right) (Decides-and _ _ (bytes_eq-Decides xs ys) (slice_eq-Decides part_Decides ps qs _ refl)))
+      (slice_eq-Decides bytes_eq-Decides (texts_at xs ps) (texts_at ys qs) _ refl)

@@ -1,12 +1,13 @@
--- Texts that stand one behind another in one text, and where each ends.
-use Rattle.std.specs.Prelude.{ℕ, ◌≡◌, ◌≤◌, List, [], ◌∷◌, length, slice_range, IsCharBoundary}
+-- Texts that are joined to one, and where each lies.
+use Rattle.std.specs.Prelude.{ℕ, ◌≡◌, ◌≤◌, List, [], ◌∷◌, length, map, slice_range, IsCharBoundary}
+use Rattle.wasmi_collections.specs.declared.string_interner.texts.Part.{Part}
 
--- the texts that end at these places, where the first begins at `from`
-abbrev pub texts_between : List ℕ → ℕ → List ℕ → List (List ℕ)
-texts_between joined from [] = []
-texts_between joined from (end ∷ ends) = slice_range joined from end ∷ texts_between joined end ends
+-- the texts that are these parts
+abbrev pub texts_at : List ℕ → List Part → List (List ℕ)
+texts_at joined parts = map (λ part. slice_range joined part.start part.end) parts
 
--- each place is at or behind the one before and between two characters, and the last is the end
-abbrev pub AreEnds : List ℕ → ℕ → List ℕ → Type 0
-AreEnds joined from [] = from ≡ length joined
-AreEnds joined from (end ∷ ends) = (from ≤ end) × IsCharBoundary joined end × AreEnds joined end ends
+-- the parts lie one behind another from a place on, each ends between two characters, and the last at the end
+abbrev pub AreJoined : List ℕ → ℕ → List Part → Type 0
+AreJoined joined from [] = from ≡ length joined
+AreJoined joined from (part ∷ parts) =
+    (part.start ≡ from) × (from ≤ part.end) × IsCharBoundary joined part.end × AreJoined joined part.end parts

@@ -263,7 +263,7 @@ fn a_refused_text_changes_nothing(rt: HostRuntime) {
         }
         assert_equal!(rt; log.amiss(), 0);
     }
-    // Four for the bytes of the texts as they grow, three for the list of where they end, three for the first
+    // Four for the bytes of the texts as they grow, three for the list of where they lie, three for the first
     // block of the index, and one for the list of blocks.
     assert_equal!(rt; refusals, 11);
 }
@@ -282,7 +282,7 @@ fn with_a_full_block<'l>(
     interner
 }
 
-// One text more asks for a block of the index, and for a larger list of where texts end.
+// One text more asks for a block of the index, and for a larger list of where texts lie.
 #[test]
 fn a_refused_block_of_the_index_is_opened_later(rt: HostRuntime) {
     let mut refusals = 0u64;
@@ -359,7 +359,7 @@ fn a_third_text_is_refused(rt: HostRuntime) {
     assert_equal!(rt; interner.get_or_intern(LONG).or_abort(&rt), Sym::from_u32(2));
 }
 
-// One for the texts, one for where they end, and two for the index.
+// One for the texts, one for where they lie, and two for the index.
 #[test]
 fn a_clone_asks_for_four_blocks(rt: HostRuntime) {
     let log = Log::new();

@@ -1,5 +1,5 @@
 //! The texts of an interner.
-ghost use Rattle.std.specs.Prelude.{◌≡◌, ℕ, ◌<◌, ◌≤◌, [], ◌∷◌, ◌++◌, length, IfOk, OnOk, OnErr, Some, slice_get, slice_index};
+ghost use Rattle.std.specs.Prelude.{◌≡◌, ◌<◌, [], ◌∷◌, ◌++◌, length, IfOk, OnErr, OnOk, Some, slice_get};
 ghost use Rattle.std.specs.Cmp.Lexicographic.{pointwise, lists_per};
 ghost use Rattle.std.specs.Str.{bytes_eq};
 ghost use Rattle.wasmi_collections.specs.LenOrderLaws.{texts_per};
@@ -7,23 +7,29 @@ ghost use Rattle.wasmi_collections.specs.LenOrderLaws.{texts_per};
 use std::alloc::{AllocError, Allocator};
 use std::marker::Model;
 
-// A list of texts, which stand one behind another in one block of memory.
+// A list of texts, joined in one block of memory.
 #[derive(Drop)]
 pub(super) struct Texts<A: Allocator> {
     joined: String<A>,
-    // Where each text ends, which is where the next one begins.
-    ends: Vec<usize, A>,
+    parts: Vec<Part, A>,
+}
+
+// Where a text lies: from a byte on, and before another.
+#[derive(Clone, Copy, PartialEq)]
+struct Part {
+    start: usize,
+    end: usize,
 }
 
 impl<A: Allocator> Model for Texts<A> {
     ghost use Rattle.std.specs.Prelude.{ℕ, List, string_bytes};
-    ghost use Rattle.wasmi_collections.specs.Texts.{AreEnds, texts_between};
+    ghost use Rattle.wasmi_collections.specs.Texts.{AreJoined, texts_at};
 
     ghost Value = { List (List ℕ) };
 
-    ghost view = { λ texts. texts_between (string_bytes texts.joined) 0 texts.ends.items };
+    ghost view = { λ texts. texts_at (string_bytes texts.joined) texts.parts.items };
 
-    ghost invariant = { λ texts. AreEnds (string_bytes texts.joined) 0 texts.ends.items };
+    ghost invariant = { λ texts. AreJoined (string_bytes texts.joined) 0 texts.parts.items };
 }
 
 impl<A: Allocator> Texts<A> {
@@ -35,7 +41,7 @@ impl<A: Allocator> Texts<A> {
     {
         Texts {
             joined: String::new(alloc),
-            ends: Vec::new(alloc),
+            parts: Vec::new(alloc),
         }
     }
 
@@ -44,7 +50,7 @@ impl<A: Allocator> Texts<A> {
     pub(super) fn len(&self) -> usize
         ensures { result ≡ length self.now }
     {
-        self.ends.len()
+        self.parts.len()
     }
 
     // Drops all of them.
@@ -52,7 +58,7 @@ impl<A: Allocator> Texts<A> {
         ensures { self.new ≡ [] }
     {
         self.joined.clear();
-        self.ends.clear();
+        self.parts.clear();
     }
 
     // The text at a position.
@@ -61,8 +67,8 @@ impl<A: Allocator> Texts<A> {
         requires { position < length self.now }
         ensures { slice_get self.now position ≡ Some result.now }
     {
-        let start = start_of(&self.ends, position);
-        &self.joined.as_str()[start..self.ends[position]]
+        let part = self.parts[position];
+        &self.joined.as_str()[part.start..part.end]
     }
 
     // Copies a text behind the others. Without memory for it, all is as before.
@@ -70,9 +76,11 @@ impl<A: Allocator> Texts<A> {
         ensures ok { OnOk result (self.new ≡ self.old ++ text.now ∷ []) }
         ensures err { OnErr result (self.new ≡ self.old) }
     {
-        self.ends.reserve(1)?;
+        self.parts.reserve(1)?;
+        let start = self.joined.len();
         self.joined.push_str(text)?;
-        self.ends.push_reserved(self.joined.len());
+        let end = self.joined.len();
+        self.parts.push_reserved(Part { start, end });
         Ok(())
     }
 
@@ -84,21 +92,9 @@ impl<A: Allocator> Texts<A> {
     {
         Ok(Texts {
             joined: self.joined.clone()?,
-            ends: self.ends.clone()?,
+            parts: self.parts.clone()?,
         })
     }
-}
-
-// Where the text at a position begins: where the one before ends.
-#[inline]
-fn start_of<A: Allocator>(ends: &Vec<usize, A>, position: usize) -> usize
-    requires { position ≤ length ends.now.items }
-    ensures { result ≡ slice_index (0 ∷ ends.now.items) position }
-{
-    if position == 0 {
-        return 0;
-    }
-    ends[position - 1]
 }
 
 // Equal where the lists of texts are.
@@ -108,6 +104,6 @@ impl<A: Allocator> PartialEq for Texts<A> {
     ghost laws = { lists_per texts_per };
 
     fn eq(&self, other: &Self) -> bool {
-        self.joined == other.joined && self.ends == other.ends
+        self.joined == other.joined && self.parts == other.parts
     }
 }
