@@ -267,10 +267,6 @@ module _ {T : Type 0} where
       rw (nil_from_length back no_back, nil_from_length buckets no_buckets) (simp append-nil (nil_from_length (iter_rest s) ended.0, ap iter_rest ended.1 ∙ nil_from_length (iter_rest s) ended.0))
   rest_yields_last back buckets s t (Some x) no_back no_buckets at = rw (nil_from_length back no_back, nil_from_length buckets no_buckets) (simp append-nil at)
 
-  -- and where something is left of it, that is called
-  pub back_yields : (front back left : List T) (buckets : List (Option (Bucket T))) (x : T) → back ≡ left ++ x ∷ [] → front ++ items_of buckets ++ back ≡ front ++ items_of buckets ++ left ++ x ∷ []
-  back_yields front back left buckets x at = ap (λ (xs : List T). front ++ items_of buckets ++ xs) at ∙ sym (append_assoc (front ++ items_of buckets) left (x ∷ []))
-
   -- a call from the front leaves no more than there was
   pub length-steps : (s t : Iter T) (r : Option (Bor T)) → iter_steps s r t → length (iter_rest t) ≤ length (iter_rest s)
   length-steps s t None ended = omega (arith, ap (λ (u : Iter T). length (iter_rest u)) ended.1)

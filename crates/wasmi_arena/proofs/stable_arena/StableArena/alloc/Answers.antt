@@ -3,7 +3,7 @@ use Rattle.std.proofs.Math.Nat.{not-le_of_lt}
 use Rattle.wasmi_arena.specs.Geometry.{max_len}
 use Rattle.wasmi_arena.specs.Keys.{Keys}
 use Rattle.wasmi_arena.specs.Arena.{stable_limit}
-use Rattle.wasmi_arena.proofs.Passed.{passed_is}
+use Rattle.wasmi_arena.proofs.Results.{passed_is}
 use Rattle.wasmi_arena.proofs.stable_arena.StableArena.alloc.Goals as goal
 
 module _ {K T : Type 0} (keys : Keys K) (items : List T) (below : length items < stable_limit keys) where

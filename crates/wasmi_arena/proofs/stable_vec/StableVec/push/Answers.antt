@@ -1,7 +1,7 @@
 use Rattle.std.proofs.Common.{refl, inr, arith}
 use Rattle.std.proofs.Math.Nat.{not-le_of_lt}
 use Rattle.std.proofs.Math.Numerals.{add-one-le}
-use Rattle.wasmi_arena.proofs.Passed.{passed_is}
+use Rattle.wasmi_arena.proofs.Results.{passed_is}
 use Rattle.wasmi_arena.proofs.LaidOut.{open_size, place-open, place-free, last-free, free_counted, len-fits, open-fits, free-lt_max, other-lt_max, max-le_length, room-full, no_room, place-full, items_of-last, IsLaidOut-last, items_of-open_next, IsLaidOut-open_next}
 use Rattle.wasmi_arena.proofs.stable_vec.StableVec.push.Goals as goal
 

@@ -1,6 +1,8 @@
 use Rattle.std.proofs.Common.{arith, ap, length, ◌∙◌}
 use Rattle.std.specs.Slice.Iter.{iter_rest}
-use Rattle.wasmi_arena.proofs.Table.{last_counted, last_ahead, last_yields, back_yields, rest_yields_last, length-steps_back, progress-yields_last}
+use Rattle.wasmi_arena.specs.Table.{items_of}
+use Rattle.wasmi_arena.proofs.Ahead.{back_yields}
+use Rattle.wasmi_arena.proofs.Table.{last_counted, last_ahead, last_yields, rest_yields_last, length-steps_back, progress-yields_last}
 use Rattle.wasmi_arena.proofs.stable_vec.iter.StableVecIterDoubleEndedIterator.next_back.Goals as goal
 
 pub overflow_sub-self : goal.overflow_sub-self
@@ -9,10 +11,10 @@ overflow_sub-self g c =
     rw c.slice-items.ensures (omega arith)
 
 pub returns-in-Some-clause-steps : goal.returns-in-Some-clause-steps
-returns-in-Some-clause-steps g c = rw (← c.self.view_is) (back_yields (iter_rest c.self.inside.front) _ _ (iter_rest c.self.inside.buckets) _ c.in-Some.ensures.steps)
+returns-in-Some-clause-steps g c = rw (← c.self.view_is) (back_yields (iter_rest c.self.inside.front) (items_of (iter_rest c.self.inside.buckets)) _ _ c.in-Some.ensures.steps)
 
 pub returns-in-Some-clause-goes : goal.returns-in-Some-clause-goes
-returns-in-Some-clause-goes g c = rw (← c.self.view_is) (progress-yields_last _ (λ _. tt) _ _ _ (back_yields (iter_rest c.self.inside.front) _ _ (iter_rest c.self.inside.buckets) _ c.in-Some.ensures.steps))
+returns-in-Some-clause-goes g c = rw (← c.self.view_is) (progress-yields_last _ (λ _. tt) _ _ _ (back_yields (iter_rest c.self.inside.front) (items_of (iter_rest c.self.inside.buckets)) _ _ c.in-Some.ensures.steps))
 
 pub returns-in_ok-as_ref-in-Some-next_back-clause-steps : goal.returns-in_ok-as_ref-in-Some-next_back-clause-steps
 returns-in_ok-as_ref-in-Some-next_back-clause-steps g c =

@@ -1,6 +1,7 @@
-use Rattle.std.proofs.Common.{arith, ap, length, ◌∙◌, ◌++◌}
+use Rattle.std.proofs.Common.{arith, ap, length, ◌∙◌}
 use Rattle.std.specs.Slice.Iter.{iter_rest}
 use Rattle.wasmi_arena.specs.Table.{items_of}
+use Rattle.wasmi_arena.proofs.Ahead.{front_yields}
 use Rattle.wasmi_arena.proofs.Table.{first_counted, first_ahead, first_yields, rest_yields, length-steps, progress-yields_first}
 use Rattle.wasmi_arena.proofs.stable_vec.iter.StableVecIterIterator.next.Goals as goal
 
@@ -11,11 +12,11 @@ overflow_sub-self g c =
 
 pub returns-in-Some-clause-steps : goal.returns-in-Some-clause-steps
 returns-in-Some-clause-steps g c =
-    rw (← c.self.view_is) (ap (λ xs. xs ++ items_of (iter_rest c.self.inside.buckets) ++ iter_rest c.self.inside.back) c.in-Some.ensures.steps)
+    rw (← c.self.view_is) (front_yields (items_of (iter_rest c.self.inside.buckets)) (iter_rest c.self.inside.back) c.in-Some.ensures.steps)
 
 pub returns-in-Some-clause-goes : goal.returns-in-Some-clause-goes
 returns-in-Some-clause-goes g c =
-    rw (← c.self.view_is) (progress-yields_first _ (λ _. tt) _ _ _ (ap (λ xs. xs ++ items_of (iter_rest c.self.inside.buckets) ++ iter_rest c.self.inside.back) c.in-Some.ensures.steps))
+    rw (← c.self.view_is) (progress-yields_first _ (λ _. tt) _ _ _ (front_yields (items_of (iter_rest c.self.inside.buckets)) (iter_rest c.self.inside.back) c.in-Some.ensures.steps))
 
 pub returns-in_ok-as_ref-in-Some-next-clause-steps : goal.returns-in_ok-as_ref-in-Some-next-clause-steps
 returns-in_ok-as_ref-in-Some-next-clause-steps g c =

@@ -1,0 +1,18 @@
+-- Facts on results and their errors.
+use Rattle.std.proofs.Common.{◌≡◌, Result, Ok, Err, ap, is_ok, true≢false}
+use Rattle.std.specs.Result.{IsErrAnd}
+use Rattle.wasmi_arena.specs.declared.error.ArenaError.{ArenaError}
+use Rattle.wasmi_arena.specs.declared.error.ArenaError.TheVariants.{NotEnoughKeys, OutOfSystemMemory}
+
+-- a value is no error
+pub ok-err : {T E : Type 0} {x : T} {e : E} → Ok x ≡ Err e → ⊥
+ok-err is = true≢false (ap is_ok is)
+
+-- a want of keys is no want of memory
+pub errors_apart : {T : Type 0} {r : Result T ArenaError} → r ≡ Err NotEnoughKeys → r ≡ Err OutOfSystemMemory → ⊥
+errors_apart keys memory = absurd (cc)
+
+-- what a `?` passes on is the error that it met
+pub passed_is : {T E : Type 0} (r : Result T E) (error : E) → IsErrAnd r (λ e. e ≡ error) → r ≡ Err error
+passed_is (Ok x) error is = absurd is
+passed_is (Err e) error is = ap Err is
