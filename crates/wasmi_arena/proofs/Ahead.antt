@@ -5,7 +5,7 @@ use Rattle.std.specs.Option.{MatchOption}
 use Rattle.std.specs.Iterator.{YieldsFirstBy, YieldsLastBy, MakesProgress, item_count}
 use Rattle.wasmi_arena.specs.Ahead.{joined, AreSome, HasAhead}
 use Rattle.wasmi_arena.specs.Bucket.{Bucket}
-use Rattle.wasmi_arena.specs.Table.{IsAhead}
+use Rattle.wasmi_arena.specs.Table.{IsAhead, items_of}
 
 module _ {T : Type 0} where
   joined-append : (parts : List (List T)) (part : List T) → joined (parts ++ part ∷ []) ≡ joined parts ++ part
@@ -74,6 +74,10 @@ module _ {T : Type 0} where
 
   pub back_ahead : {front back : List T} (left : List T) (x : T) {buckets : List (Option (Bucket T))} {between : ℕ} → back ≡ left ++ x ∷ [] → IsAhead front buckets back between → IsAhead front buckets left between
   back_ahead left x at it = record { filled = it.filled; counted = it.counted; few = omega (arith, it.few, ap length at, length-append left (x ∷ [])) }
+
+  -- so many are left
+  pub length-ahead : {front back : List T} {buckets : List (Option (Bucket T))} {between : ℕ} → IsAhead front buckets back between → length front + between + length back ≡ length (front ++ items_of buckets ++ back)
+  length-ahead {front} {back} {buckets} it = omega (arith, it.counted, length-append front (items_of buckets), length-append (front ++ items_of buckets) back)
 
   -- no more is left than there was
   pub fewer_last : {B : Type 0} (now : B → T) (part left : List T) (r : Option B) → MatchOption r ((length part ≡ 0) × (length left ≡ 0)) (λ x. part ≡ left ++ now x ∷ []) → length left ≤ length part
