@@ -8,6 +8,10 @@ use Rattle.wasmi_arena.specs.declared.error.ArenaError.TheVariants.{NotEnoughKey
 pub ok-err : {T E : Type 0} {x : T} {e : E} → Ok x ≡ Err e → ⊥
 ok-err is = true≢false (ap is_ok is)
 
+-- an error that is another
+pub same_error : {T E : Type 0} {x y : E} → ◌≡◌ {A = Result T E} (Err x) (Err y) → x ≡ y
+same_error is = cc
+
 -- a want of keys is no want of memory
 pub errors_apart : {T : Type 0} {r : Result T ArenaError} → r ≡ Err NotEnoughKeys → r ≡ Err OutOfSystemMemory → ⊥
 errors_apart keys memory = absurd (cc)

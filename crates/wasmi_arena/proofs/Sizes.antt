@@ -43,9 +43,12 @@ module _ (T A : RattleType) (alloc : Allocator.Ghosts A.Denot) where
   abbrev BucketsRow : RattleType
   BucketsRow = ArrayIntoIter.the_row MaybeBucket (number 27)
 
-  -- of a vector, its table
-  pub table_small : size (layout VecRow) < 2 ^ 63 → 27 * size (layout MaybeBucket) < 2 ^ 63
-  table_small small = field_small (fields_of (layout TableRow)) 0 (ty_array (layout MaybeBucket) 27) _ refl (field_small (fields_of (layout VecRow)) 0 (layout TableRow) _ refl small)
+  -- of a vector, its table, and the buckets there
+  pub table_small : size (layout VecRow) < 2 ^ 63 → size (layout TableRow) < 2 ^ 63
+  table_small = field_small (fields_of (layout VecRow)) 0 (layout TableRow) _ refl
+
+  pub array_small : size (layout VecRow) < 2 ^ 63 → 27 * size (layout MaybeBucket) < 2 ^ 63
+  array_small small = field_small (fields_of (layout TableRow)) 0 (ty_array (layout MaybeBucket) 27) _ refl (table_small small)
 
   -- of an iterator over a vector, the buckets that no end has come to
   pub buckets_small : size (layout VecIntoIterRow) < 2 ^ 63 → size (layout BucketsRow) < 2 ^ 63

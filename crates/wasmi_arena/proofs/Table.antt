@@ -5,7 +5,7 @@ use Rattle.std.proofs.Math.ListN.{drop_of_length-le}
 use Rattle.std.proofs.Math.Seq.{drop-nil, take-set-lt}
 use Rattle.std.proofs.lemmas.Nat.{pow_pos}
 use Rattle.std.proofs.lemmas.List.{nil_from_length, take_all, take-append-drop, take-append-le, drop-append-le, drop-drop, drop-take, take-take, length-take, length-set, take-set-le, drop-set-lt, drop-set-add, get_or_append_left, get_or-append_right, get_or-set_same, set-append_left, set-append_right, set-set}
-use Rattle.std.specs.Iterator.{YieldsFirstRef, YieldsLastRef, MakesProgress, item_count}
+use Rattle.std.specs.Iterator.{YieldsFirstRef, YieldsLastRef}
 use Rattle.std.specs.Borrow.{Bor}
 use Rattle.std.specs.Slice.Iter.{iter_rest, iter_steps, iter_steps_back}
 use Rattle.std.specs.declared.slice.Iter.{Iter}
@@ -276,13 +276,3 @@ module _ {T : Type 0} where
   pub length-steps_back : (s t : Iter T) (r : Option (Bor T)) → iter_steps_back s r t → length (iter_rest t) ≤ length (iter_rest s)
   length-steps_back s t None ended = omega (arith, ap (λ (u : Iter T). length (iter_rest u)) ended.1)
   length-steps_back s t (Some x) at = omega (arith, ap length at, length-append (iter_rest t) (x.now ∷ []))
-
-  -- a call that yields the last item brings the end nearer
-  pub progress-yields_last : (can : List T → Type 0) → ((xs : List T) → can xs) → (old new : List T) (r : Option (Bor T)) → YieldsLastRef (λ (xs : List T). xs) old r new → MakesProgress can (item_count (λ (xs : List T). xs)) old r new
-  progress-yields_last can all old new None ended = record { on = λ _. tt; keeps = tt; rests = λ _. tt }
-  progress-yields_last can all old new (Some x) at = record { on = λ _. (all new, tt, omega (arith, ap length at, length-append new (x.now ∷ []))); keeps = all new; rests = λ _. tt }
-
-  -- and so does one that yields the first
-  pub progress-yields_first : (can : List T → Type 0) → ((xs : List T) → can xs) → (old new : List T) (r : Option (Bor T)) → YieldsFirstRef (λ (xs : List T). xs) old r new → MakesProgress can (item_count (λ (xs : List T). xs)) old r new
-  progress-yields_first can all old new None ended = record { on = λ _. tt; keeps = tt; rests = λ _. tt }
-  progress-yields_first can all old new (Some x) at = record { on = λ _. (all new, tt, omega (arith, ap length at)); keeps = all new; rests = λ _. tt }

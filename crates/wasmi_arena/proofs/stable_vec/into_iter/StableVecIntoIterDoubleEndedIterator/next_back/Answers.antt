@@ -15,9 +15,7 @@ pub returns-in-Some-clause-steps : goal.returns-in-Some-clause-steps
 returns-in-Some-clause-steps g c = rw (← c.self.view_is) (back_yields (in_hand c.self.inside.front) (items_of (array_into_iter_items c.self.inside.buckets)) _ _ c.in-Some.ensures)
 
 pub returns-in-Some-clause-goes : goal.returns-in-Some-clause-goes
-returns-in-Some-clause-goes g c =
-    rw (← c.self.view_is) (progress_last (λ x. x) all_left _ (λ _. tt) _ _ (Some c.in-Some.item)
-    (back_yields (in_hand c.self.inside.front) (items_of (array_into_iter_items c.self.inside.buckets)) _ _ c.in-Some.ensures))
+returns-in-Some-clause-goes g c = progress_last (λ x. x) all_left _ (λ _. tt) _ _ (Some c.in-Some.item) (returns-in-Some-clause-steps g c)
 
 pub overflow_sub-self : goal.overflow_sub-self
 overflow_sub-self g c =
@@ -32,8 +30,7 @@ returns-in-Some-Some-clause-steps g c =
     rw (← c.self.view_is) (last_taken _ _ _ _ _ _ (sym c.in-Some-Some.field-0-is) _ c.self.invariant _ c.into_items-items.ensures c.in-Some-Some.ensures.steps _ _ c.next_back-item.ensures.steps c.in_default.ensures.0)
 
 pub returns-in-Some-Some-clause-goes : goal.returns-in-Some-Some-clause-goes
-returns-in-Some-Some-clause-goes g c =
-    rw (← c.self.view_is) (progress_last (λ x. x) all_left _ (λ _. tt) _ _ _ (last_taken _ _ _ _ _ _ (sym c.in-Some-Some.field-0-is) _ c.self.invariant _ c.into_items-items.ensures c.in-Some-Some.ensures.steps _ _ c.next_back-item.ensures.steps c.in_default.ensures.0))
+returns-in-Some-Some-clause-goes g c = progress_last (λ x. x) all_left _ (λ _. tt) _ _ _ (returns-in-Some-Some-clause-steps g c)
 
 pub invariant_of-self-in-None : goal.invariant_of-self-in-None
 invariant_of-self-in-None g c =
@@ -44,8 +41,7 @@ returns-in-None-clause-steps g c =
     rw (← c.self.view_is) (taken_before _ _ _ _ _ _ _ c.self.invariant (ap array_into_iter_items c.in-None.ensures.steps.1) _ c.in_default.ensures.0 c.in_default.ensures.1 c.in-None.ensures.steps.0 c.last_of-in-None.ensures)
 
 pub returns-in-None-clause-goes : goal.returns-in-None-clause-goes
-returns-in-None-clause-goes g c =
-    rw (← c.self.view_is) (progress_last (λ x. x) all_left _ (λ _. tt) _ _ _ (taken_before _ _ _ _ _ _ _ c.self.invariant (ap array_into_iter_items c.in-None.ensures.steps.1) _ c.in_default.ensures.0 c.in_default.ensures.1 c.in-None.ensures.steps.0 c.last_of-in-None.ensures))
+returns-in-None-clause-goes g c = progress_last (λ x. x) all_left _ (λ _. tt) _ _ _ (returns-in-None-clause-steps g c)
 
 pub unreachable-requires : goal.unreachable-requires
 unreachable-requires g c =

@@ -14,9 +14,7 @@ pub returns-in-Some-clause-steps : goal.returns-in-Some-clause-steps
 returns-in-Some-clause-steps g c = rw (← c.self.view_is) (front_yields (items_of (array_into_iter_items c.self.inside.buckets)) (in_hand c.self.inside.back) c.in-Some.ensures)
 
 pub returns-in-Some-clause-goes : goal.returns-in-Some-clause-goes
-returns-in-Some-clause-goes g c =
-    rw (← c.self.view_is) (progress_first (λ x. x) all_left _ (λ _. tt) _ _ (Some c.in-Some.item)
-    (front_yields (items_of (array_into_iter_items c.self.inside.buckets)) (in_hand c.self.inside.back) c.in-Some.ensures))
+returns-in-Some-clause-goes g c = progress_first (λ x. x) all_left _ (λ _. tt) _ _ (Some c.in-Some.item) (returns-in-Some-clause-steps g c)
 
 pub overflow_sub-self : goal.overflow_sub-self
 overflow_sub-self g c =
@@ -31,8 +29,7 @@ returns-in-Some-Some-clause-steps g c =
     rw (← c.self.view_is) (first_taken _ _ _ _ _ _ (sym c.in-Some-Some.field-0-is) _ c.self.invariant _ c.into_items-items.ensures c.in-Some-Some.ensures.steps _ _ c.next-item.ensures.steps c.in_default.ensures.0)
 
 pub returns-in-Some-Some-clause-goes : goal.returns-in-Some-Some-clause-goes
-returns-in-Some-Some-clause-goes g c =
-    rw (← c.self.view_is) (progress_first (λ x. x) all_left _ (λ _. tt) _ _ _ (first_taken _ _ _ _ _ _ (sym c.in-Some-Some.field-0-is) _ c.self.invariant _ c.into_items-items.ensures c.in-Some-Some.ensures.steps _ _ c.next-item.ensures.steps c.in_default.ensures.0))
+returns-in-Some-Some-clause-goes g c = progress_first (λ x. x) all_left _ (λ _. tt) _ _ _ (returns-in-Some-Some-clause-steps g c)
 
 pub invariant_of-self-in-None : goal.invariant_of-self-in-None
 invariant_of-self-in-None g c =
@@ -43,8 +40,7 @@ returns-in-None-clause-steps g c =
     rw (← c.self.view_is) (taken_behind _ _ _ _ _ _ _ c.self.invariant (ap array_into_iter_items c.in-None.ensures.steps.1) _ c.in_default.ensures.0 c.in_default.ensures.1 c.in-None.ensures.steps.0 c.first_of-in-None.ensures)
 
 pub returns-in-None-clause-goes : goal.returns-in-None-clause-goes
-returns-in-None-clause-goes g c =
-    rw (← c.self.view_is) (progress_first (λ x. x) all_left _ (λ _. tt) _ _ _ (taken_behind _ _ _ _ _ _ _ c.self.invariant (ap array_into_iter_items c.in-None.ensures.steps.1) _ c.in_default.ensures.0 c.in_default.ensures.1 c.in-None.ensures.steps.0 c.first_of-in-None.ensures))
+returns-in-None-clause-goes g c = progress_first (λ x. x) all_left _ (λ _. tt) _ _ _ (returns-in-None-clause-steps g c)
 
 pub next-requires : goal.next-requires
 next-requires g c = (buckets_small g.row.T g.row.A g.A.Allocator assumption, tt)

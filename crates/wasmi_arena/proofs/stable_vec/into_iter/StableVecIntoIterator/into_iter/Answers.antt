@@ -2,7 +2,7 @@ use Rattle.std.proofs.Common.{arith, take, ap, ◌∙◌, refl, sym, []}
 use Rattle.std.proofs.Math.Seq.{take-length}
 use Rattle.wasmi_arena.proofs.Taken.{kept_fewer, kept_open}
 use Rattle.wasmi_arena.proofs.LaidOut.{all_ahead, open-le_27}
-use Rattle.wasmi_arena.proofs.Sizes.{table_small, buckets_small}
+use Rattle.wasmi_arena.proofs.Sizes.{array_small, buckets_small}
 use Rattle.wasmi_arena.proofs.stable_vec.into_iter.StableVecIntoIterator.into_iter.Goals as goal
 
 pub loop-init : goal.loop-init
@@ -26,7 +26,7 @@ returns g c =
     record { into_iter_gives = rw (left, ← c.self.view_is) (all_ahead _ _ _ _ c.self.invariant [] [] refl refl).1 }
 
 pub into_iter-buckets-requires : goal.into_iter-buckets-requires
-into_iter-buckets-requires g c = (table_small g.row.T g.row.A g.A.Allocator assumption, buckets_small g.row.T g.row.A g.A.Allocator assumption)
+into_iter-buckets-requires g c = (array_small g.row.T g.row.A g.A.Allocator assumption, buckets_small g.row.T g.row.A g.A.Allocator assumption)
 
 pub next_back-none-requires : goal.next_back-none-requires
 next_back-none-requires g c = (buckets_small g.row.T g.row.A g.A.Allocator assumption, tt)
