@@ -7,7 +7,7 @@ use Rattle.std.proofs.lemmas.List.Elements.{All-take, All-drop, length_all_zip}
 use Rattle.std.specs.List.{All, AllZip}
 use Rattle.wasmi_arena.specs.Geometry.{size, start, max_len, fewest, room}
 use Rattle.wasmi_arena.specs.StableVec.{filled_parts}
-use Rattle.wasmi_arena.proofs.Geometry.{size_pos, size-suc, start_below, below_of_start}
+use Rattle.wasmi_arena.proofs.Geometry.{size_pos, size-suc, size_allowed, below_of_start}
 use Rattle.wasmi_arena.proofs.FilledParts.{AreParts, AreParts-filled_parts}
 use Rattle.wasmi_arena.proofs.Apart.{fewest_start}
 
@@ -59,7 +59,7 @@ module _ {T : Type 0} {is_clone : T → T → Type 0} {items part made : List T}
   part_bucket = rw fewest_made bucket_exists
 
   pub part_size : (capacity : ℕ) → capacity ≡ size (fewest (length made)) → (0 < capacity) × (capacity < 2 ^ 63)
-  part_size capacity is = let b = fewest (length made) in (omega (arith, is, size_pos b), omega (arith, is, start_below b 27 part_bucket))
+  part_size capacity is = size_allowed (fewest (length made)) capacity part_bucket is
 
   pub part_fits : length part ≤ size (fewest (length made))
   part_fits = rw fewest_made (omega (arith, length-part))

@@ -4,7 +4,10 @@ use mathlib.Core.Path.{◌≡◌, refl}
 use native.Mathlib.Omega.{arith}
 use Prim.Native.Nat.{ℕ, zero, ◌*◌, ◌<◌, ◌^◌}
 use mathlib.Core.Option.{some}
-use mir.Syntax.{Ty, Tys, tnil, ty_array, ty_struct}
+use mir.Syntax.{Ty, Tys, tnil, ty_array, ty_struct, w64}
+use mir.Val.{Fits}
+use native.Mathlib.Nat.{le_of_lt}
+use Rattle.std.proofs.Math.Nat.{mul-le-mul_right}
 use prog.Align.{field_in}
 use prog.Memory.{field_at, size}
 use denote.Param.{copied, number, param, layout}
@@ -26,6 +29,10 @@ fields_of τ = tnil
 
 field_small : (τs : Tys) (k : ℕ) (τ : Ty) (d : ℕ) → field_at zero τs k ≡ some (τ, d) → size (ty_struct [] τs) < 2 ^ 63 → size τ < 2 ^ 63
 field_small τs k τ d at small = let inside = field_in [] τs k τ d at in omega arith
+
+-- the place of an element of a slice
+pub offset_fits : (i n bytes : ℕ) → i < n → n * bytes < 2 ^ 63 → Fits w64 (i * bytes)
+offset_fits i n bytes inside small = record { fits = omega (arith, small, mul-le-mul_right bytes (le_of_lt inside)) }
 
 module _ (T A : RattleType) (alloc : Allocator.Ghosts A.Denot) where
   abbrev MaybeBucket : RattleType

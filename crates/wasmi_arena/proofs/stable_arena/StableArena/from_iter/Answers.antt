@@ -5,6 +5,7 @@ use Rattle.wasmi_arena.specs.Arena.{stable_limit}
 use Rattle.wasmi_arena.proofs.Growth.{refuses_one_more}
 use Rattle.wasmi_arena.proofs.Yielded.{taken_none, taken_up_to, taken_more, taken_last, taken_all}
 use Rattle.wasmi_arena.proofs.Results.{same_error}
+use Rattle.wasmi_arena.proofs.Sizes.{vec_small, array_small}
 use Rattle.wasmi_arena.proofs.stable_arena.StableArena.from_iter.Goals as goal
 
 pub loop-item-init : goal.loop-item-init
@@ -48,3 +49,6 @@ returns-clause-ok g c =
 pub returns-in-None-clause-ok : goal.returns-in-None-clause-ok
 returns-in-None-clause-ok g c =
     taken_last g.U.IntoIterator.into_iter_gives g.U.IntoIter.Iterator.next_gives g.U.IntoIter.Iterator.can_next g.U.IntoIter.Iterator.remaining _ _ _ _ c.loop-item.invariant _ _ c.in-Some.ensures.steps _ _ c.in_ok-alloc.ensures.ok c.in-None.ensures.items
+
+pub array_drop-arena-inside-requires : goal.array_drop-arena-inside-requires
+array_drop-arena-inside-requires g c = array_small g.row.T g.row.A g.A.Allocator (vec_small g.row.T g.row.A g.A.Allocator g.row.Key g.Key.ArenaKey assumption)

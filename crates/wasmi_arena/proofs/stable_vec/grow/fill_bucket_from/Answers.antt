@@ -3,6 +3,7 @@ use Rattle.std.proofs.lemmas.List.{get_or_default}
 use Rattle.wasmi_arena.specs.Bucket.{bucket}
 use Rattle.wasmi_arena.specs.Table.{bucket_filled}
 use Rattle.wasmi_arena.specs.Geometry.{size}
+use Rattle.wasmi_arena.proofs.Sizes.{offset_fits}
 use Rattle.wasmi_arena.proofs.stable_vec.grow.fill_bucket_from.Goals as goal
 
 pub returns-clause-items : goal.returns-clause-items
@@ -17,3 +18,6 @@ returns-clause-items g c =
       omega (arith, c.push_from.ensures.filled, ap length came.1, length-append c.in-Some.open.items came.0),
       came.2,
     )
+
+pub offset_bounds-buckets-place : goal.offset_bounds-buckets-place
+offset_bounds-buckets-place g c = offset_fits _ _ _ c.requires.in_table assumption
