@@ -15,6 +15,10 @@ has_key key (Some k) is there = is.0
 pub few_enough : (n count : ℕ) → n < count → n ≤ max_len → (count ≤ n) ⊎ (max_len < n) → ⊥
 few_enough n count below few over = elim over [ inl full ↦ not-le_of_lt below full | inr great ↦ not-le_of_lt great few ]
 
+-- no item is too many
+pub none_fit : {K : Type 0} (keys : Keys K) → 0 ≤ stable_limit keys
+none_fit keys = omega arith
+
 -- one of the items left is taken, of which each has a key
 module _ {K T : Type 0} (keys : Keys K) (next : ℕ) (old left : List T) (item : T) (each : next + length old ≤ stable_limit keys) where
   pub first_keyed : old ≡ item ∷ left → (next < keys.count) × (next + 1 + length left ≤ stable_limit keys)
