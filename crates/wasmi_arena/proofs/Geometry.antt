@@ -39,7 +39,7 @@ place_unique {i} {b} {s} {c} {t} p q = elim (cases_order b c) [
   ]
 ]
 
--- so many more items fit behind it
+-- as many more items as fit behind a place make no index too large
 pub place_fits : {i b s : ℕ} → IsPlace i b s → (more : ℕ) → s + more ≤ size b → Fits w64 (i + more)
 place_fits {i} {b} {s} p more fits = record { fits = omega (arith, start_below b 27 p.bucket_exists, p.index_is) }
 

@@ -23,10 +23,12 @@ use Rattle.wasmi_arena.specs.contracts.stable_arena.into_iter.StableArenaIntoIte
 use Rattle.wasmi_arena.specs.contracts.stable_vec.StableVec as StableVec
 use Rattle.wasmi_arena.specs.contracts.stable_vec.into_iter.StableVecIntoIter as StableVecIntoIter
 
+-- the types of a struct's fields
 abbrev fields_of : Ty → Tys
 fields_of (ty_struct ν τs) = τs
 fields_of τ = tnil
 
+-- a field takes no more than the struct
 field_small : (τs : Tys) (k : ℕ) (τ : Ty) (d : ℕ) → field_at zero τs k ≡ some (τ, d) → size (ty_struct [] τs) < 2 ^ 63 → size τ < 2 ^ 63
 field_small τs k τ d at small = let inside = field_in [] τs k τ d at in omega arith
 
