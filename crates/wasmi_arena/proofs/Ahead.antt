@@ -4,6 +4,8 @@ use Rattle.std.proofs.lemmas.List.{nil_from_length}
 use Rattle.std.specs.Option.{MatchOption}
 use Rattle.std.specs.Iterator.{YieldsFirstBy, YieldsLastBy, MakesProgress, item_count}
 use Rattle.wasmi_arena.specs.Ahead.{joined, AreSome, HasAhead}
+use Rattle.wasmi_arena.specs.Bucket.{Bucket}
+use Rattle.wasmi_arena.specs.Table.{IsAhead, items_of}
 
 module _ {T : Type 0} where
   joined-append : (parts : List (List T)) (part : List T) → joined (parts ++ part ∷ []) ≡ joined parts ++ part
@@ -61,23 +63,37 @@ module _ {T : Type 0} where
   ends_yield_last now front back left parts (Some x) no_back no_parts at = rw (nil_from_length back no_back, no_parts) (simp append-nil at)
 
   -- and where something is left of the first or of the last part, that is called
-  pub front_yields : (front back left : List T) (parts : List (List T)) (x : T) → front ≡ x ∷ left → front ++ joined parts ++ back ≡ x ∷ (left ++ joined parts ++ back)
-  front_yields front back left parts x at = ap (λ (xs : List T). xs ++ joined parts ++ back) at
+  pub front_yields : {front left : List T} {x : T} (middle back : List T) → front ≡ x ∷ left → front ++ middle ++ back ≡ x ∷ (left ++ middle ++ back)
+  front_yields middle back at = ap (λ (xs : List T). xs ++ middle ++ back) at
 
-  pub back_yields : (front back left : List T) (parts : List (List T)) (x : T) → back ≡ left ++ x ∷ [] → front ++ joined parts ++ back ≡ front ++ joined parts ++ left ++ x ∷ []
-  back_yields front back left parts x at = ap (λ (xs : List T). front ++ joined parts ++ xs) at ∙ sym (append_assoc (front ++ joined parts) left (x ∷ []))
+  pub front_ahead : {front left back : List T} {x : T} {buckets : List (Option (Bucket T))} {between : ℕ} → front ≡ x ∷ left → IsAhead front buckets back between → IsAhead left buckets back between
+  front_ahead at it = record { filled = it.filled; counted = it.counted; few = omega (arith, it.few, ap length at) }
+
+  pub back_yields : (front middle : List T) {back : List T} (left : List T) (x : T) → back ≡ left ++ x ∷ [] → front ++ middle ++ back ≡ front ++ middle ++ left ++ x ∷ []
+  back_yields front middle left x at = ap (λ (xs : List T). front ++ middle ++ xs) at ∙ sym (append_assoc (front ++ middle) left (x ∷ []))
+
+  pub back_ahead : {front back : List T} (left : List T) (x : T) {buckets : List (Option (Bucket T))} {between : ℕ} → back ≡ left ++ x ∷ [] → IsAhead front buckets back between → IsAhead front buckets left between
+  back_ahead left x at it = record { filled = it.filled; counted = it.counted; few = omega (arith, it.few, ap length at, length-append left (x ∷ [])) }
+
+  -- so many are left
+  pub length-ahead : {front back : List T} {buckets : List (Option (Bucket T))} {between : ℕ} → IsAhead front buckets back between → length front + between + length back ≡ length (front ++ items_of buckets ++ back)
+  length-ahead {front} {back} {buckets} it = omega (arith, it.counted, length-append front (items_of buckets), length-append (front ++ items_of buckets) back)
 
   -- no more is left than there was
   pub fewer_last : {B : Type 0} (now : B → T) (part left : List T) (r : Option B) → MatchOption r ((length part ≡ 0) × (length left ≡ 0)) (λ x. part ≡ left ++ now x ∷ []) → length left ≤ length part
   fewer_last now part left None ended = let none = ended.1 in omega arith
   fewer_last now part left (Some x) at = omega (arith, ap length at, length-append left (now x ∷ []))
 
--- a call that yields the last item brings the end nearer
+-- a call that yields an item and leaves fewer brings the end nearer
+pub progress_fewer : {S B T : Type 0} (rest : S → List T) (can : S → Type 0) → ((s : S) → can s) → (s t : S) (x : B) → length (rest t) < length (rest s) → MakesProgress can (item_count rest) s (Some x) t
+progress_fewer rest can all s t x fewer = record { on = λ _. (all t, tt, fewer); keeps = all t; rests = λ _. tt }
+
+-- so does one that yields the last
 pub progress_last : {S B T : Type 0} (now : B → T) (rest : S → List T) (can : S → Type 0) → ((s : S) → can s) → (s t : S) (r : Option B) → YieldsLastBy now rest s r t → MakesProgress can (item_count rest) s r t
 progress_last now rest can all s t None ended = record { on = λ _. tt; keeps = tt; rests = λ _. tt }
-progress_last now rest can all s t (Some x) at = record { on = λ _. (all t, tt, omega (arith, ap length at, length-append (rest t) (now x ∷ []))); keeps = all t; rests = λ _. tt }
+progress_last now rest can all s t (Some x) at = progress_fewer rest can all s t x (omega (arith, ap length at, length-append (rest t) (now x ∷ [])))
 
--- and so does one that yields the first
+-- and one that yields the first
 pub progress_first : {S B T : Type 0} (now : B → T) (rest : S → List T) (can : S → Type 0) → ((s : S) → can s) → (s t : S) (r : Option B) → YieldsFirstBy now rest s r t → MakesProgress can (item_count rest) s r t
 progress_first now rest can all s t None ended = record { on = λ _. tt; keeps = tt; rests = λ _. tt }
-progress_first now rest can all s t (Some x) at = record { on = λ _. (all t, tt, omega (arith, ap length at)); keeps = all t; rests = λ _. tt }
+progress_first now rest can all s t (Some x) at = progress_fewer rest can all s t x (omega (arith, ap length at))

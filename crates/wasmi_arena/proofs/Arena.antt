@@ -1,16 +1,25 @@
 -- Facts on the steps and runs of an arena.
-use Rattle.std.proofs.Common.{◌≡◌, ◌≢◌, zero, suc, take, Some, slice_get, arith, ℕ, ◌+◌, ◌<◌, ◌≤◌, List, [], ◌∷◌, ◌++◌, length, inl, inr, refl, subst, length-append}
+use Rattle.std.proofs.Common.{◌≡◌, ◌≢◌, ◌↔◌, ◌⊎◌, zero, suc, take, Some, Result, Ok, Err, IfOk, IfErr, OnOk, OnErr, IsErrOf, slice_get, slice_set, arith, ℕ, ◌+◌, ◌<◌, ◌≤◌, List, [], ◌∷◌, ◌++◌, length, inl, inr, refl, ap, ◌∙◌, subst, length-append}
+use Rattle.std.proofs.Math.ListN.{length-set}
+use Rattle.std.proofs.Math.Nat.{lt_of_not-le}
 use Rattle.std.proofs.lemmas.Bool.{cases_lt}
+use Rattle.std.proofs.lemmas.List.Edits.{length-swap}
 use Rattle.std.proofs.lemmas.Option.{get_or_from_slice_get}
+use Rattle.std.specs.List.{swap}
+use Rattle.std.specs.Result.{IsOkUnless}
 use Rattle.wasmi_arena.specs.Geometry.{max_len, room}
 use Rattle.wasmi_arena.specs.Keys.{Keys}
-use Rattle.wasmi_arena.specs.Arena.{ArenaState, ArenaStep, ArenaRun, allocs_in}
+use Rattle.wasmi_arena.specs.Arena.{ArenaState, ArenaStep, ArenaRun, ArenaUnchanged, AllocatesItem, RefusesItem, PutsItem, SwapsItems, RefusesSwap, allocs_in, stable_limit, stable_state}
+use Rattle.wasmi_arena.specs.Growth.{RefusesOneMore}
 use Rattle.wasmi_arena.proofs.Geometry.{room-falls}
+use Rattle.wasmi_arena.proofs.Growth.{refuses_one_more}
+use Rattle.wasmi_arena.proofs.Results.{ok-err}
 use Rattle.wasmi_arena.specs.declared.run.ArenaCommand.{ArenaCommand}
 use Rattle.wasmi_arena.specs.declared.run.ArenaReply.{ArenaReply}
 use Rattle.wasmi_arena.specs.declared.run.ArenaCommand.TheVariants.{Alloc, Has, Put, Swap}
 use Rattle.wasmi_arena.specs.declared.run.ArenaReply.TheVariants.{Key, Has as HasReply, Old, Done, Refused}
-use Rattle.wasmi_arena.specs.declared.error.ArenaError.TheVariants.{OutOfSystemMemory}
+use Rattle.wasmi_arena.specs.declared.error.ArenaError.{ArenaError}
+use Rattle.wasmi_arena.specs.declared.error.ArenaError.TheVariants.{OutOfSystemMemory, NotEnoughKeys, KeyOutOfBounds, AliasingPairAccess, DuplicateItem}
 
 module _ {K T V : Type 0} (keys : Keys K) (limit : ℕ) (state : V → ArenaState T) where
   -- a run goes on by one step to one more arena
@@ -58,3 +67,62 @@ module _ {K T V : Type 0} (keys : Keys K) (limit : ℕ) (state : V → ArenaStat
 -- an item that goes to the end lowers the room by one, where there is any
 pub room_of_append : {T : Type 0} (old new : List T) (item : T) → new ≡ old ++ item ∷ [] → length old < max_len → 0 < room (length old) → room (length old) ≡ room (length new) + 1
 room_of_append old new item after below some = rw (after, length-append old (item ∷ [])) (room-falls (length old) below some)
+
+-- each call of a stable arena is a step, by its clauses
+module _ {K T : Type 0} (keys : Keys K) (old new : List T) where
+  unchanged : new ≡ old → ArenaUnchanged (stable_state old) (stable_state new)
+  unchanged same = (same, ap (λ (xs : List T). room (length xs)) same)
+
+  item_refused : (error : ArenaError) → RefusesOneMore (stable_limit keys) (length old) error → RefusesItem keys (stable_limit keys) (stable_state old) error
+  item_refused NotEnoughKeys why = why
+  item_refused OutOfSystemMemory why = why
+  item_refused KeyOutOfBounds why = why
+  item_refused AliasingPairAccess why = why
+  item_refused DuplicateItem why = why
+
+  pub alloc_steps : (r : Result K ArenaError) (item : T) → IfOk r (λ key. key ≡ keys.key (length old)) → OnOk r (new ≡ old ++ item ∷ []) → OnOk r (length old < stable_limit keys)
+      → IfOk r (λ key. AllocatesItem keys (stable_limit keys) (stable_state old) item key (stable_state new))
+  alloc_steps (Ok key) item key_is is few = record { has_key = few; key_is = key_is; items_are = is; room_left = λ some. room_of_append old new item is (omega arith) some }
+  alloc_steps (Err error) item key_is is few = tt
+
+  pub alloc_refused : (r : Result K ArenaError) → IfErr r (λ error. (error ≡ NotEnoughKeys) ⊎ (error ≡ OutOfSystemMemory)) → IsErrOf r NotEnoughKeys ↔ (stable_limit keys ≤ length old) → (IsErrOf r OutOfSystemMemory → room (length old) ≡ 0)
+      → OnErr r (new ≡ old) → IfErr r (λ error. RefusesItem keys (stable_limit keys) (stable_state old) error × ArenaUnchanged (stable_state old) (stable_state new))
+  alloc_refused (Ok key) errors full memory same = tt
+  alloc_refused (Err error) errors full memory same = (item_refused error (refuses_one_more (stable_limit keys) (length old) error errors full memory), unchanged same)
+
+  pub put_steps : (r : Result T ArenaError) (key : K) (item : T) → IfOk r (λ there. slice_get old (keys.number key) ≡ Some there) → OnOk r (new ≡ slice_set old (keys.number key) item)
+      → IfOk r (λ there. PutsItem keys (stable_limit keys) (stable_state old) key item there (stable_state new))
+  put_steps (Ok there) key item there_is is = record { there_is = there_is; items_are = is; room_is = ap room (ap length is ∙ length-set old (keys.number key) item) }
+  put_steps (Err error) key item there_is is = tt
+
+  pub put_refused : (r : Result T ArenaError) (key : K) → IsOkUnless r KeyOutOfBounds → IsErrOf r KeyOutOfBounds ↔ (length old ≤ keys.number key) → OnErr r (new ≡ old)
+      → IfErr r (λ error. (error ≡ KeyOutOfBounds) × (length old ≤ keys.number key) × ArenaUnchanged (stable_state old) (stable_state new))
+  put_refused (Ok there) key errors past same = tt
+  put_refused (Err error) key errors past same = (errors, past.0 (ap Err errors), unchanged same)
+
+  module _ (first second : K) where
+    abbrev Aliasing : Result (Unit {0}) ArenaError → Type 0
+    Aliasing r = IsErrOf r AliasingPairAccess ↔ (keys.number first ≡ keys.number second)
+
+    abbrev Past : Result (Unit {0}) ArenaError → Type 0
+    Past r = IsErrOf r KeyOutOfBounds ↔ ((keys.number first ≢ keys.number second) × ((length old ≤ keys.number first) ⊎ (length old ≤ keys.number second)))
+
+    pub swap_steps : (r : Result (Unit {0}) ArenaError) → Aliasing r → Past r → OnOk r (new ≡ swap old (keys.number first) (keys.number second)) → OnOk r (SwapsItems keys (stable_limit keys) (stable_state old) first second (stable_state new))
+    swap_steps (Ok done) aliasing past is =
+        let apart : keys.number first ≢ keys.number second = (λ same. absurd (ok-err (aliasing.1 same))) in
+        record {
+          apart = apart;
+          first_reads = lt_of_not-le (λ many. ok-err (past.1 (apart, inl many)));
+          second_reads = lt_of_not-le (λ many. ok-err (past.1 (apart, inr many)));
+          items_are = is;
+          room_is = ap room (ap length is ∙ length-swap old (keys.number first) (keys.number second));
+        }
+    swap_steps (Err error) aliasing past is = tt
+
+    pub swap_refused : (r : Result (Unit {0}) ArenaError) → Aliasing r → Past r → IfErr r (λ error. (error ≡ AliasingPairAccess) ⊎ (error ≡ KeyOutOfBounds)) → OnErr r (new ≡ old)
+        → IfErr r (λ error. RefusesSwap keys (stable_limit keys) (stable_state old) first second error × ArenaUnchanged (stable_state old) (stable_state new))
+    swap_refused (Ok done) aliasing past errors same = tt
+    swap_refused (Err error) aliasing past errors same = (
+      elim errors [ inl alike ↦ rw alike (aliasing.0 (ap Err alike)) | inr none ↦ rw none ((past.0 (ap Err none)).1) ],
+      unchanged same,
+    )

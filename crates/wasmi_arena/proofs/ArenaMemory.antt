@@ -1,22 +1,20 @@
 -- A stable arena in memory is its vector, and a value without bytes. Assumes `Logic`.
 use mathlib.Core.Path.{◌≡◌, refl, sym, ap}
-use Prim.Native.Nat.{ℕ, zero, ◌+◌, ◌<◌, ◌≤◌, ◌^◌}
+use Prim.Native.Nat.{ℕ, zero, ◌+◌}
 use native.Mathlib.Omega.{arith}
 use mathlib.Core.List.{List, [], ◌∷◌}
 use lib.ListN.{length}
 use seplogic.Ra.Ura.{Ura}
 use base.Fraction.{full_share}
 use base.Logic.{SProp, ent, sep, ex}
-use mir.Syntax.{tcons, tnil}
-use prog.Align.{field_in}
-use prog.Memory.{align, size, up}
+use prog.Memory.{align, up}
 use types.Logic.{Logic, sem}
 use types.Kit.{some, by, ‵, raw, ◌⊛◌, ◌$◌, ◌∵◌, !, qed, done, use1, use2, split, pick, rewrite, show}
 use denote.Index.{row}
 use denote.Laws.{Lawfuls}
 use denote.Memory.{part_at, part_of, mem, lone}
 use denote.Model.Fields.{view_owns, view_made, plain_out, Plain-in}
-use denote.Param.{param, layout}
+use denote.Param.{param}
 use denote.Param.Laws.{param_laws}
 use denote.RattleType.{RattleType, Denots}
 use denote.Struct.Declared as Declared
@@ -68,13 +66,6 @@ module _ (K : RattleType) (E : El) (Z : Al) (keys : Key.Ghosts K.Denot) where
 
   abbrev values : (Inside).Denot → Denots (rows_of fields)
   values a = (a.items, (tt, tt))
-
-  -- the vector of an arena takes no more than it does
-  pub vec_small : size (layout ArenaRow) < 2 ^ 63 → size (layout (vec.VecRow E Z)) < 2 ^ 63
-  vec_small small =
-      let first = lone (vec.VecRow E Z).mir in
-      let inside : up (align first) 0 + size first ≤ size (layout ArenaRow) = field_in [] (tcons first (tcons (lone Marker.mir) tnil)) 0 first _ refl in
-      omega (arith, small, inside)
 
   module _ {M : Type 1} {𝓤 : Ura M} (𝓛 : Logic 𝓤) (b o : ℕ) where
     -- what is left of an arena without its vector

@@ -1,5 +1,5 @@
 -- Facts on the entries of an arena.
-use Rattle.std.proofs.Common.{◌≡◌, ℕ, zero, suc, ◌+◌, ◌<◌, ◌≤◌, List, [], ◌∷◌, ◌++◌, length, refl, sym, ◌∙◌, ap, arith}
+use Rattle.std.proofs.Common.{◌≡◌, ℕ, zero, suc, ◌+◌, ◌<◌, ◌≤◌, List, [], ◌∷◌, ◌++◌, length, refl, sym, ◌∙◌, ap, arith, length-append}
 use Rattle.std.proofs.lemmas.Option.{same_Some, slice_get_within}
 use Rattle.std.specs.Prelude.{Some, slice_get}
 use Rattle.wasmi_arena.specs.Keys.{Keys, KeyLaw}
@@ -10,6 +10,13 @@ module _ {K T : Type 0} (keys : Keys K) where
   pub length-entries_from : (from : ℕ) (items : List T) → length (entries_from keys from items) ≡ length items
   length-entries_from from [] = refl
   length-entries_from from (x ∷ xs) = omega (arith, length-entries_from (from + 1) xs)
+
+  -- an item fewer is an entry fewer
+  pub fewer_entries_first : (from to : ℕ) {old new : List T} {item : T} → old ≡ item ∷ new → length (entries_from keys to new) < length (entries_from keys from old)
+  fewer_entries_first from to {old} {new} first = omega (arith, ap length first, length-entries_from from old, length-entries_from to new)
+
+  pub fewer_entries_last : (from to : ℕ) {old : List T} (new : List T) (item : T) → old ≡ new ++ item ∷ [] → length (entries_from keys to new) < length (entries_from keys from old)
+  fewer_entries_last from to {old} new item last = omega (arith, ap length last, length-append new (item ∷ []), length-entries_from from old, length-entries_from to new)
 
   -- the last item is under the key behind the others
   pub entries_from_last : (from : ℕ) (items : List T) (item : T) → entries_from keys from (items ++ item ∷ []) ≡ entries_from keys from items ++ (keys.key (from + length items), item) ∷ []

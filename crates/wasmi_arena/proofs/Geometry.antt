@@ -1,5 +1,5 @@
 -- Facts on the buckets of a stable vector.
-use Rattle.std.proofs.Common.{◌≡◌, ℕ, zero, suc, ◌+◌, ◌-◌, ◌*◌, ◌<◌, ◌≤◌, Bool, true, false, cond, nat_le, refl, ap, ◌∙◌, ◌^◌, subst, inl, inr, add-one, arith}
+use Rattle.std.proofs.Common.{◌≡◌, ℕ, zero, suc, ◌+◌, ◌-◌, ◌*◌, ◌<◌, ◌≤◌, Bool, true, false, cond, nat_le, refl, ap, ◌∙◌, ◌^◌, subst, inl, inr, add-one, arith, Fits, w64}
 use Rattle.std.proofs.Math.Nat.{pow-succ'}
 use Rattle.std.proofs.lemmas.Bool.{cases_lt, cases_eq, cases_order, leb-true, leb-false, le-leb}
 use Rattle.std.proofs.lemmas.Nat.{pow_pos, pow-add}
@@ -25,6 +25,10 @@ start_mono b c h = omega (arith, start-size b, start-size c, mul-le-mul_left 32 
 pub start_below : (b c : ℕ) → b < c → start b + size b ≤ start c
 start_below b c h = start_mono (suc b) c (omega arith)
 
+-- a block has some slots, and not too many
+pub size_allowed : (b capacity : ℕ) → b < 27 → capacity ≡ size b → (0 < capacity) × (capacity < 2 ^ 63)
+size_allowed b capacity exists is = (omega (arith, is, size_pos b), omega (arith, is, start_below b 27 exists))
+
 -- an index has no other place
 pub place_unique : {i b s c t : ℕ} → IsPlace i b s → IsPlace i c t → (b ≡ c) × (s ≡ t)
 place_unique {i} {b} {s} {c} {t} p q = elim (cases_order b c) [
@@ -34,6 +38,10 @@ place_unique {i} {b} {s} {c} {t} p q = elim (cases_order b c) [
     | inr more ↦ absurd (omega (arith, start_below c b more))
   ]
 ]
+
+-- as many more items as fit behind a place make no index too large
+pub place_fits : {i b s : ℕ} → IsPlace i b s → (more : ℕ) → s + more ≤ size b → Fits w64 (i + more)
+place_fits {i} {b} {s} p more fits = record { fits = omega (arith, start_below b 27 p.bucket_exists, p.index_is) }
 
 -- an index that has a place is below the limit
 pub place-le_max : {i b s : ℕ} → IsPlace i b s → i ≤ max_len

@@ -94,6 +94,10 @@ module _ {T : Type 0} where
     pub len-le_slots : len ≤ slots
     len-le_slots = rw (v.slots_counted, v.fewest_open) IsFewest-len.enough
 
+    -- so many slots are free
+    pub free-room : slots - len ≡ room (length (items_of buckets))
+    free-room = rw (v.slots_counted, v.fewest_open, v.items_counted) refl
+
     pub slots-le_max : slots ≤ max_len
     slots-le_max = rw v.slots_counted (start_mono open_buckets 27 open-le_27)
 

@@ -3,6 +3,7 @@ pub mod Table
 pub mod Refilled
 pub mod Rewritten
 pub mod LaidOut
+pub mod Keys
 pub mod Arena
 pub mod OneAnswer
 pub mod Entries
@@ -16,7 +17,7 @@ pub mod Growth
 pub mod Apart
 pub mod Cloned
 pub mod Yielded
-pub mod Passed
+pub mod Results
 pub mod SlotRuns
 pub mod Frame
 pub mod Sharing
@@ -36,3 +37,4 @@ pub mod Refusals
 pub mod Answered
 pub mod WalkedKeys
 pub mod BothEnds
+pub mod Sizes

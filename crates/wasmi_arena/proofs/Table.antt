@@ -4,8 +4,8 @@ use Rattle.std.proofs.Math.Nat.{pow-succ', mul-le-mul_left}
 use Rattle.std.proofs.Math.ListN.{drop_of_length-le}
 use Rattle.std.proofs.Math.Seq.{drop-nil, take-set-lt}
 use Rattle.std.proofs.lemmas.Nat.{pow_pos}
-use Rattle.std.proofs.lemmas.List.{nil_from_length, take_all, take-append-drop, take-append-le, drop-append-le, drop-drop, drop-take, take-take, length-take, length-set, take-set-le, drop-set-lt, drop-set-add, get_or_append_left, get_or-append_right, get_or-set_same, set-append_left, set-append_right, set-set}
-use Rattle.std.specs.Iterator.{YieldsFirstRef, YieldsLastRef, MakesProgress, item_count}
+use Rattle.std.proofs.lemmas.List.{nil_from_length, get_or_default, take_all, take-append-drop, take-append-le, drop-append-le, drop-drop, drop-take, take-take, length-take, length-set, take-set-le, drop-set-lt, drop-set-add, get_or_append_left, get_or-append_right, get_or-set_same, set-append_left, set-append_right, set-set}
+use Rattle.std.specs.Iterator.{YieldsFirstRef, YieldsLastRef}
 use Rattle.std.specs.Borrow.{Bor}
 use Rattle.std.specs.Slice.Iter.{iter_rest, iter_steps, iter_steps_back}
 use Rattle.std.specs.declared.slice.Iter.{Iter}
@@ -147,6 +147,10 @@ module _ {T : Type 0} where
         subst (λ (xs : List T). IsTable (2 * width) xs (set buckets b (with_item (get_or buckets b None) s item))) (sym (ap (λ n. drop width (set items n item)) apart ∙ drop-set-add width items (i - width) item)) rest,
       )
 
+  -- what is read at an index within a table stands there
+  pub read_there : (buckets : List (Option (Bucket T))) (b : ℕ) (d found : Option (Bucket T)) → b < length buckets → get_or buckets b d ≡ found → get_or buckets b None ≡ found
+  read_there buckets b d found inside is = get_or_default buckets b None d inside ∙ is
+
   -- a write to one part of a table
   pub write-append_left : (front back : List (Option (Bucket T))) (b s : ℕ) (item : T) → b < length front → write (front ++ back) b s item ≡ write front b s item ++ back
   write-append_left front back b s item inside =
@@ -267,10 +271,6 @@ module _ {T : Type 0} where
       rw (nil_from_length back no_back, nil_from_length buckets no_buckets) (simp append-nil (nil_from_length (iter_rest s) ended.0, ap iter_rest ended.1 ∙ nil_from_length (iter_rest s) ended.0))
   rest_yields_last back buckets s t (Some x) no_back no_buckets at = rw (nil_from_length back no_back, nil_from_length buckets no_buckets) (simp append-nil at)
 
-  -- and where something is left of it, that is called
-  pub back_yields : (front back left : List T) (buckets : List (Option (Bucket T))) (x : T) → back ≡ left ++ x ∷ [] → front ++ items_of buckets ++ back ≡ front ++ items_of buckets ++ left ++ x ∷ []
-  back_yields front back left buckets x at = ap (λ (xs : List T). front ++ items_of buckets ++ xs) at ∙ sym (append_assoc (front ++ items_of buckets) left (x ∷ []))
-
   -- a call from the front leaves no more than there was
   pub length-steps : (s t : Iter T) (r : Option (Bor T)) → iter_steps s r t → length (iter_rest t) ≤ length (iter_rest s)
   length-steps s t None ended = omega (arith, ap (λ (u : Iter T). length (iter_rest u)) ended.1)
@@ -280,13 +280,3 @@ module _ {T : Type 0} where
   pub length-steps_back : (s t : Iter T) (r : Option (Bor T)) → iter_steps_back s r t → length (iter_rest t) ≤ length (iter_rest s)
   length-steps_back s t None ended = omega (arith, ap (λ (u : Iter T). length (iter_rest u)) ended.1)
   length-steps_back s t (Some x) at = omega (arith, ap length at, length-append (iter_rest t) (x.now ∷ []))
-
-  -- a call that yields the last item brings the end nearer
-  pub progress-yields_last : (can : List T → Type 0) → ((xs : List T) → can xs) → (old new : List T) (r : Option (Bor T)) → YieldsLastRef (λ (xs : List T). xs) old r new → MakesProgress can (item_count (λ (xs : List T). xs)) old r new
-  progress-yields_last can all old new None ended = record { on = λ _. tt; keeps = tt; rests = λ _. tt }
-  progress-yields_last can all old new (Some x) at = record { on = λ _. (all new, tt, omega (arith, ap length at, length-append new (x.now ∷ []))); keeps = all new; rests = λ _. tt }
-
-  -- and so does one that yields the first
-  pub progress-yields_first : (can : List T → Type 0) → ((xs : List T) → can xs) → (old new : List T) (r : Option (Bor T)) → YieldsFirstRef (λ (xs : List T). xs) old r new → MakesProgress can (item_count (λ (xs : List T). xs)) old r new
-  progress-yields_first can all old new None ended = record { on = λ _. tt; keeps = tt; rests = λ _. tt }
-  progress-yields_first can all old new (Some x) at = record { on = λ _. (all new, tt, omega (arith, ap length at)); keeps = all new; rests = λ _. tt }

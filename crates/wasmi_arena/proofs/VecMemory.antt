@@ -1,15 +1,13 @@
 -- A stable vector in memory is the buckets of its table side by side, and the rest. Assumes `Logic`.
 use mathlib.Core.Path.{◌≡◌, refl, ap, ◌∙◌}
-use Prim.Native.Nat.{ℕ, zero, ◌+◌, ◌*◌, ◌<◌, ◌≤◌, ◌^◌}
-use native.Mathlib.Omega.{arith}
+use Prim.Native.Nat.{ℕ, zero, ◌+◌}
 use mathlib.Core.List.{List, [], ◌∷◌}
 use lib.ListN.{length}
 use seplogic.Ra.Ura.{Ura}
 use base.Fraction.{full_share}
 use base.Logic.{SProp, ent, sep, ex}
-use mir.Syntax.{w64, tcons, tnil, ty_array}
-use prog.Align.{field_in}
-use prog.Memory.{align, size, up}
+use mir.Syntax.{w64}
+use prog.Memory.{align, up}
 use types.Logic.{Logic, sem}
 use types.Kit.{some, by, ‵, raw, ◌⊛◌, ◌$◌, ◌∵◌, !, qed, done, use1, use2, split, learn, given, pick, show}
 use denote.Builtin.{usize}
@@ -17,7 +15,7 @@ use denote.Index.{row}
 use denote.Laws.{Lawfuls}
 use denote.Memory.{part_at, part_of, mem, lone}
 use denote.Model.Fields.{view_owns, view_made, plain_out, Plain-in}
-use denote.Param.{number, layout}
+use denote.Param.{number}
 use denote.Param.Laws.{param_laws}
 use denote.Plain.{uint_Lawful}
 use denote.RattleType.{RattleType, Denots}
@@ -28,7 +26,6 @@ use Rattle.core.proofs.alloc.Calls.{Al}
 use Rattle.core.proofs.mem.Param.{El, R}
 use Rattle.core.proofs.slots.Leases.{P}
 use Rattle.core.specs.List.{refill}
-use Rattle.std.specs.Mem.{type_size}
 use Rattle.wasmi_arena.specs.Loan.{SameBuckets}
 use Rattle.wasmi_arena.specs.Table.{refilled}
 use Rattle.wasmi_arena.specs.contracts.stable_vec.StableVec as Vec
@@ -72,15 +69,6 @@ module _ (E : El) (Z : Al) where
 
   abbrev values : (Inside).Denot → Denots (rows_of fields)
   values v = (v.table, (v.open_buckets, (v.slots, (v.len, (v.alloc, tt)))))
-
-  -- the buckets of a vector take no more than it does
-  pub buckets_small : size (layout VecRow) < 2 ^ 63 → 27 * type_size (MaybeBucket E Z 27) < 2 ^ 63
-  buckets_small small =
-      let table = lone Rows.mir in let array = ty_array (lone (MaybeBucket E Z 27).mir) 27 in
-      let others = tcons (lone usize.mir) (tcons (lone usize.mir) (tcons (lone usize.mir) (tcons (lone (P E Z).mir) tnil))) in
-      let table_in : up (align table) 0 + size table ≤ size (layout VecRow) = field_in [] (tcons table others) 0 table _ refl in
-      let array_in : up (align array) 0 + size array ≤ size table = field_in [] (tcons array tnil) 0 array _ refl in
-      omega (arith, small, table_in, array_in)
 
   module _ {M : Type 1} {𝓤 : Ura M} (𝓛 : Logic 𝓤) (b o : ℕ) where
     abbrev bare_fields : (Inside).Denot → SProp 𝓤

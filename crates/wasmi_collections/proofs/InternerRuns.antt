@@ -1,10 +1,10 @@
 -- What an interner replies to two texts in a run.
-use Rattle.std.proofs.Common.{◌≡◌, ◌⊎◌, ℕ, zero, suc, ◌≤◌, ◌^◌, List, [], ◌∷◌, length, map, Some, None, slice_get, refl, sym, ap, ◌∙◌, ◌↔◌, inl, inr}
+use Rattle.std.proofs.Common.{◌≡◌, ◌⊎◌, ℕ, zero, suc, ◌≤◌, ◌^◌, List, [], ◌∷◌, length, map, Some, None, slice_get, refl, sym, ap, ◌∙◌, ◌↔◌, inl, inr, arith}
 use Rattle.std.specs.Prelude.{◌++◌, Result, Ok, Err, IfOk, IfErr, OnErr, IsErrOf}
-use Rattle.std.proofs.Common.{arith, is_ok, true≢false}
 use Rattle.std.proofs.lemmas.Option.{none-some, same_Some}
 use Rattle.wasmi_arena.specs.declared.error.ArenaError.{ArenaError}
 use Rattle.wasmi_arena.specs.declared.error.ArenaError.TheVariants.{OutOfSystemMemory, NotEnoughKeys}
+use Rattle.wasmi_arena.proofs.Results.{ok-err}
 use Rattle.wasmi_collections.specs.Interner.{symbol_of, Interns, Interning}
 use Rattle.wasmi_collections.specs.InternerSteps.{InternStep, text_to_intern}
 use Rattle.wasmi_collections.specs.Runs.{IsRun}
@@ -33,9 +33,6 @@ reads_with_more : (texts : List (List ℕ)) (text other : List ℕ) (symbol : �
 reads_with_more [] text other symbol is = absurd (none-some other is)
 reads_with_more (t ∷ ts) text other zero is = is
 reads_with_more (t ∷ ts) text other (suc symbol) is = reads_with_more ts text other symbol is
-
-ok-err : {X Y : Type 0} {x : X} {y : Y} → Ok x ≡ Err y → ⊥
-ok-err e = true≢false (ap is_ok e)
 
 other_error : OutOfSystemMemory ≡ NotEnoughKeys → ⊥
 other_error e = absurd (cc)

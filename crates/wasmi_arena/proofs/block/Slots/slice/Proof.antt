@@ -53,7 +53,7 @@ slice_spec 𝓤 𝓛 𝓜 𝓡 wired X LX =
     let y : W.Ghost = ((κs, qs, bounds, a, (shr_vals a.0, (ptr_vals E ptr, (uint_vals w64 len, tt)))), tt) in
     enters_shared E 𝓛 κ κs.1.0 qs.0 qs.1.0 a.0 ptr len (κs.1.0 ⊑ X.lives) (ptr.start ≡ s.block) (s.taken ≡ 0) (len ≡ length s.items) _ (λ same_block none_taken counted.
     qed 𝓛 (‵ (hidden_shr (SlotsRow E) κ s rb ro) ∷ ‵ (flft κ qs.0) ∷ (‵ (flft κs.1.0 qs.1.0) ⊛ ‵ ftrue) ∷ []) ∵
-    enter ! _ _ _ _ _ $ alloc_all ! (λ l. pass_all ! refl ((tt, tt), (word-Good [] ptr.start, ((tt, record { fits = are.1.1.0.1 }), tt))) $
+    enter ! _ _ _ _ (W.post y) $ alloc_all ! (λ l. pass_all ! refl ((tt, tt), (word-Good [] ptr.start, ((tt, record { fits = are.1.1.0.1 }), tt))) $
     unhide ! $ fsplit ! $ drop ! $ in_a_block ! s.block (λ p. slots_lend (R E) p s.taken s.items s.free κ) (id⊢ 𝓤 (never 𝓤)) (λ b o at. fsplit ! $ flt_l ! (λ small.
     let start : s.taken * size + o ≡ o = ap (λ n. n * size + o) none_taken ∙ omega (arith, zero-mul size) in
     let items_fit = times_below (length s.items) (s.taken + length s.items + s.free) size (2 ^ 63) (omega arith) small in

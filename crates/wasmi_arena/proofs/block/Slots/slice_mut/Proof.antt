@@ -49,7 +49,7 @@ slice_mut_spec 𝓤 𝓛 𝓜 𝓡 wired X LX =
     enters_slots E 𝓛 κ κs.1.0 qs.0 qs.1.0 a.0 ptr len ftrue (κs.1.0 ⊑ X.lives) (ptr.start ≡ s.block) (s.taken ≡ 0) (len ≡ length s.items) _ (λ same_block none_taken counted.
     let few : length s.items < 2 ^ 64 = subst (λ (n : ℕ). n < 2 ^ 64) counted are.1.1.0.1 in
     qed 𝓛 (referred E 𝓛 κ κs.1.0 qs.0 qs.1.0 a.0 s (‵ ftrue ∷ [])) ∵ keep ! (0 ∷ 1 ∷ 2 ∷ 3 ∷ []) $
-    enter ! _ _ _ _ _ $ alloc_all ! (λ l. pass_all ! refl ((tt, tt), (word-Good [] ptr.start, ((tt, record { fits = are.1.1.0.1 }), tt))) $
+    enter ! _ _ _ _ (W.post y) $ alloc_all ! (λ l. pass_all ! refl ((tt, tt), (word-Good [] ptr.start, ((tt, record { fits = are.1.1.0.1 }), tt))) $
     opens_slots E ! tt s b' o' (λ vs b o at small.
     take_at ! 2 $ rewrite ! 0 (λ (p : Ptr). ‵ (fat full_share (layout (PtrRow E)) (l 2) 0 (word p))) (same_block ∙ at) refl $ give_at ! 2 $ first ! $ blocks ! $
     sets_last ! (agg ! (and_then ! (get_in ! (fld ! refl (stop !)) (sub ! 0 refl (whole !))) (and_then ! (get ! refl) (no_more !)))) refl (tt, (tt, (record { fits = are.1.1.0.1 }, tt))) $

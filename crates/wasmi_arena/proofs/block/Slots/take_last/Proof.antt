@@ -50,7 +50,7 @@ take_last_spec 𝓤 𝓛 𝓜 𝓡 wired X LX =
     let count : s.taken + length s.items + s.free ≡ new.taken + length new.items + new.free = omega (arith, ap length cut.1, length-append new.items (item ∷ [])) in
     let here : slot ≡ new.taken + length new.items = omega (arith, ap length cut.1, length-append new.items (item ∷ [])) in
     qed 𝓛 (referred E 𝓛 κs.0 κs.1.0 qs.0 qs.1.0 a.0 s (‵ ftrue ∷ [])) ∵ keep ! (0 ∷ 1 ∷ 2 ∷ 3 ∷ []) $
-    enter ! _ _ _ _ _ $ alloc_all ! (λ l. pass_all ! refl ((tt, tt), (word-Good [] ptr.start, ((tt, record { fits = are.1.1.0.1 }), tt))) $
+    enter ! _ _ _ _ (W.post y) $ alloc_all ! (λ l. pass_all ! refl ((tt, tt), (word-Good [] ptr.start, ((tt, record { fits = are.1.1.0.1 }), tt))) $
     opens_slots E ! tt s b' o' (λ vs b o at small.
     let fits = offset_fits slot (s.taken + length s.items + s.free) size (omega arith) small in
     take_at ! 2 $ rewrite ! 0 (λ (p : Ptr). ‵ (fat full_share (layout (PtrRow E)) (l 2) 0 (word p))) (same_block ∙ at) refl $ give_at ! 2 $ first ! $ blocks ! $

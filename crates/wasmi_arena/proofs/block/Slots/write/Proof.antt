@@ -55,7 +55,7 @@ write_spec 𝓤 𝓛 𝓜 𝓡 wired X LX =
     let new = with_last s item in let size = sz E in
     let count : s.taken + length s.items + s.free ≡ new.taken + length new.items + new.free = omega (arith, length-append s.items (item ∷ [])) in
     qed 𝓛 (referred E 𝓛 κs.0 κs.1.0 qs.0 qs.1.0 a.0 s (‵ (fsep (X.own_val item (v ∷ [])) ftrue) ∷ [])) ∵ move ! (4 ∷ []) $ fsplit ! $ keep ! (2 ∷ 3 ∷ 4 ∷ 5 ∷ 0 ∷ []) $
-    enter ! _ _ _ _ _ $ alloc_all ! (λ l. pass_all ! refl ((tt, tt), (word-Good [] ptr.start, ((tt, record { fits = are.1.1.0.1 }), (good, tt)))) $
+    enter ! _ _ _ _ (W.post y) $ alloc_all ! (λ l. pass_all ! refl ((tt, tt), (word-Good [] ptr.start, ((tt, record { fits = are.1.1.0.1 }), (good, tt)))) $
     opens_slots E ! tt s b' o' (λ vs b o at small.
     let fits = offset_fits slot (s.taken + length s.items + s.free) size (omega arith) small in
     take_at ! 2 $ rewrite ! 0 (λ (p : Ptr). ‵ (fat full_share (layout (PtrRow E)) (l 2) 0 (word p))) (same_block ∙ at) refl $ give_at ! 2 $ first ! $ blocks ! $

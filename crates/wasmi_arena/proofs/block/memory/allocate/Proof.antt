@@ -77,7 +77,7 @@ allocate_spec 𝓤 𝓛 𝓜 𝓡 wired X Y LX LY g d dd met md =
     let small : n * size < 2 ^ 63 = fits.0 in let bytes : n * size < 2 ^ 64 = omega arith in
     let all_fit : (0 + 0 + n) * size < 2 ^ 63 = let same : n ≡ 0 + 0 + n = omega arith in subst (λ k. k * size < 2 ^ 63) same small in
     let asked : (Takes Z 𝓛 𝓜.mem 𝓡.returns).Ghost = at_takes Z 𝓛 𝓜.mem 𝓡.returns κ q a.0.ref_ptr self (n * size) al τ in
-    enter ! _ _ _ _ _ $ alloc_all ! (λ l. pass_all ! refl ((tt, tt), ((tt, record { fits = are.1.0.1 }), tt)) $
+    enter ! _ _ _ _ (W.post y) $ alloc_all ! (λ l. pass_all ! refl ((tt, tt), ((tt, record { fits = are.1.0.1 }), tt)) $
     let En = env function.locals l in let arms = head (after 2 function.body) in
     let rest = any_q (after_seq 𝓤 𝓛.H (Wp 𝓤 𝓛.H 𝓣.C 𝓣.Λ En (after 3 function.body) (at_return 𝓤 𝓛.H En (W.post y))) (at_return 𝓤 𝓛.H En (W.post y))) in
     sets ! (is ! (bin ! (get ! refl) (size_word !) (record { fits = subst (λ (k : ℕ). k < 2 ^ 64) (sym (uncapped n size bytes)) bytes })) (ap (vint w64) (uncapped n size bytes))) refl (tt, record { fits = bytes }) $

@@ -78,7 +78,7 @@ deallocate_spec 𝓤 𝓛 𝓜 𝓡 wired X Y LX LY g d dd met md =
     use1 𝓛 (alloc_tokens E Z 𝓛 κ κ₁ κ₂ q q₁ q₂ ⊛ ‵ (let_go 5) ⊛ ‵ (unit.own_val tt (vunit ∷ []))) (leaves_alloc E Z 𝓛 κ κ₁ κ₂ q q₁ q₂ 5 unit tt vunit) $ nothing ! $ move ! (1 ∷ 0 ∷ []) $ done ! in
     qed 𝓛 (‵ (hidden_shr (P E Z) κ self a.0.ref_ptr.0 a.0.ref_ptr.1) ∷ ‵ (flft κ q) ∷ others E Z 𝓛 κ κ₁ κ₂ q q₁ q₂ ∷ ‵ Rest ∷ raw (fact 𝓤 (AreEmptied ptr s r n self)) ∷ []) ∵ move ! (4 ∷ []) $ heard ! _ (λ empty.
     move ! (3 ∷ []) $ fsplit3 ! $ move ! (2 ∷ []) $ fsplit3 ! $ fsplit ! $ move ! (2 ∷ []) $ fsplit ! $ keep ! (3 ∷ 1 ∷ 7 ∷ 8 ∷ 9 ∷ []) $
-    enter ! _ _ _ _ _ $ alloc_all ! (λ l. pass_all ! refl ((tt, tt), (word-Good [] ptr.start, ((tt, record { fits = are.1.1.0.1 }), ((tt, (tt, tt)), ((tt, (tt, tt)), tt))))) $
+    enter ! _ _ _ _ (W.post y) $ alloc_all ! (λ l. pass_all ! refl ((tt, tt), (word-Good [] ptr.start, ((tt, record { fits = are.1.1.0.1 }), ((tt, (tt, tt)), ((tt, (tt, tt)), tt))))) $
     rewrite ! 0 (λ (x : Ptr × List X.Denot). ‵ (slots_own (R E) x.0 s.taken x.1 s.free)) (λ i. (empty.one.block i, empty.no_items i)) refl $
     in_a_block ! ptr.start (λ p. slots_own (R E) p s.taken [] s.free) (id⊢ 𝓤 (never 𝓤)) (λ b o at. fsplit ! $ flt_l ! (λ fit.
     let count : s.taken + 0 + s.free ≡ n = let all = empty.all_empty in omega arith in

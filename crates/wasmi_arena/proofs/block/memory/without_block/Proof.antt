@@ -65,7 +65,7 @@ without_block_spec 𝓤 𝓛 𝓜 𝓡 wired X Y LX LY g d dd met md =
     → Sq 𝓛 (‵ (Answer.own_val r (v ∷ [])) ∷ ‵ (flft κs.0 qs.0) ∷ others E Z 𝓛 κs.0 κ₁ κ₂ qs.0 q₁ q₂ ∷ []) (prop (W.post y v)) = λ r v some new.
     suffices ! _ (ends_at 𝓛 call stayed c y v r (tt, (tt, tt)) (tt, (tt, tt))) $ says_two ! some new $ by ! (leaves_alloc E Z 𝓛 κs.0 κ₁ κ₂ qs.0 q₁ q₂ 2 Answer r v) in
     qed 𝓛 (‵ (hidden_shr (P E Z) κs.0 a.0.now a.0.ref_ptr.0 a.0.ref_ptr.1) ∷ ‵ (flft κs.0 qs.0) ∷ others E Z 𝓛 κs.0 κ₁ κ₂ qs.0 q₁ q₂ ∷ ‵ (fsep (usize.own_val n (uint_vals w64 n)) ftrue) ∷ raw (emp 𝓤) ∷ []) ∵ keep ! (1 ∷ 2 ∷ []) $
-    enter ! _ _ _ _ _ $ alloc_all ! (λ l. pass_all ! refl ((tt, tt), ((tt, record { fits = are.1.0.1 }), tt)) $
+    enter ! _ _ _ _ (W.post y) $ alloc_all ! (λ l. pass_all ! refl ((tt, tt), ((tt, record { fits = are.1.0.1 }), tt)) $
     sets ! (bin ! (size_word !) (lit ! tt) tt) refl (tt, tt) $ first ! $ branches ! (get ! refl)
     (λ sized. sets ! (agg ! (and_then ! (lit ! tt) (no_more !))) refl (tt, (record { fits = lit< tt }, tt)) $ returns_within ! (W.post y) refl (look_at ! 0 refl) $ free_all ! refl $
     use0 𝓛 (‵ (Answer.own_val None (live 0 vnil ∷ []))) (none_of 𝓛 (Parts E Z)) $ out None (live 0 vnil) (λ e. cc, λ zero. absurd (subst (λ k. T (not (eqb (capped k) 0))) zero sized)) tt)

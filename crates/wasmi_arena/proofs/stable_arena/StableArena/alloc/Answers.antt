@@ -1,9 +1,10 @@
 use Rattle.std.proofs.Common.{◌<◌, ◌≤◌, List, [], ◌∷◌, ◌++◌, length, Err, refl, ap, inl, arith, length-append}
 use Rattle.std.proofs.Math.Nat.{not-le_of_lt}
+use Rattle.std.proofs.lemmas.Bool.{false≢true}
 use Rattle.wasmi_arena.specs.Geometry.{max_len}
 use Rattle.wasmi_arena.specs.Keys.{Keys}
 use Rattle.wasmi_arena.specs.Arena.{stable_limit}
-use Rattle.wasmi_arena.proofs.Passed.{passed_is}
+use Rattle.wasmi_arena.proofs.Results.{ok-err, errors_apart, passed_is}
 use Rattle.wasmi_arena.proofs.stable_arena.StableArena.alloc.Goals as goal
 
 module _ {K T : Type 0} (keys : Keys K) (items : List T) (below : length items < stable_limit keys) where
@@ -38,7 +39,7 @@ returns-in_err-key-clause-no_key g c =
 pub returns-in_err-key-clause-memory : goal.returns-in_err-key-clause-memory
 returns-in_err-key-clause-memory g c =
     let passed = passed_is c.from_residual.result c.in_err-key.field-0.0 c.from_residual.ensures.1 in
-    rw (passed, c.in_err-key.ensures.errors) (λ refused. cc)
+    rw (passed, c.in_err-key.ensures.errors) (λ refused. absurd (errors_apart refl refused))
 
 pub returns-in_err-key-clause-with_room : goal.returns-in_err-key-clause-with_room
 returns-in_err-key-clause-with_room g c = λ below some. absurd (not-le_of_lt below (c.in_err-key.ensures.no_key.0 (ap Err c.in_err-key.ensures.errors)))
@@ -78,17 +79,17 @@ returns-in_err-push-clause-memory g c =
     rw (passed, ← c.self.view_is) (λ refused. c.in_err-push.ensures.memory (cc))
 
 pub returns-in_err-push-clause-with_room : goal.returns-in_err-push-clause-with_room
-returns-in_err-push-clause-with_room g c = λ below some. absurd (let none = c.in_err-push.ensures.with_room (rw c.self.view_is some) in cc)
+returns-in_err-push-clause-with_room g c = λ below some. absurd (false≢true (c.in_err-push.ensures.with_room (rw c.self.view_is some)))
 
 pub returns-in_err-push-clause-without_size : goal.returns-in_err-push-clause-without_size
 returns-in_err-push-clause-without_size g c = λ below zero infallible.
-    absurd (let none = c.in_err-push.ensures.without_size (rw c.self.view_is (length-lt_max g.Key.ArenaKey.keys c.args.self.now below)) zero infallible in cc)
+    absurd (false≢true (c.in_err-push.ensures.without_size (rw c.self.view_is (length-lt_max g.Key.ArenaKey.keys c.args.self.now below)) zero infallible))
 
 pub invariant_of-self-2 : goal.invariant_of-self-2
 invariant_of-self-2 g c = rw (c.in_ok-push.ensures.ok, c.self.view_is) (length-push g.Key.ArenaKey.keys c.args.self.now c.in_ok-key.ensures.has_key c.args.item)
 
 pub returns-clause-no_key : goal.returns-clause-no_key
-returns-clause-no_key g c = (λ refused. cc, λ full. absurd (not-le_of_lt c.in_ok-key.ensures.has_key full))
+returns-clause-no_key g c = (λ refused. absurd (ok-err refused), λ full. absurd (not-le_of_lt c.in_ok-key.ensures.has_key full))
 
 pub returns-clause-memory : goal.returns-clause-memory
-returns-clause-memory g c = λ refused. cc
+returns-clause-memory g c = λ refused. absurd (ok-err refused)

@@ -1,14 +1,10 @@
-use Rattle.std.proofs.Common.{◌≡◌, ℕ, ◌-◌, ◌<◌, ◌≤◌, Option, Some, None, true, arith, length}
-use Rattle.std.specs.Option.{SomeIff, is_some}
+use Rattle.std.proofs.Common.{◌≡◌, ℕ, ◌-◌, ◌<◌, ◌≤◌, arith, length}
 use Rattle.wasmi_arena.specs.Geometry.{max_len, fewest, slots}
 use Rattle.wasmi_arena.specs.Keys.{Keys}
 use Rattle.wasmi_arena.specs.Arena.{stable_limit}
 use Rattle.wasmi_arena.proofs.Geometry.{start_mono, fewest-le}
+use Rattle.wasmi_arena.proofs.Keys.{has_key}
 use Rattle.wasmi_arena.proofs.stable_arena.StableArena.fill_last_from.Goals as goal
-
-has_key : {K : Type 0} (P : Type 0) (key : K) (found : Option K) → SomeIff found P key → is_some found ≡ true → P
-has_key P key None none there = cc
-has_key P key (Some k) is there = is.0
 
 -- where the last slot has a key, there is one for each item
 each_keyed : {K : Type 0} (keys : Keys K) (old new n : ℕ) → new ≤ slots old → n ≡ slots old → n - 1 < keys.count → old ≤ stable_limit keys → new ≤ stable_limit keys
@@ -18,4 +14,4 @@ each_keyed keys old new n within is last few =
 pub invariant_of-self : goal.invariant_of-self
 invariant_of-self g c =
     each_keyed g.Key.ArenaKey.keys (length c.self.inside.items) (length c.fill_last_from.new.self) c.slots-slots.result c.fill_last_from.ensures.within c.slots-slots.ensures.value
-    (has_key _ _ _ c.from_usize.ensures c.if-is_none.ensures) c.self.invariant
+    (has_key _ _ c.from_usize.ensures c.if-is_none.ensures) c.self.invariant

@@ -1,9 +1,11 @@
 use Rattle.std.proofs.Common.{arith, length, [], inl, inr}
-use Rattle.std.proofs.lemmas.Bool.{cases_lt}
+use Rattle.std.proofs.lemmas.Bool.{cases_lt, false≢true}
 use Rattle.std.proofs.lemmas.Result.{err_from_is_err_and}
 use Rattle.wasmi_arena.specs.Arena.{stable_limit}
 use Rattle.wasmi_arena.proofs.Growth.{refuses_one_more}
 use Rattle.wasmi_arena.proofs.Yielded.{taken_none, taken_up_to, taken_more, taken_last, taken_all}
+use Rattle.wasmi_arena.proofs.Results.{same_error}
+use Rattle.wasmi_arena.proofs.Sizes.{vec_small, array_small}
 use Rattle.wasmi_arena.proofs.stable_arena.StableArena.from_iter.Goals as goal
 
 pub loop-item-init : goal.loop-item-init
@@ -26,8 +28,8 @@ pub returns-in_err-alloc-clause-without_size : goal.returns-in_err-alloc-clause-
 returns-in_err-alloc-clause-without_size g c = λ none infallible.
     let failed = err_from_is_err_and c.from_residual.result c.from_residual.ensures.1 in
     elim (cases_lt (length c.loop-item.arena) (stable_limit g.Key.ArenaKey.keys)) [
-      | inl below ↦ let never = c.in_err-alloc.ensures.without_size below none infallible in cc
-      | inr above ↦ let is = c.in_err-alloc.ensures.no_key.1 above in rw (failed.1, failed.2) cc
+      | inl below ↦ absurd (false≢true (c.in_err-alloc.ensures.without_size below none infallible))
+      | inr above ↦ rw (failed.1, failed.2) (same_error (c.in_err-alloc.ensures.no_key.1 above))
     ]
 
 pub loop-item-preserved : goal.loop-item-preserved
@@ -47,3 +49,6 @@ returns-clause-ok g c =
 pub returns-in-None-clause-ok : goal.returns-in-None-clause-ok
 returns-in-None-clause-ok g c =
     taken_last g.U.IntoIterator.into_iter_gives g.U.IntoIter.Iterator.next_gives g.U.IntoIter.Iterator.can_next g.U.IntoIter.Iterator.remaining _ _ _ _ c.loop-item.invariant _ _ c.in-Some.ensures.steps _ _ c.in_ok-alloc.ensures.ok c.in-None.ensures.items
+
+pub array_drop-arena-inside-requires : goal.array_drop-arena-inside-requires
+array_drop-arena-inside-requires g c = array_small g.row.T g.row.A g.A.Allocator (vec_small g.row.T g.row.A g.A.Allocator g.row.Key g.Key.ArenaKey assumption)

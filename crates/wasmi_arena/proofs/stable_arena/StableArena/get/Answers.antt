@@ -2,6 +2,7 @@ use Rattle.std.proofs.Common.{ℕ, ◌≤◌, ◌↔◌, ◌≡◌, List, length
 use Rattle.std.proofs.lemmas.Option.{slice_get_past, slice_get_cases}
 use Rattle.std.specs.Option.{ok_or, option_copied}
 use Rattle.wasmi_arena.specs.declared.error.ArenaError.TheVariants.{KeyOutOfBounds}
+use Rattle.wasmi_arena.proofs.Results.{ok_or-unless}
 use Rattle.wasmi_arena.proofs.stable_arena.StableArena.get.Goals as goal
 
 -- what an index of a list reads, and `KeyOutOfBounds` past its end
@@ -27,3 +28,6 @@ returns-clause-item g c =
 pub returns-clause-out_of_bounds : goal.returns-clause-out_of_bounds
 returns-clause-out_of_bounds g c =
     rw (c.ok_or.ensures.value, ← c.self.view_is, ← c.into_usize.ensures.number) (read_past c.self.inside.items c.into_usize.result c.get.result c.get.ensures)
+
+pub returns-clause-errors : goal.returns-clause-errors
+returns-clause-errors g c = rw c.ok_or.ensures.value (ok_or-unless _ _)

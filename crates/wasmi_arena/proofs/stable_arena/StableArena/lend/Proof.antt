@@ -42,8 +42,8 @@ use Rattle.wasmi_arena.proofs.Frame.{let_go, gone, says_two}
 use Rattle.wasmi_arena.proofs.LoanMemory.{LoanRow, loan, loan_val, loan_made}
 use Rattle.wasmi_arena.proofs.Refilled.{refilled-own}
 use Rattle.wasmi_arena.proofs.TableMemory.{MaybeBucket}
-use Rattle.wasmi_arena.proofs.VecMemory.{buckets_small}
-use Rattle.wasmi_arena.proofs.ArenaMemory.{ArenaRow, Apart, buckets_at, bare, vec_small, apart, together}
+use Rattle.wasmi_arena.proofs.Sizes.{vec_small, array_small}
+use Rattle.wasmi_arena.proofs.ArenaMemory.{ArenaRow, Apart, buckets_at, bare, apart, together}
 
 pub lend_spec : {M : Type 1} → statement M
 lend_spec 𝓤 𝓛 𝓜 𝓡 wired K X Y LK LX LY copy keys kd clone cd g d dd k_met c_met met md =
@@ -75,7 +75,7 @@ lend_spec 𝓤 𝓛 𝓜 𝓡 wired K X Y LK LX LY copy keys kd clone cd g d dd 
     move ! (2 ∷ 3 ∷ 4 ∷ 0 ∷ 1 ∷ []) $ group ! 5 $
     use1 𝓛 (later (some (λ (ν : GName). ‵ (fobs ν (Lent.coded.code held)) ⊛ ‵ (fbor κ (Body Lent b at ν)) ⊛ ‵ (flft κ q) ⊛ ‵ (follows Self Self γ ν (refill (length items) items)))))
     (takes_part 𝓛 (mem Self) Lent (refill (length items) items) κ q b o b at γ (bare K E Z keys 𝓛 b o x) (together K E Z keys 𝓛 b o items x) code code held) $ await ! tt $ pick ! (λ ν.
-    split3 ! $ fjoin ! $ flt_i ! (length buckets * type_size (MaybeBucket E Z 27)) (2 ^ 63) (subst (λ (n : ℕ). n * type_size (MaybeBucket E Z 27) < 2 ^ 63) (sym v.1.1.buckets_counted) (buckets_small E Z (vec_small K E Z keys small))) $ fjoin ! $
+    split3 ! $ fjoin ! $ flt_i ! (length buckets * type_size (MaybeBucket E Z 27)) (2 ^ 63) (subst (λ (n : ℕ). n * type_size (MaybeBucket E Z 27) < 2 ^ 63) (sym v.1.1.buckets_counted) (array_small E.row Z.row Z.g (vec_small E.row Z.row Z.g K keys small))) $ fjoin ! $
     use1 𝓛 (‵ ((LoanRow ℓ E Z).own_val (loan ℓ E Z (block_ptr b at) buckets ν ν) (loan_val ℓ E Z (block_ptr b at) ∷ []))) (loan_made ℓ E Z 𝓛 (block_ptr b at) buckets ν ν) $
     returns ! (look_at ! 0 refl) $ free_all ! refl $
     -- [the loan; the token, and what the vector is afterwards; the other tokens]

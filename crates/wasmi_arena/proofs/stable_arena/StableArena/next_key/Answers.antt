@@ -5,6 +5,7 @@ use Rattle.wasmi_arena.specs.Arena.{stable_limit}
 use Rattle.wasmi_arena.specs.Geometry.{max_len}
 use Rattle.wasmi_arena.specs.Keys.{Keys}
 use Rattle.wasmi_arena.specs.declared.error.ArenaError.TheVariants.{NotEnoughKeys}
+use Rattle.wasmi_arena.proofs.Results.{ok_or-unless}
 use Rattle.wasmi_arena.proofs.stable_arena.StableArena.next_key.Goals as goal
 
 -- no arena holds more than `max_len`
@@ -41,3 +42,6 @@ returns-clause-has_key g c = rw (c.ok_or.ensures.value, ← c.len.ensures.value)
 
 pub returns-clause-no_key : goal.returns-clause-no_key
 returns-clause-no_key g c = rw (c.ok_or.ensures.value, ← c.len.ensures.value) (next_none g.Key.ArenaKey.keys c.len.result (rw (c.len.ensures.value, ← c.self.view_is) (below c.is_full.result c.is_full.ensures c.if-is_full.false)) c.from_usize.result c.from_usize.ensures)
+
+pub returns-clause-errors : goal.returns-clause-errors
+returns-clause-errors g c = rw c.ok_or.ensures.value (ok_or-unless _ _)

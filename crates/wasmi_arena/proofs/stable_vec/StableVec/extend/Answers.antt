@@ -1,9 +1,10 @@
-use Rattle.std.proofs.Common.{arith, length, inl, inr, rules}
-use Rattle.std.proofs.lemmas.Bool.{cases_lt}
+use Rattle.std.proofs.Common.{arith, length, inl, inr}
+use Rattle.std.proofs.lemmas.Bool.{cases_lt, false≢true}
 use Rattle.std.proofs.lemmas.Result.{err_from_is_err_and}
 use Rattle.wasmi_arena.specs.Geometry.{max_len}
 use Rattle.wasmi_arena.proofs.Growth.{refuses_one_more}
 use Rattle.wasmi_arena.proofs.Yielded.{taken_none, taken_up_to, taken_more, taken_last, taken_all}
+use Rattle.wasmi_arena.proofs.Results.{same_error}
 use Rattle.wasmi_arena.proofs.stable_vec.StableVec.extend.Goals as goal
 
 pub loop-item-init : goal.loop-item-init
@@ -20,10 +21,12 @@ returns-in_err-push-clause-err g c =
     )
 
 pub returns-in_err-push-clause-without_size : goal.returns-in_err-push-clause-without_size
-returns-in_err-push-clause-without_size g c = λ none infallible. elim (cases_lt (length c.loop-item.self) max_len) [
-  | inl below ↦ let never = c.in_err-push.ensures.without_size below none infallible in cc
-  | inr full ↦ let is = c.in_err-push.ensures.full.1 full in search rules
-]
+returns-in_err-push-clause-without_size g c = λ none infallible.
+    let failed = err_from_is_err_and c.from_residual.result c.from_residual.ensures.1 in
+    elim (cases_lt (length c.loop-item.self) max_len) [
+      | inl below ↦ absurd (false≢true (c.in_err-push.ensures.without_size below none infallible))
+      | inr full ↦ rw (failed.1, failed.2) (same_error (c.in_err-push.ensures.full.1 full))
+    ]
 
 pub loop-item-preserved : goal.loop-item-preserved
 loop-item-preserved g c =

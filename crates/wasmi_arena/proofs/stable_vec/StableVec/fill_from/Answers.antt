@@ -1,4 +1,4 @@
-use Rattle.std.proofs.Common.{arith, rules, ◌≡◌, ℕ, ◌+◌, ◌-◌, ◌<◌, ◌≤◌, List, length, refl, ap, sym, subst, ◌∙◌, min}
+use Rattle.std.proofs.Common.{arith, ◌≡◌, ℕ, ◌+◌, ◌-◌, ◌<◌, ◌≤◌, List, length, refl, ap, sym, subst, ◌∙◌, min}
 use Rattle.wasmi_arena.specs.Bucket.{Bucket}
 use Rattle.wasmi_arena.specs.Geometry.{size, max_len, fewest}
 use Rattle.wasmi_arena.specs.Growth.{AppendsMany}
@@ -51,7 +51,7 @@ append_bucket-requires g c =
     let empty : length c.take_bucket-next.result.items ≡ 0 = ap (λ (b : Bucket _). length b.items) first in
     let counted_next : c.min-filled.result ≡ length c.push_defaults.new.self.items = omega (arith, empty, many_length g.T.Default.is_default _ _ _ c.push_defaults.ensures.items) in
     let sized = c.push_defaults.ensures.capacity ∙ ap (λ (b : Bucket _). b.capacity) first in
-    (search rules, (inv.full c.loop-left-test.true, (omega (arith, counted, filled.2, inv.within), (filled.0, (filled.1, (counted_next, sized))))))
+    (assumption, (inv.full c.loop-left-test.true, (omega (arith, counted, filled.2, inv.within), (filled.0, (filled.1, (counted_next, sized))))))
 
 pub loop-left-smaller : goal.loop-left-smaller
 loop-left-smaller g c =

@@ -5,6 +5,7 @@ use Rattle.wasmi_arena.specs.Geometry.{start}
 use Rattle.wasmi_arena.specs.Table.{items_of}
 use Rattle.wasmi_arena.proofs.Apart.{len_is, open_is}
 use Rattle.wasmi_arena.proofs.LaidOut.{first_free, open_size, place-open, len-le_slots, slots-le_max, free-last, items_of-fill, IsLaidOut-fill}
+use Rattle.wasmi_arena.proofs.Geometry.{fewest_is_least, place_fits}
 use Rattle.wasmi_arena.proofs.stable_vec.StableVec.fill_last_from.Goals as goal
 
 pub place_in_last-place-requires-clause-below : goal.place_in_last-place-requires-clause-below
@@ -48,3 +49,9 @@ returns-clause-within g c =
     let end = c.self.invariant.slots_counted ∙ ap start (open_is _ _ _ _ c.self.invariant _ c.self.view_is) in
     let counted = len_is _ _ _ _ c.self.invariant _ c.self.view_is in
     rw items.1 (omega (arith, length-append c.args.self.now items.0, added, free, end, counted, len-le_slots _ _ _ _ c.self.invariant))
+
+pub overflow_add-self : goal.overflow_add-self
+overflow_add-self g c = place_fits c.place_in_last-place.ensures.place _ c.fill_bucket_from-filled.ensures.fits
+
+pub returns-then-self-clause-within : goal.returns-then-self-clause-within
+returns-then-self-clause-within g c = (fewest_is_least _ (rw (c.self.invariant.items_counted, c.self.view_is) at c.self.invariant.few_items)).enough

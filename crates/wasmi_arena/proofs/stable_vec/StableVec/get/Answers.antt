@@ -1,5 +1,7 @@
 use Rattle.std.proofs.Common.{arith}
 use Rattle.wasmi_arena.proofs.LaidOut.{bucket_there, slot_there, item_read}
+use Rattle.std.proofs.Common.{sym}
+use Rattle.std.proofs.lemmas.Option.{slice_get_past}
 use Rattle.wasmi_arena.proofs.stable_vec.StableVec.get.Goals as goal
 
 pub unwrap_ref-open-requires : goal.unwrap_ref-open-requires
@@ -15,3 +17,6 @@ bounds-slice-slot g c = slot_there _ _ _ _ c.self.invariant _ _ _ c.place-bucket
 
 pub returns : goal.returns
 returns g c = rw (← c.self.view_is) (item_read _ _ _ _ c.self.invariant _ _ _ c.place-bucket.ensures.place c.if-index-self.false _ c.index-buckets-bucket.is _ c.unwrap_ref-open.ensures _ c.slice.ensures _ c.index-slice-slot.is)
+
+pub returns-then-index-self : goal.returns-then-index-self
+returns-then-index-self g c = sym (slice_get_past _ _ (rw (c.self.invariant.items_counted, c.self.view_is) at c.if-index-self.true))

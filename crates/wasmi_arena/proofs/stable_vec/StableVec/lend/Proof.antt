@@ -42,7 +42,8 @@ use Rattle.wasmi_arena.proofs.Frame.{let_go, gone, says_two}
 use Rattle.wasmi_arena.proofs.LoanMemory.{LoanRow, loan, loan_val, loan_made}
 use Rattle.wasmi_arena.proofs.Refilled.{refilled-own}
 use Rattle.wasmi_arena.proofs.TableMemory.{MaybeBucket}
-use Rattle.wasmi_arena.proofs.VecMemory.{VecRow, Seen, buckets_small, buckets_at, bare_vec, vec_out, vec_back}
+use Rattle.wasmi_arena.proofs.Sizes.{array_small}
+use Rattle.wasmi_arena.proofs.VecMemory.{VecRow, Seen, buckets_at, bare_vec, vec_out, vec_back}
 
 pub lend_spec : {M : Type 1} → statement M
 lend_spec 𝓤 𝓛 𝓜 𝓡 wired X Y LX LY g d dd met md =
@@ -74,7 +75,7 @@ lend_spec 𝓤 𝓛 𝓜 𝓡 wired X Y LX LY g d dd met md =
     move ! (2 ∷ 3 ∷ 4 ∷ 0 ∷ 1 ∷ []) $ group ! 5 $
     use1 𝓛 (later (some (λ (ν : GName). ‵ (fobs ν (Lent.coded.code held)) ⊛ ‵ (fbor κ (Body Lent b at ν)) ⊛ ‵ (flft κ q) ⊛ ‵ (follows Self Self γ ν (refill (length items) items)))))
     (takes_part 𝓛 (mem Self) Lent (refill (length items) items) κ q b o b at γ (bare_vec E Z 𝓛 b o x.0) (vec_back E Z 𝓛 b o items x) code code held) $ await ! tt $ pick ! (λ ν.
-    split3 ! $ fjoin ! $ flt_i ! (length buckets * type_size (MaybeBucket E Z 27)) (2 ^ 63) (subst (λ (n : ℕ). n * type_size (MaybeBucket E Z 27) < 2 ^ 63) (sym x.1.1.buckets_counted) (buckets_small E Z small)) $ fjoin ! $
+    split3 ! $ fjoin ! $ flt_i ! (length buckets * type_size (MaybeBucket E Z 27)) (2 ^ 63) (subst (λ (n : ℕ). n * type_size (MaybeBucket E Z 27) < 2 ^ 63) (sym x.1.1.buckets_counted) (array_small E.row Z.row Z.g small)) $ fjoin ! $
     use1 𝓛 (‵ ((LoanRow (named_lft 3 0 tt κs) E Z).own_val (loan (named_lft 3 0 tt κs) E Z (block_ptr b at) buckets ν ν) (loan_val (named_lft 3 0 tt κs) E Z (block_ptr b at) ∷ []))) (loan_made (named_lft 3 0 tt κs) E Z 𝓛 (block_ptr b at) buckets ν ν) $
     returns ! (look_at ! 0 refl) $ free_all ! refl $
     -- [the loan; the token, and what the vector is afterwards; the other tokens]

@@ -1,7 +1,8 @@
 use Rattle.std.proofs.Common.{refl, inr, arith}
 use Rattle.std.proofs.Math.Nat.{not-le_of_lt}
 use Rattle.std.proofs.Math.Numerals.{add-one-le}
-use Rattle.wasmi_arena.proofs.Passed.{passed_is}
+use Rattle.std.proofs.lemmas.Bool.{false≢true}
+use Rattle.wasmi_arena.proofs.Results.{ok-err, errors_apart, passed_is}
 use Rattle.wasmi_arena.proofs.LaidOut.{open_size, place-open, place-free, last-free, free_counted, len-fits, open-fits, free-lt_max, other-lt_max, max-le_length, room-full, no_room, place-full, items_of-last, IsLaidOut-last, items_of-open_next, IsLaidOut-open_next}
 use Rattle.wasmi_arena.proofs.stable_vec.StableVec.push.Goals as goal
 
@@ -37,13 +38,13 @@ returns-then-index-self-clause-index g c = rw (← c.self.view_is) c.self.invari
 
 pub returns-then-index-self-clause-full : goal.returns-then-index-self-clause-full
 returns-then-index-self-clause-full g c =
-    (λ refused. cc, rw (← c.self.view_is) (λ full. absurd (not-le_of_lt (free-lt_max _ _ _ _ c.self.invariant c.if-index-self.true) full)))
+    (λ refused. absurd (ok-err refused), rw (← c.self.view_is) (λ full. absurd (not-le_of_lt (free-lt_max _ _ _ _ c.self.invariant c.if-index-self.true) full)))
 
 pub returns-then-index-self-clause-memory : goal.returns-then-index-self-clause-memory
-returns-then-index-self-clause-memory g c = λ refused. cc
+returns-then-index-self-clause-memory g c = λ refused. absurd (ok-err refused)
 
 pub returns-then-index-eq-MAX_LEN-clause-memory : goal.returns-then-index-eq-MAX_LEN-clause-memory
-returns-then-index-eq-MAX_LEN-clause-memory g c = λ refused. cc
+returns-then-index-eq-MAX_LEN-clause-memory g c = λ refused. absurd (errors_apart refl refused)
 
 pub returns-then-index-eq-MAX_LEN-clause-full : goal.returns-then-index-eq-MAX_LEN-clause-full
 returns-then-index-eq-MAX_LEN-clause-full g c =
@@ -104,7 +105,7 @@ pub returns-in_err-open_with-clause-with_room : goal.returns-in_err-open_with-cl
 returns-in_err-open_with-clause-with_room g c = rw (← c.self.view_is) (λ some. absurd (no_room _ _ _ _ c.self.invariant c.if-index-self.false some))
 
 pub returns-in_err-open_with-clause-without_size : goal.returns-in_err-open_with-clause-without_size
-returns-in_err-open_with-clause-without_size g c = λ below zero infallible. absurd (let none = c.in_err-open_with.ensures.without_size zero (infallible _) in cc)
+returns-in_err-open_with-clause-without_size g c = λ below zero infallible. absurd (false≢true (c.in_err-open_with.ensures.without_size zero (infallible _)))
 
 pub invariant_of-self-2 : goal.invariant_of-self-2
 invariant_of-self-2 g c =
@@ -119,7 +120,7 @@ returns-clause-index g c = rw (← c.self.view_is) c.self.invariant.items_counte
 
 pub returns-clause-full : goal.returns-clause-full
 returns-clause-full g c =
-    (λ refused. cc, rw (← c.self.view_is) (λ full. absurd (not-le_of_lt (other-lt_max _ _ _ _ c.self.invariant c.if-index-eq-MAX_LEN.false) full)))
+    (λ refused. absurd (ok-err refused), rw (← c.self.view_is) (λ full. absurd (not-le_of_lt (other-lt_max _ _ _ _ c.self.invariant c.if-index-eq-MAX_LEN.false) full)))
 
 pub returns-clause-memory : goal.returns-clause-memory
-returns-clause-memory g c = λ refused. cc
+returns-clause-memory g c = λ refused. absurd (ok-err refused)

@@ -1,17 +1,13 @@
-use Rattle.std.proofs.Common.{arith, ap, length, length-append, [], ◌∷◌, ◌∙◌}
+use Rattle.std.proofs.Common.{arith, ap, length, refl, ◌∙◌}
 use Rattle.wasmi_arena.specs.Entries.{entries_from}
-use Rattle.wasmi_arena.proofs.Entries.{length-entries_from, entries_from_last}
+use Rattle.wasmi_arena.proofs.Ahead.{progress_fewer}
+use Rattle.wasmi_arena.proofs.Entries.{fewer_entries_last, entries_from_last}
+use Rattle.wasmi_arena.proofs.Keys.{last_keyed}
+use Rattle.wasmi_arena.proofs.Sizes.{items_small}
 use Rattle.wasmi_arena.proofs.stable_arena.into_iter.StableArenaIntoIterDoubleEndedIterator.next_back.Goals as goal
 
 pub returns-clause-goes : goal.returns-clause-goes
-returns-clause-goes g c =
-    let keys = g.Key.ArenaKey.keys in let old = c.self.inside.items in let new = c.next_back.new.self in let item = c.in_ok-item.item in
-    let one_less = ap length c.in_ok-item.ensures.steps in
-    rw (← c.self.view_is) (record {
-      on = λ _. (tt, tt, omega (arith, one_less, length-append new (item ∷ []), length-entries_from keys c.self.inside.next old, length-entries_from keys c.self.inside.next new));
-      keeps = tt;
-      rests = λ _. tt;
-    })
+returns-clause-goes g c = rw (← c.self.view_is) (progress_fewer (λ entries. entries) _ (λ _. tt) _ _ _ (fewer_entries_last g.Key.ArenaKey.keys _ _ _ _ c.in_ok-item.ensures.steps))
 
 pub returns-clause-steps : goal.returns-clause-steps
 returns-clause-steps g c =
@@ -22,19 +18,19 @@ pub returns-in_err-item-clause-goes : goal.returns-in_err-item-clause-goes
 returns-in_err-item-clause-goes g c = rw c.from_residual.ensures (record { on = λ _. tt; keeps = tt; rests = λ _. tt })
 
 pub overflow_add-self-inside : goal.overflow_add-self-inside
-overflow_add-self-inside g c =
-    let one_less = ap length c.in_ok-item.ensures.steps in
-    omega (arith, c.len.ensures, c.self.invariant, one_less, length-append c.next_back.new.self (c.in_ok-item.item ∷ []))
+overflow_add-self-inside g c = record { fits = (last_keyed g.Key.ArenaKey.keys _ _ _ _ c.self.invariant _ c.len.ensures c.in_ok-item.ensures.steps).0 }
 
 pub unreachable-requires : goal.unreachable-requires
-unreachable-requires g c =
-    let one_less = ap length c.in_ok-item.ensures.steps in
-    c.in-None.ensures (omega (arith, c.len.ensures, c.self.invariant, one_less, length-append c.next_back.new.self (c.in_ok-item.item ∷ [])))
+unreachable-requires g c = c.in-None.ensures (last_keyed g.Key.ArenaKey.keys _ _ _ _ c.self.invariant _ c.len.ensures c.in_ok-item.ensures.steps).1
 
 pub invariant_of-self : goal.invariant_of-self
 invariant_of-self g c = omega (arith, c.self.invariant, ap length c.in_err-item.ensures.steps.1)
 
 pub invariant_of-self-2 : goal.invariant_of-self-2
-invariant_of-self-2 g c =
-    let one_less = ap length c.in_ok-item.ensures.steps in
-    omega (arith, c.self.invariant, one_less, length-append c.next_back.new.self (c.in_ok-item.item ∷ []))
+invariant_of-self-2 g c = (last_keyed g.Key.ArenaKey.keys _ _ _ _ c.self.invariant _ refl c.in_ok-item.ensures.steps).2
+
+pub next_back-requires : goal.next_back-requires
+next_back-requires g c = (items_small g.row.T g.row.A g.A.Allocator g.row.Key g.Key.ArenaKey assumption, tt)
+
+pub len-requires : goal.len-requires
+len-requires g c = items_small g.row.T g.row.A g.A.Allocator g.row.Key g.Key.ArenaKey assumption

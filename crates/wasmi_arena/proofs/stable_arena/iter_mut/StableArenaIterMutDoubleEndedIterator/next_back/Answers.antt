@@ -1,14 +1,7 @@
-use Rattle.std.proofs.Common.{arith, ap, length, length-append, [], ◌∷◌}
 use Rattle.wasmi_arena.specs.IterMut.{left}
-use Rattle.wasmi_arena.proofs.Entries.{length-entries_from}
+use Rattle.wasmi_arena.proofs.Ahead.{progress_fewer}
+use Rattle.wasmi_arena.proofs.Entries.{fewer_entries_last}
 use Rattle.wasmi_arena.proofs.stable_arena.iter_mut.StableArenaIterMutDoubleEndedIterator.next_back.Goals as goal
 
 pub returns-clause-goes : goal.returns-clause-goes
-returns-clause-goes g c =
-    let keys = g.Key.ArenaKey.keys in let old = left c.self.inside.items in let new = left c.next_back.new.self in let item = c.in_ok-item.item.now in
-    let one_less = ap length c.in_ok-item.ensures.steps in
-    rw (← c.self.view_is) (record {
-      on = λ _. (tt, tt, omega (arith, one_less, length-append new (item ∷ []), length-entries_from keys c.self.inside.next old, length-entries_from keys c.self.inside.next new));
-      keeps = tt;
-      rests = λ _. tt;
-    })
+returns-clause-goes g c = rw (← c.self.view_is) (progress_fewer left _ (λ _. tt) _ _ _ (fewer_entries_last g.Key.ArenaKey.keys _ _ _ _ c.in_ok-item.ensures.steps))

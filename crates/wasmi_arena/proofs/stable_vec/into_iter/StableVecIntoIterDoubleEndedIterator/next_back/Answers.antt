@@ -1,32 +1,21 @@
-use Rattle.std.proofs.Common.{◌≡◌, ℕ, ◌∙◌, Option, Some, List, [], ◌∷◌, ◌++◌, length, length-append, append_assoc, arith, sym, ap, subst}
+use Rattle.std.proofs.Common.{◌∙◌, Some, [], ◌∷◌, ◌++◌, sym, ap, subst}
 use Rattle.std.specs.Array.Iter.{array_into_iter_items}
-use Rattle.wasmi_arena.specs.Bucket.{Bucket}
 use Rattle.wasmi_arena.specs.Ahead.{in_hand}
-use Rattle.wasmi_arena.specs.Table.{AreFilled, IsAhead, items_of}
+use Rattle.wasmi_arena.specs.Table.{AreFilled, items_of}
 use Rattle.wasmi_arena.proofs.Table.{filled_last_open}
 use Rattle.wasmi_arena.proofs.Taken.{all_left, last_taken, last_taken_counted, last_taken_ahead, taken_before, taken_before_ahead}
-use Rattle.wasmi_arena.proofs.Ahead.{progress_last}
+use Rattle.wasmi_arena.proofs.Ahead.{back_yields, back_ahead, progress_last}
+use Rattle.wasmi_arena.proofs.Sizes.{buckets_small}
 use Rattle.wasmi_arena.proofs.stable_vec.into_iter.StableVecIntoIterDoubleEndedIterator.next_back.Goals as goal
 
--- an item of the last part comes
-module _ {T : Type 0} (front : List T) (buckets : List (Option (Bucket T))) (back left : List T) (x : T) (at : back ≡ left ++ x ∷ []) where
-  back_yields : front ++ items_of buckets ++ back ≡ front ++ items_of buckets ++ left ++ x ∷ []
-  back_yields = ap (λ (xs : List T). front ++ items_of buckets ++ xs) at ∙ sym (append_assoc (front ++ items_of buckets) left (x ∷ []))
-
-  back_ahead : (between : ℕ) → IsAhead front buckets back between → IsAhead front buckets left between
-  back_ahead between it = record { filled = it.filled; counted = it.counted; few = omega (arith, it.few, ap length at, length-append left (x ∷ [])) }
-
 pub invariant_of-self : goal.invariant_of-self
-invariant_of-self g c = back_ahead _ _ _ _ _ c.in-Some.ensures _ c.self.invariant
+invariant_of-self g c = back_ahead _ _ c.in-Some.ensures c.self.invariant
 
 pub returns-in-Some-clause-steps : goal.returns-in-Some-clause-steps
-returns-in-Some-clause-steps g c =
-    rw (← c.self.view_is) (back_yields (in_hand c.self.inside.front) (array_into_iter_items c.self.inside.buckets) _ _ _ c.in-Some.ensures)
+returns-in-Some-clause-steps g c = rw (← c.self.view_is) (back_yields (in_hand c.self.inside.front) (items_of (array_into_iter_items c.self.inside.buckets)) _ _ c.in-Some.ensures)
 
 pub returns-in-Some-clause-goes : goal.returns-in-Some-clause-goes
-returns-in-Some-clause-goes g c =
-    rw (← c.self.view_is) (progress_last (λ x. x) all_left _ (λ _. tt) _ _ (Some c.in-Some.item)
-    (back_yields (in_hand c.self.inside.front) (array_into_iter_items c.self.inside.buckets) _ _ _ c.in-Some.ensures))
+returns-in-Some-clause-goes g c = progress_last (λ x. x) all_left _ (λ _. tt) _ _ (Some c.in-Some.item) (returns-in-Some-clause-steps g c)
 
 pub overflow_sub-self : goal.overflow_sub-self
 overflow_sub-self g c =
@@ -41,8 +30,7 @@ returns-in-Some-Some-clause-steps g c =
     rw (← c.self.view_is) (last_taken _ _ _ _ _ _ (sym c.in-Some-Some.field-0-is) _ c.self.invariant _ c.into_items-items.ensures c.in-Some-Some.ensures.steps _ _ c.next_back-item.ensures.steps c.in_default.ensures.0)
 
 pub returns-in-Some-Some-clause-goes : goal.returns-in-Some-Some-clause-goes
-returns-in-Some-Some-clause-goes g c =
-    rw (← c.self.view_is) (progress_last (λ x. x) all_left _ (λ _. tt) _ _ _ (last_taken _ _ _ _ _ _ (sym c.in-Some-Some.field-0-is) _ c.self.invariant _ c.into_items-items.ensures c.in-Some-Some.ensures.steps _ _ c.next_back-item.ensures.steps c.in_default.ensures.0))
+returns-in-Some-Some-clause-goes g c = progress_last (λ x. x) all_left _ (λ _. tt) _ _ _ (returns-in-Some-Some-clause-steps g c)
 
 pub invariant_of-self-in-None : goal.invariant_of-self-in-None
 invariant_of-self-in-None g c =
@@ -53,10 +41,12 @@ returns-in-None-clause-steps g c =
     rw (← c.self.view_is) (taken_before _ _ _ _ _ _ _ c.self.invariant (ap array_into_iter_items c.in-None.ensures.steps.1) _ c.in_default.ensures.0 c.in_default.ensures.1 c.in-None.ensures.steps.0 c.last_of-in-None.ensures)
 
 pub returns-in-None-clause-goes : goal.returns-in-None-clause-goes
-returns-in-None-clause-goes g c =
-    rw (← c.self.view_is) (progress_last (λ x. x) all_left _ (λ _. tt) _ _ _ (taken_before _ _ _ _ _ _ _ c.self.invariant (ap array_into_iter_items c.in-None.ensures.steps.1) _ c.in_default.ensures.0 c.in_default.ensures.1 c.in-None.ensures.steps.0 c.last_of-in-None.ensures))
+returns-in-None-clause-goes g c = progress_last (λ x. x) all_left _ (λ _. tt) _ _ _ (returns-in-None-clause-steps g c)
 
 pub unreachable-requires : goal.unreachable-requires
 unreachable-requires g c =
     let left = array_into_iter_items c.next_back.new.self in
     filled_last_open left (subst AreFilled (c.in-Some-None.ensures.steps ∙ ap (λ b. left ++ b ∷ []) c.in-Some-None.field-0-is) c.self.invariant.filled)
+
+pub next_back-requires : goal.next_back-requires
+next_back-requires g c = (buckets_small g.row.T g.row.A g.A.Allocator assumption, tt)

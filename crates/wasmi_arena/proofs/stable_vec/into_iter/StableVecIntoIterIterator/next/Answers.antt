@@ -1,31 +1,20 @@
-use Rattle.std.proofs.Common.{◌≡◌, ℕ, Option, Some, List, ◌∷◌, ◌++◌, length, arith, sym, ap}
+use Rattle.std.proofs.Common.{Some, sym, ap}
 use Rattle.std.specs.Array.Iter.{array_into_iter_items}
-use Rattle.wasmi_arena.specs.Bucket.{Bucket}
 use Rattle.wasmi_arena.specs.Ahead.{in_hand}
-use Rattle.wasmi_arena.specs.Table.{IsAhead, items_of}
+use Rattle.wasmi_arena.specs.Table.{items_of}
 use Rattle.wasmi_arena.proofs.Taken.{all_left, first_taken, first_taken_counted, first_taken_ahead, taken_behind, taken_behind_ahead}
-use Rattle.wasmi_arena.proofs.Ahead.{progress_first}
+use Rattle.wasmi_arena.proofs.Ahead.{front_yields, front_ahead, progress_first}
+use Rattle.wasmi_arena.proofs.Sizes.{buckets_small}
 use Rattle.wasmi_arena.proofs.stable_vec.into_iter.StableVecIntoIterIterator.next.Goals as goal
 
--- an item of the first part comes
-module _ {T : Type 0} (front left : List T) (buckets : List (Option (Bucket T))) (back : List T) (x : T) (at : front ≡ x ∷ left) where
-  front_yields : front ++ items_of buckets ++ back ≡ x ∷ (left ++ items_of buckets ++ back)
-  front_yields = ap (λ (xs : List T). xs ++ items_of buckets ++ back) at
-
-  front_ahead : (between : ℕ) → IsAhead front buckets back between → IsAhead left buckets back between
-  front_ahead between it = record { filled = it.filled; counted = it.counted; few = omega (arith, it.few, ap length at) }
-
 pub invariant_of-self : goal.invariant_of-self
-invariant_of-self g c = front_ahead _ _ _ _ _ c.in-Some.ensures _ c.self.invariant
+invariant_of-self g c = front_ahead c.in-Some.ensures c.self.invariant
 
 pub returns-in-Some-clause-steps : goal.returns-in-Some-clause-steps
-returns-in-Some-clause-steps g c =
-    rw (← c.self.view_is) (front_yields _ _ (array_into_iter_items c.self.inside.buckets) (in_hand c.self.inside.back) _ c.in-Some.ensures)
+returns-in-Some-clause-steps g c = rw (← c.self.view_is) (front_yields (items_of (array_into_iter_items c.self.inside.buckets)) (in_hand c.self.inside.back) c.in-Some.ensures)
 
 pub returns-in-Some-clause-goes : goal.returns-in-Some-clause-goes
-returns-in-Some-clause-goes g c =
-    rw (← c.self.view_is) (progress_first (λ x. x) all_left _ (λ _. tt) _ _ (Some c.in-Some.item)
-    (front_yields _ _ (array_into_iter_items c.self.inside.buckets) (in_hand c.self.inside.back) _ c.in-Some.ensures))
+returns-in-Some-clause-goes g c = progress_first (λ x. x) all_left _ (λ _. tt) _ _ (Some c.in-Some.item) (returns-in-Some-clause-steps g c)
 
 pub overflow_sub-self : goal.overflow_sub-self
 overflow_sub-self g c =
@@ -40,8 +29,7 @@ returns-in-Some-Some-clause-steps g c =
     rw (← c.self.view_is) (first_taken _ _ _ _ _ _ (sym c.in-Some-Some.field-0-is) _ c.self.invariant _ c.into_items-items.ensures c.in-Some-Some.ensures.steps _ _ c.next-item.ensures.steps c.in_default.ensures.0)
 
 pub returns-in-Some-Some-clause-goes : goal.returns-in-Some-Some-clause-goes
-returns-in-Some-Some-clause-goes g c =
-    rw (← c.self.view_is) (progress_first (λ x. x) all_left _ (λ _. tt) _ _ _ (first_taken _ _ _ _ _ _ (sym c.in-Some-Some.field-0-is) _ c.self.invariant _ c.into_items-items.ensures c.in-Some-Some.ensures.steps _ _ c.next-item.ensures.steps c.in_default.ensures.0))
+returns-in-Some-Some-clause-goes g c = progress_first (λ x. x) all_left _ (λ _. tt) _ _ _ (returns-in-Some-Some-clause-steps g c)
 
 pub invariant_of-self-in-None : goal.invariant_of-self-in-None
 invariant_of-self-in-None g c =
@@ -52,5 +40,7 @@ returns-in-None-clause-steps g c =
     rw (← c.self.view_is) (taken_behind _ _ _ _ _ _ _ c.self.invariant (ap array_into_iter_items c.in-None.ensures.steps.1) _ c.in_default.ensures.0 c.in_default.ensures.1 c.in-None.ensures.steps.0 c.first_of-in-None.ensures)
 
 pub returns-in-None-clause-goes : goal.returns-in-None-clause-goes
-returns-in-None-clause-goes g c =
-    rw (← c.self.view_is) (progress_first (λ x. x) all_left _ (λ _. tt) _ _ _ (taken_behind _ _ _ _ _ _ _ c.self.invariant (ap array_into_iter_items c.in-None.ensures.steps.1) _ c.in_default.ensures.0 c.in_default.ensures.1 c.in-None.ensures.steps.0 c.first_of-in-None.ensures))
+returns-in-None-clause-goes g c = progress_first (λ x. x) all_left _ (λ _. tt) _ _ _ (returns-in-None-clause-steps g c)
+
+pub next-requires : goal.next-requires
+next-requires g c = (buckets_small g.row.T g.row.A g.A.Allocator assumption, tt)

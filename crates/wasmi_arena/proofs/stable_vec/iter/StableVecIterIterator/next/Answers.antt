@@ -1,7 +1,8 @@
-use Rattle.std.proofs.Common.{arith, ap, length, ◌∙◌, ◌++◌}
+use Rattle.std.proofs.Common.{arith, ap, length, ◌∙◌, Some, Bor}
 use Rattle.std.specs.Slice.Iter.{iter_rest}
 use Rattle.wasmi_arena.specs.Table.{items_of}
-use Rattle.wasmi_arena.proofs.Table.{first_counted, first_ahead, first_yields, rest_yields, length-steps, progress-yields_first}
+use Rattle.wasmi_arena.proofs.Ahead.{front_yields, progress_first}
+use Rattle.wasmi_arena.proofs.Table.{first_counted, first_ahead, first_yields, rest_yields, length-steps}
 use Rattle.wasmi_arena.proofs.stable_vec.iter.StableVecIterIterator.next.Goals as goal
 
 pub overflow_sub-self : goal.overflow_sub-self
@@ -11,11 +12,10 @@ overflow_sub-self g c =
 
 pub returns-in-Some-clause-steps : goal.returns-in-Some-clause-steps
 returns-in-Some-clause-steps g c =
-    rw (← c.self.view_is) (ap (λ xs. xs ++ items_of (iter_rest c.self.inside.buckets) ++ iter_rest c.self.inside.back) c.in-Some.ensures.steps)
+    rw (← c.self.view_is) (front_yields (items_of (iter_rest c.self.inside.buckets)) (iter_rest c.self.inside.back) c.in-Some.ensures.steps)
 
 pub returns-in-Some-clause-goes : goal.returns-in-Some-clause-goes
-returns-in-Some-clause-goes g c =
-    rw (← c.self.view_is) (progress-yields_first _ (λ _. tt) _ _ _ (ap (λ xs. xs ++ items_of (iter_rest c.self.inside.buckets) ++ iter_rest c.self.inside.back) c.in-Some.ensures.steps))
+returns-in-Some-clause-goes g c = progress_first (λ (x : Bor g.row.T.Denot). x.now) (λ items. items) _ (λ _. tt) _ _ (Some c.in-Some.item) (returns-in-Some-clause-steps g c)
 
 pub returns-in_ok-as_ref-in-Some-next-clause-steps : goal.returns-in_ok-as_ref-in-Some-next-clause-steps
 returns-in_ok-as_ref-in-Some-next-clause-steps g c =
@@ -27,15 +27,11 @@ invariant_of-self-in-Some-next g c =
     first_ahead _ _ _ _ _ _ _ c.self.invariant c.in-Some-next.ensures.steps c.in_ok-as_ref-in-Some-next.ensures.value _ _ (ap length c.slice-items.ensures) (omega (arith, ap length c.iter-self-inside.ensures.rest))
 
 pub returns-in_ok-as_ref-in-Some-next-clause-goes : goal.returns-in_ok-as_ref-in-Some-next-clause-goes
-returns-in_ok-as_ref-in-Some-next-clause-goes g c =
-    let steps = first_yields _ _ _ _ _ _ _ c.self.invariant c.in-Some-next.ensures.steps c.in_ok-as_ref-in-Some-next.ensures.value _ _ _ (c.iter-self-inside.ensures.rest ∙ c.slice-items.ensures) c.next-in-Some-next.ensures.steps c.in_default.ensures.steps.0 in
-    rw (← c.self.view_is) (progress-yields_first _ (λ _. tt) _ _ _ steps)
+returns-in_ok-as_ref-in-Some-next-clause-goes g c = progress_first (λ (x : Bor g.row.T.Denot). x.now) (λ items. items) _ (λ _. tt) _ _ _ (returns-in_ok-as_ref-in-Some-next-clause-steps g c)
 
 pub returns-in-None-clause-steps : goal.returns-in-None-clause-steps
 returns-in-None-clause-steps g c =
     rw (← c.self.view_is, c.in_default.ensures.steps.1, c.in-None.ensures.steps.1) (rest_yields _ _ _ _ _ c.in_default.ensures.steps.0 c.in-None.ensures.steps.0 c.next-in-None.ensures.steps)
 
 pub returns-in-None-clause-goes : goal.returns-in-None-clause-goes
-returns-in-None-clause-goes g c =
-    rw (← c.self.view_is, c.in_default.ensures.steps.1, c.in-None.ensures.steps.1)
-    (progress-yields_first _ (λ _. tt) _ _ _ (rest_yields _ _ _ _ _ c.in_default.ensures.steps.0 c.in-None.ensures.steps.0 c.next-in-None.ensures.steps))
+returns-in-None-clause-goes g c = progress_first (λ (x : Bor g.row.T.Denot). x.now) (λ items. items) _ (λ _. tt) _ _ _ (returns-in-None-clause-steps g c)

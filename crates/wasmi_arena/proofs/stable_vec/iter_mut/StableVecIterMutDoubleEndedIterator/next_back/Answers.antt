@@ -17,6 +17,4 @@ returns-in-Some-next_back-clause-steps g c =
     (rw c.iter_mut-self-inside.ensures.rest at c.next_back-in-Some-next_back.ensures.steps))
 
 pub returns-in-Some-next_back-clause-goes : goal.returns-in-Some-next_back-clause-goes
-returns-in-Some-next_back-clause-goes g c =
-    rw (← c.self.view_is) (progress_last (λ (x : MutBor g.row.T.Denot). x.now) left _ (λ _. tt) _ _ _ (last_yields _ _ _ _ _ _ c.self.invariant c.in-Some-next_back.ensures.steps (λ (x : MutBor g.row.T.Denot). x.now)
-    c.next_back-in-Some-next_back.result _ c.in_default.ensures.steps.0 (rw c.iter_mut-self-inside.ensures.rest at c.next_back-in-Some-next_back.ensures.steps)))
+returns-in-Some-next_back-clause-goes g c = progress_last (λ (x : MutBor g.row.T.Denot). x.now) left _ (λ _. tt) _ _ _ (returns-in-Some-next_back-clause-steps g c)
