@@ -6,7 +6,8 @@ use Rattle.std.proofs.lemmas.List.{length-set}
 use Rattle.std.proofs.lemmas.Iterator.Adapters.{position_from-zero}
 use Rattle.std.proofs.lemmas.List.Quantifiers.{position-Some}
 use Rattle.wasmi_arena.specs.Keys.{Keys, KeyLaw}
-use Rattle.wasmi_collections.specs.Dedup.{DedupState, AllocatesValue, ReplacesValue}
+use Rattle.wasmi_map_specs.specs.Maps.{value_at}
+use Rattle.wasmi_collections.specs.Dedup.{DedupState, IsIndex, AllocatesValue, ReplacesValue, in_order}
 use Rattle.wasmi_collections.specs.DedupSteps.{DedupStep, HasKey, NoneClears}
 use Rattle.wasmi_collections.specs.Runs.{IsRun}
 use Rattle.wasmi_collections.specs.declared.run.dedup.DedupCommand.{DedupCommand}
@@ -102,6 +103,12 @@ module _ {K T : Type 0} (keys : Keys K) (law : KeyLaw keys) {eq : T → T → Bo
       next (Some p) at is =
           let low = (position-Some (eq value) handed p value at).0 in
           ap Some (sym (law.numbered p (omega (arith, low, few))) ∙ ap keys.number (some_is (keys.key p) key is))
+
+  -- and so is one that the index of an arena finds
+  pub index-known : (index : List (T × K)) (items : ℕ) (value : T) (key : K) → IsIndex keys eq (in_order keys index) index × (length (in_order keys index) ≡ items) × (items ≤ keys.count)
+      → Some key ≡ value_at eq index value → position (eq value) (in_order keys index) ≡ Some (keys.number key)
+  index-known index items value key kept is =
+      found-known (in_order keys index) value key (let same = kept.1 in let low = kept.2 in omega (arith, same, low)) (sym (kept.0.finds value) ∙ sym is)
 
   -- a value that has its key is at the key's number
   pub given-known : (old new : DedupState T) (value : T) (key : K) → length old.handed ≤ keys.count → AllocatesValue keys eq clones old value key new → position (eq value) new.handed ≡ Some (keys.number key)

@@ -11,6 +11,7 @@ mod InternerRuns
 mod InternsEach
 mod LastItem
 mod MapRuns
+mod Results
 mod Runs
 mod Search
 mod SetRuns
