@@ -168,12 +168,17 @@ length-written items last =
     length-take-le (length items) (last ++ drop (length last) items) (omega (arith, length-append last (drop (length last) items), length-drop (length last) items))
 
 -- a value that an index doesn't find isn't among those handed in
-pub position-absent : {K T : Type 0} (keys : Keys K) (eq : T → T → Bool) (handed : List T) (index : List (T × K)) (value : T) → IsIndex keys eq handed index → value_at eq index value ≡ None → position (eq value) handed ≡ None
+position-absent : {K T : Type 0} (keys : Keys K) (eq : T → T → Bool) (handed : List T) (index : List (T × K)) (value : T) → IsIndex keys eq handed index → value_at eq index value ≡ None → position (eq value) handed ≡ None
 position-absent keys eq handed index value is none = next (position (eq value) handed) (sym (is.finds value) ∙ none)
   where
     next : (o : Option ℕ) → option_map keys.key o ≡ None → o ≡ None
     next None none = refl
     next (Some p) none = absurd (true≢false (ap is_some none))
+
+-- and so of the index of an arena
+pub index-absent : {K T : Type 0} (keys : Keys K) (eq : T → T → Bool) (index : List (T × K)) (items : ℕ) (value : T)
+    → IsIndex keys eq (in_order keys index) index × (length (in_order keys index) ≡ items) × (items ≤ keys.count) → None ≡ value_at eq index value → position (eq value) (in_order keys index) ≡ None
+index-absent keys eq index items value keeps none = position-absent keys eq (in_order keys index) index value keeps.0 (sym none)
 
 module _ {K T : Type 0} (keys : Keys K) (eq : T → T → Bool) (clones : T → T → Type 0) where
   pub AllocatesEach-push : (old : DedupState T) (values : List T) (middle : DedupState T) (value : T) (key : K) (new : DedupState T) → AllocatesEach keys eq clones old values middle

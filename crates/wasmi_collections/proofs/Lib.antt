@@ -1,5 +1,6 @@
 mod BinaryDigits
 mod Dedup
+mod DedupRefusal
 mod DedupReplace
 mod DedupRuns
 mod Filtered

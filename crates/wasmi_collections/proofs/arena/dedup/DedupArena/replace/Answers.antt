@@ -1,21 +1,19 @@
-use Rattle.std.proofs.Common.{◌≡◌, ◌<◌, length, IsOk, None, Some, sym, ap, ◌∙◌, refl, slice_set, position, inl, inr, arith}
+use Rattle.std.proofs.Common.{Err, ◌≡◌, ◌<◌, length, IsOk, None, Some, sym, ap, ◌∙◌, refl, slice_set, position, inl, inr, arith}
 use Rattle.std.proofs.Math.Nat.{not-le_of_lt}
 use Rattle.std.proofs.lemmas.Option.{none-some}
 use Rattle.std.proofs.lemmas.List.{length-set}
-use Rattle.std.proofs.lemmas.Result.{IfOk-weaker}
-use Rattle.wasmi_map_specs.specs.Maps.{value_at}
+use Rattle.std.proofs.lemmas.Result.{IfOk-from_err, IfOk-weaker}
+use Rattle.wasmi_arena.specs.declared.error.ArenaError.TheVariants.{DuplicateItem, KeyOutOfBounds, OutOfSystemMemory}
 use Rattle.wasmi_collections.specs.Dedup.{HasOtherKey, in_order}
-use Rattle.wasmi_collections.proofs.Dedup.{in_order-keyed, length-put, position-absent}
+use Rattle.wasmi_collections.proofs.Dedup.{in_order-keyed, length-put, index-absent}
 use Rattle.wasmi_collections.proofs.DedupRuns.{index-known, some_is}
+use Rattle.wasmi_collections.proofs.DedupRefusal.{IsNoReplace, no_replace}
 use Rattle.wasmi_collections.proofs.DedupReplace.{position-set_new, position-set_kept, within}
 use Rattle.wasmi_collections.proofs.Results.{if_no_err, no_err, ok_unless, on_ok, when_ok}
 use Rattle.wasmi_collections.proofs.arena.dedup.DedupArena.replace.Goals as goal
 
 is_absent : (g : _) (c : goal.After-put-2 g) → position (g.T.PartialEq.eq c.args.value) (in_order g.Key.ArenaKey.keys c.self.inside.index.entries) ≡ None
-is_absent g c =
-    let index = c.self.inside.index.entries in
-    let none : value_at g.T.PartialEq.eq index c.args.value ≡ None = sym {b = value_at g.T.PartialEq.eq index c.args.value} c.in_default.ensures in
-    position-absent g.Key.ArenaKey.keys g.T.PartialEq.eq (in_order g.Key.ArenaKey.keys index) index c.args.value c.self.invariant.0 none
+is_absent g c = index-absent g.Key.ArenaKey.keys g.T.PartialEq.eq c.self.inside.index.entries (length c.self.inside.items.items) c.args.value c.self.invariant c.in_default.ensures
 
 reads_item : (g : _) (c : goal.After-put-2 g) → g.Key.ArenaKey.keys.number c.args.key < length c.self.inside.items.items
 reads_item g c = within (g.Key.ArenaKey.keys.number c.args.key) c.self.inside.items.items c.in_ok-there.there.now c.in_ok-there.ensures.item
@@ -98,12 +96,6 @@ other_key g c =
       ),
     )
 
-pub returns-then-into_usize-clause-duplicate : goal.returns-then-into_usize-clause-duplicate
-returns-then-into_usize-clause-duplicate g c = (λ _. other_key g c, λ _. refl)
-
-pub returns-then-into_usize-clause-refused : goal.returns-then-into_usize-clause-refused
-returns-then-into_usize-clause-refused g c = other_key g c
-
 -- ---- or under this one: it becomes the item
 
 has_key : (g : _) (c : goal.After-put g) → position (g.T.PartialEq.eq c.args.value) (in_order g.Key.ArenaKey.keys c.self.inside.index.entries) ≡ Some (g.Key.ArenaKey.keys.number c.args.key)
@@ -142,3 +134,49 @@ returns-in-Some-clause-ok g c =
 pub invariant_of-self : goal.invariant_of-self
 invariant_of-self g c =
     rw (length-put c.put.result c.self.inside.items c.put.new.self (g.Key.ArenaKey.keys.number c.args.key) c.args.value c.put.ensures.ok c.put.ensures.err) c.self.invariant
+
+-- ---- it fails, and nothing has changed
+
+at_there : (g : _) (c : goal.After-drop-value g) → IsNoReplace g.Key.ArenaKey.keys g.T.PartialEq.eq c.args.self.now c.args.key c.args.value c.args.self.now c.from_residual.result
+at_there g c =
+    let keys = g.Key.ArenaKey.keys in let eq = g.T.PartialEq.eq in let old = c.args.self.now in let inside = c.self.inside in
+    no_replace keys eq old c.args.key c.args.value (rw (← c.self.view_is) c.self.invariant.1) old c.from_residual.result c.in_err-there.field-0.0 KeyOutOfBounds c.from_residual.ensures.1 c.in_err-there.ensures.errors refl
+    (rw (← c.self.view_is) (c.in_err-there.ensures.out_of_bounds.0 (ap Err c.in_err-there.ensures.errors)))
+
+pub returns-in_err-there : goal.returns-in_err-there
+returns-in_err-there g c =
+    let result = c.from_residual.result in let x = at_there g c in let fails = x.fails in
+    record { ok = IfOk-from_err result _ fails; out_of_bounds = x.out_of_bounds; duplicate = x.duplicate; refused = x.refused; same_key = x.same_key; err = x.err; known = IfOk-from_err result _ fails; kept = x.kept }
+
+at_other_key : (g : _) (c : goal.After-drop-value-then-into_usize g) → IsNoReplace g.Key.ArenaKey.keys g.T.PartialEq.eq c.args.self.now c.args.key c.args.value c.args.self.now (Err DuplicateItem)
+at_other_key g c =
+    let keys = g.Key.ArenaKey.keys in let eq = g.T.PartialEq.eq in let old = c.args.self.now in let inside = c.self.inside in
+    no_replace keys eq old c.args.key c.args.value (rw (← c.self.view_is) c.self.invariant.1) old (Err DuplicateItem) DuplicateItem DuplicateItem refl refl refl
+    (other_key g c)
+
+pub returns-then-into_usize : goal.returns-then-into_usize
+returns-then-into_usize g c =
+    let x = at_other_key g c in
+    record { ok = tt; out_of_bounds = x.out_of_bounds; duplicate = x.duplicate; refused = x.refused; same_key = x.same_key; err = x.err; known = tt; kept = x.kept }
+
+at_item : (g : _) (c : goal.After-drop-value-in_err-item g) → IsNoReplace g.Key.ArenaKey.keys g.T.PartialEq.eq c.args.self.now c.args.key c.args.value c.args.self.now c.from_residual-in_err-item.result
+at_item g c =
+    let keys = g.Key.ArenaKey.keys in let eq = g.T.PartialEq.eq in let old = c.args.self.now in let inside = c.self.inside in
+    no_replace keys eq old c.args.key c.args.value (rw (← c.self.view_is) c.self.invariant.1) old c.from_residual-in_err-item.result OutOfSystemMemory OutOfSystemMemory c.from_residual-in_err-item.ensures.1 refl refl
+    (rw (← c.self.view_is) (within (keys.number c.args.key) inside.items.items c.in_ok-there.there.now c.in_ok-there.ensures.item, index-absent keys eq inside.index.entries (length inside.items.items) c.args.value c.self.invariant c.in_default.ensures))
+
+pub returns-in_err-item : goal.returns-in_err-item
+returns-in_err-item g c =
+    let result = c.from_residual-in_err-item.result in let x = at_item g c in let fails = x.fails in
+    record { ok = IfOk-from_err result _ fails; out_of_bounds = x.out_of_bounds; duplicate = x.duplicate; refused = x.refused; same_key = x.same_key; err = x.err; known = IfOk-from_err result _ fails; kept = x.kept }
+
+at_move_key : (g : _) (c : goal.After-drop-item g) → IsNoReplace g.Key.ArenaKey.keys g.T.PartialEq.eq c.args.self.now c.args.key c.args.value (record { handed = in_order g.Key.ArenaKey.keys c.move_key.new.index.entries; items = c.self.inside.items.items }) c.from_residual-in_err-move_key.result
+at_move_key g c =
+    let keys = g.Key.ArenaKey.keys in let eq = g.T.PartialEq.eq in let old = c.args.self.now in let inside = c.self.inside in
+    no_replace keys eq old c.args.key c.args.value (rw (← c.self.view_is) c.self.invariant.1) (record { handed = in_order keys c.move_key.new.index.entries; items = c.self.inside.items.items }) c.from_residual-in_err-move_key.result c.in_err-move_key.field-0.0 OutOfSystemMemory c.from_residual-in_err-move_key.ensures.1 c.in_err-move_key.ensures.errors (rw c.in_err-move_key.ensures.err c.self.view_is)
+    (rw (← c.self.view_is) (within (keys.number c.args.key) inside.items.items c.in_ok-there.there.now c.in_ok-there.ensures.item, index-absent keys eq inside.index.entries (length inside.items.items) c.args.value c.self.invariant c.in_default.ensures))
+
+pub returns-in_err-move_key : goal.returns-in_err-move_key
+returns-in_err-move_key g c =
+    let result = c.from_residual-in_err-move_key.result in let x = at_move_key g c in let fails = x.fails in
+    record { ok = IfOk-from_err result _ fails; out_of_bounds = x.out_of_bounds; duplicate = x.duplicate; refused = x.refused; same_key = x.same_key; err = x.err; known = IfOk-from_err result _ fails; kept = x.kept }
