@@ -1,6 +1,7 @@
 -- Facts on the values handed in to a deduplicating arena, and on its index.
-use Rattle.std.proofs.Common.{All, ◌≡◌, ℕ, ◌+◌, ◌<◌, ◌≤◌, suc, Bool, true, false, cond, List, [], ◌∷◌, ◌++◌, length, length-append, drop, map, Result, Ok, Err, OnOk, OnErr, Option, Some, None, option_map, find, filter_map, position, slice_get, slice_set, nat_eq, IsPermutation, refl, sym, ap, ◌∙◌, subst, is_some, eqb-true, ◌||◌, true≢false, arith}
+use Rattle.std.proofs.Common.{All, ◌≡◌, ℕ, ◌+◌, ◌<◌, ◌≤◌, suc, Bool, true, false, cond, List, [], ◌∷◌, ◌++◌, length, length-append, drop, map, Result, Ok, Err, OnOk, OnErr, MatchOption, Option, Some, None, option_map, find, filter_map, position, slice_get, slice_set, nat_eq, IsPermutation, refl, sym, ap, ◌∙◌, subst, is_some, eqb-true, ◌||◌, true≢false, arith}
 use Rattle.std.specs.Cmp.{IsEquivalence}
+use Rattle.std.specs.Map.{set_value}
 use Rattle.std.specs.List.{AllByRecursion, IsDistinct, list_any, position_from, range_with_len, cons_option}
 use Rattle.std.proofs.lemmas.Bool.{eqb-false}
 use Rattle.std.proofs.lemmas.Iterator.Adapters.{position_from-zero}
@@ -151,6 +152,19 @@ pub IsIndex-nil : {K T : Type 0} (keys : Keys K) (eq : T → T → Bool) → IsI
 unfolding IsDistinct
 IsIndex-nil keys eq = record { distinct = tt; entries_are = IsPermutation-refl []; finds = λ value. refl }
 
+-- a map takes a key that is new to it in among its entries
+pub entries-inserted : {K T : Type 0} (eq : T → T → Bool) (index after : List (T × K)) (value : T) (key : K) (old : Option K) → old ≡ value_at eq index value → value_at eq index value ≡ None
+    → MatchOption old (IsPermutation ((value, key) ∷ index) after) (λ _. after ≡ set_value (eq value) index key) → IsPermutation ((value, key) ∷ index) after
+entries-inserted eq index after value key None is none entered = entered
+entries-inserted eq index after value key (Some other) is none entered = absurd (true≢false (ap is_some (is ∙ none)))
+
+-- one more of each
+pub length-pushed : {T : Type 0} (xs ys : List T) (x y : T) → length xs ≡ length ys → length (xs ++ x ∷ []) ≡ length (ys ++ y ∷ [])
+length-pushed xs ys x y same = omega (arith, same, length-append xs (x ∷ []), length-append ys (y ∷ []))
+
+pub pushed_le : {T : Type 0} (xs : List T) (x : T) (n count : ℕ) → length xs ≡ n → n < count → length (xs ++ x ∷ []) ≤ count
+pushed_le xs x n count same low = omega (arith, same, low, length-append xs (x ∷ []))
+
 -- the key of the position behind all items reads the one that goes there
 pub last_within : {K T : Type 0} (keys : Keys K) (law : KeyLaw keys) (old new : List T) (item : T) (key : K) → new ≡ old ++ item ∷ [] → length old < keys.count → key ≡ keys.key (length old)
     → keys.number key < length new
@@ -167,13 +181,13 @@ pub length-written : {T : Type 0} (items last : List T) → length (written item
 length-written items last =
     length-take-le (length items) (last ++ drop (length last) items) (omega (arith, length-append last (drop (length last) items), length-drop (length last) items))
 
+pub map-none : {X Y : Type 0} (f : X → Y) (o : Option X) → option_map f o ≡ None → o ≡ None
+map-none f None none = refl
+map-none f (Some x) none = absurd (true≢false (ap is_some none))
+
 -- a value that an index doesn't find isn't among those handed in
 position-absent : {K T : Type 0} (keys : Keys K) (eq : T → T → Bool) (handed : List T) (index : List (T × K)) (value : T) → IsIndex keys eq handed index → value_at eq index value ≡ None → position (eq value) handed ≡ None
-position-absent keys eq handed index value is none = next (position (eq value) handed) (sym (is.finds value) ∙ none)
-  where
-    next : (o : Option ℕ) → option_map keys.key o ≡ None → o ≡ None
-    next None none = refl
-    next (Some p) none = absurd (true≢false (ap is_some none))
+position-absent keys eq handed index value is none = map-none keys.key (position (eq value) handed) (sym (is.finds value) ∙ none)
 
 -- and so of the index of an arena
 pub index-absent : {K T : Type 0} (keys : Keys K) (eq : T → T → Bool) (index : List (T × K)) (items : ℕ) (value : T)

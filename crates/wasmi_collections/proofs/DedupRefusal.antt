@@ -1,12 +1,12 @@
 -- What holds where a deduplicating arena fails: all that its call says, from what its index and its items tell.
-use Rattle.std.proofs.Common.{◌≡◌, ◌≢◌, ◌↔◌, ℕ, ◌<◌, ◌≤◌, Bool, List, length, Some, None, position, Result, Ok, Err, IsOk, IsErr, IfErr, OnErr, IsErrOf, refl, sym, ap, ◌∙◌, subst}
+use Rattle.std.proofs.Common.{◌≡◌, ◌≢◌, ◌↔◌, ℕ, ◌<◌, ◌≤◌, ◌⊎◌, inl, inr, Bool, Option, List, length, Some, None, position, Result, Ok, Err, IsOk, IsErr, IfErr, OnErr, IsErrOf, refl, sym, ap, ◌∙◌, subst}
 use Rattle.std.proofs.Math.Nat.{not-le_of_lt}
 use Rattle.std.proofs.lemmas.Option.{none-some}
 use Rattle.std.proofs.lemmas.List.Quantifiers.{position-Some}
 use Rattle.std.specs.Result.{IsErrAnd}
 use Rattle.wasmi_arena.specs.Keys.{Keys}
 use Rattle.wasmi_arena.specs.declared.error.ArenaError.{ArenaError}
-use Rattle.wasmi_arena.specs.declared.error.ArenaError.TheVariants.{OutOfSystemMemory, KeyOutOfBounds, NotEnoughKeys, AliasingPairAccess, DuplicateItem}
+use Rattle.wasmi_arena.specs.declared.error.ArenaError.TheVariants.{OutOfSystemMemory, KeyOutOfBounds, NotEnoughKeys, DuplicateItem}
 use Rattle.wasmi_map_specs.specs.Maps.{value_at}
 use Rattle.wasmi_collections.specs.Dedup.{DedupState, IsIndex, HasOtherKey, RefusesReplace, RefusesValue, in_order}
 use Rattle.wasmi_collections.proofs.Dedup.{index-absent}
@@ -14,6 +14,9 @@ use Rattle.wasmi_collections.proofs.DedupRuns.{some_is}
 
 same_error : {X : Type 0} (x y : ArenaError) → ◌≡◌ {A = Result X ArenaError} (Err x) (Err y) → x ≡ y
 same_error x y is = cc
+
+errors_apart : OutOfSystemMemory ≡ NotEnoughKeys → ⊥
+errors_apart same = absurd (cc)
 
 module _ {K T : Type 0} (keys : Keys K) (eq : T → T → Bool) (old : DedupState T) (value : T) where
   pub record IsRefusal (new : DedupState T) (r : Result K ArenaError) : Type 0 where
@@ -27,16 +30,23 @@ module _ {K T : Type 0} (keys : Keys K) (eq : T → T → Bool) (old : DedupStat
   absent : (error : ArenaError) → RefusesValue keys eq old value error → position (eq value) old.handed ≡ None
   absent NotEnoughKeys why = why.0
   absent OutOfSystemMemory why = why.0
-  absent KeyOutOfBounds why = absurd why
-  absent AliasingPairAccess why = absurd why
-  absent DuplicateItem why = absurd why
+  absent error why = absurd why
 
   no_key_for : (error : ArenaError) → RefusesValue keys eq old value error → keys.count ≤ length old.handed → error ≡ NotEnoughKeys
   no_key_for NotEnoughKeys why full = refl
   no_key_for OutOfSystemMemory why full = absurd (not-le_of_lt why.1 full)
-  no_key_for KeyOutOfBounds why full = absurd why
-  no_key_for AliasingPairAccess why full = absurd why
-  no_key_for DuplicateItem why full = absurd why
+  no_key_for error why full = absurd why
+
+  -- another value that is new is refused for the same
+  pub refuses-too : position (eq value) old.handed ≡ None → (other : T) (error : ArenaError) → RefusesValue keys eq old other error → RefusesValue keys eq old value error
+  refuses-too none other NotEnoughKeys why = (none, why.1)
+  refuses-too none other OutOfSystemMemory why = (none, why.1)
+  refuses-too none other error why = absurd why
+
+  pub reasons : (error : ArenaError) → RefusesValue keys eq old value error → (error ≡ NotEnoughKeys) ⊎ (error ≡ OutOfSystemMemory)
+  reasons NotEnoughKeys why = inl refl
+  reasons OutOfSystemMemory why = inr refl
+  reasons error why = absurd why
 
   -- the call passes on an error, and nothing has changed
   pub refusal : (new : DedupState T) (r : Result K ArenaError) (passed error : ArenaError) → IsErrAnd r (λ e. e ≡ passed) → passed ≡ error → new ≡ old → RefusesValue keys eq old value error → IsRefusal new r
@@ -67,6 +77,25 @@ module _ {K T : Type 0} (keys : Keys K) (eq : T → T → Bool) (old : DedupStat
     pub refuses-memory : length items < keys.count → RefusesValue keys eq old value OutOfSystemMemory
     refuses-memory low = (new_there, subst (λ n. n < keys.count) as_many low)
 
+-- The same of what is found by a text, or isn't: `found` is its place, and `n` is how many values were handed in.
+module _ {K : Type 0} (keys : Keys K) (found : Option ℕ) (n : ℕ) where
+  pub record IsNotAdded (r : Result K ArenaError) : Type 0 where
+    pub fails : IsErr r
+    pub no_key : IsErrOf r NotEnoughKeys ↔ ((found ≡ None) × (keys.count ≤ n))
+    pub errors : IfErr r (λ error. (error ≡ NotEnoughKeys) ⊎ (error ≡ OutOfSystemMemory))
+
+  pub not_added-keys : (r : Result K ArenaError) (passed : ArenaError) → IsErrAnd r (λ e. e ≡ passed) → passed ≡ NotEnoughKeys → found ≡ None → keys.count ≤ n → IsNotAdded r
+  not_added-keys (Ok key) passed is meant none full = absurd is
+  not_added-keys (Err e) passed is meant none full = record { fails = refl; no_key = (λ _. (none, full), λ _. ap Err (is ∙ meant)); errors = inl (is ∙ meant) }
+
+  pub not_added-memory : (r : Result K ArenaError) (passed : ArenaError) → IsErrAnd r (λ e. e ≡ passed) → passed ≡ OutOfSystemMemory → n < keys.count → IsNotAdded r
+  not_added-memory (Ok key) passed is meant low = absurd is
+  not_added-memory (Err e) passed is meant low = record {
+    fails = refl;
+    no_key = (λ no_key. absurd (errors_apart (sym (is ∙ meant) ∙ same_error e NotEnoughKeys no_key)), λ full. absurd (not-le_of_lt low full.1));
+    errors = inr (is ∙ meant);
+  }
+
 -- The same of a value that doesn't come in the place of another.
 module _ {K T : Type 0} (keys : Keys K) (eq : T → T → Bool) (old : DedupState T) (key : K) (value : T) where
   pub record IsNoReplace (new : DedupState T) (r : Result T ArenaError) : Type 0 where
@@ -82,22 +111,19 @@ module _ {K T : Type 0} (keys : Keys K) (eq : T → T → Bool) (old : DedupStat
   beyond KeyOutOfBounds why past = refl
   beyond DuplicateItem why past = absurd (not-le_of_lt why.0 past)
   beyond OutOfSystemMemory why past = absurd (not-le_of_lt why.0 past)
-  beyond NotEnoughKeys why past = absurd why
-  beyond AliasingPairAccess why past = absurd why
+  beyond error why past = absurd why
 
   elsewhere : (error : ArenaError) → RefusesReplace keys eq old key value error → (keys.number key < length old.items) × HasOtherKey keys eq old key value → error ≡ DuplicateItem
   elsewhere KeyOutOfBounds why other = absurd (not-le_of_lt other.0 why)
   elsewhere DuplicateItem why other = refl
   elsewhere OutOfSystemMemory why other = absurd (none-some other.1.0 (sym why.1 ∙ other.1.1))
-  elsewhere NotEnoughKeys why other = absurd why
-  elsewhere AliasingPairAccess why other = absurd why
+  elsewhere error why other = absurd why
 
   not_here : length old.handed ≡ length old.items → (error : ArenaError) → RefusesReplace keys eq old key value error → position (eq value) old.handed ≢ Some (keys.number key)
   not_here same KeyOutOfBounds why at = not-le_of_lt (position-Some (eq value) old.handed (keys.number key) value at).0 (subst (λ n. n ≤ keys.number key) (sym same) why)
   not_here same DuplicateItem why at = why.1.2 (some_is why.1.0 (keys.number key) (sym why.1.1 ∙ at))
   not_here same OutOfSystemMemory why at = none-some (keys.number key) (sym why.1 ∙ at)
-  not_here same NotEnoughKeys why at = absurd why
-  not_here same AliasingPairAccess why at = absurd why
+  not_here same error why at = absurd why
 
   pub no_replace : length old.handed ≡ length old.items → (new : DedupState T) (r : Result T ArenaError) (passed error : ArenaError) → IsErrAnd r (λ e. e ≡ passed) → passed ≡ error → new ≡ old
       → RefusesReplace keys eq old key value error → IsNoReplace new r

@@ -19,6 +19,10 @@ use Rattle.wasmi_collections.proofs.Dedup.{found_last, position-congr}
 pub some_is : {X : Type 0} (x y : X) → Some x ≡ Some y → x ≡ y
 some_is x y same = ap (λ o. unwrap_or o x) same
 
+-- the key that is found is that of the place
+pub key_at : {K : Type 0} (keys : Keys K) (found : Option ℕ) (key : K) → Some key ≡ option_map keys.key found → (p : ℕ) → found ≡ Some p → key ≡ keys.key p
+key_at keys found key is p at = some_is key (keys.key p) (is ∙ ap (option_map keys.key) at)
+
 module _ {T : Type 0} (p : T → Bool) where
   -- what is found first stays so when more comes behind it
   stays_found : (i k : ℕ) (xs ys : List T) → position_from p i xs ≡ Some k → position_from p i (xs ++ ys) ≡ Some k
@@ -109,6 +113,16 @@ module _ {K T : Type 0} (keys : Keys K) (law : KeyLaw keys) {eq : T → T → Bo
       → Some key ≡ value_at eq index value → position (eq value) (in_order keys index) ≡ Some (keys.number key)
   index-known index items value key kept is =
       found-known (in_order keys index) value key (let same = kept.1 in let low = kept.2 in omega (arith, same, low)) (sym (kept.0.finds value) ∙ sym is)
+
+  pub index-key : (index : List (T × K)) (items : ℕ) (value : T) (key : K) → IsIndex keys eq (in_order keys index) index × (length (in_order keys index) ≡ items) × (items ≤ keys.count)
+      → Some key ≡ value_at eq index value → (p : ℕ) → position (eq value) (in_order keys index) ≡ Some p → key ≡ keys.key p
+  index-key index items value key kept is = key_at keys (position (eq value) (in_order keys index)) key (is ∙ kept.0.finds value)
+
+  pub index-within : (index : List (T × K)) (items : ℕ) (value : T) (key : K) → IsIndex keys eq (in_order keys index) index × (length (in_order keys index) ≡ items) × (items ≤ keys.count)
+      → Some key ≡ value_at eq index value → keys.number key < items
+  index-within index items value key kept is =
+      let low = (position-Some (eq value) (in_order keys index) (keys.number key) value (index-known index items value key kept is)).0 in let same = kept.1 in
+      omega (arith, low, same)
 
   -- a value that has its key is at the key's number
   pub given-known : (old new : DedupState T) (value : T) (key : K) → length old.handed ≤ keys.count → AllocatesValue keys eq clones old value key new → position (eq value) new.handed ≡ Some (keys.number key)

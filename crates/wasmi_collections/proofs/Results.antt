@@ -1,5 +1,5 @@
 -- Facts on results that are known to be values.
-use Rattle.std.proofs.Common.{Result, Ok, Err, IsOk, IfErr, OnOk, IsOkUnless, IsErrOf, ◌≡◌, is_ok, refl, sym, ap, ◌∙◌, true≢false}
+use Rattle.std.proofs.Common.{Result, Ok, Err, IsOk, IfErr, OnOk, OnErr, IsOkUnless, IsErrOf, ◌≡◌, is_ok, refl, sym, ap, ◌∙◌, true≢false}
 
 -- where the one error that there is doesn't come
 pub ok_unless : {X E : Type 0} (r : Result X E) (e : E) → IsOkUnless r e → (r ≡ Err e → ⊥) → IsOk r
@@ -21,3 +21,7 @@ if_no_err P (Err e) ok = absurd (true≢false (sym ok))
 
 pub no_err : {X E : Type 0} {r : Result X E} {e : E} → IsOk r → IsErrOf r e → ⊥
 no_err ok is = true≢false (sym ok ∙ ap is_ok is)
+
+pub on_err : {X E P : Type 0} (r : Result X E) → P → OnErr r P
+on_err (Ok x) h = tt
+on_err (Err e) h = h

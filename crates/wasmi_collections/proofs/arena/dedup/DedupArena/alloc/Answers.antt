@@ -1,20 +1,15 @@
-use Rattle.std.proofs.Common.{Err, refl, ◌≡◌, ◌++◌, ◌∷◌, [], ◌≤◌, length, Option, IsOk, None, Some, is_some, true≢false, MatchOption, sym, ap, ◌∙◌, length-append, position, inr, arith}
+use Rattle.std.proofs.Common.{ℕ, Some, inl, Ok, Err, refl, ◌≡◌, ◌++◌, ◌∷◌, [], ◌≤◌, length, IsOk, None, Some, sym, ap, ◌∙◌, position, inr}
 use Rattle.std.proofs.Math.Nat.{not-le_of_lt}
 use Rattle.std.proofs.lemmas.Option.{none-some}
 use Rattle.std.proofs.lemmas.Result.{IfOk-from_err, IfOk-weaker}
 use Rattle.wasmi_arena.specs.declared.error.ArenaError.TheVariants.{NotEnoughKeys, OutOfSystemMemory}
 use Rattle.wasmi_map_specs.specs.Maps.{value_at}
 use Rattle.wasmi_collections.specs.Dedup.{IsIndex, in_order}
-use Rattle.wasmi_collections.proofs.Dedup.{IsIndex-push, in_order-keyed, last_within, index-absent}
+use Rattle.wasmi_collections.proofs.Dedup.{IsIndex-push, entries-inserted, in_order-keyed, index-absent, last_within, length-pushed, pushed_le}
 use Rattle.wasmi_collections.proofs.DedupRefusal.{IsRefusal, refusal, refuses-keys, refuses-memory}
 use Rattle.wasmi_collections.proofs.Results.{if_no_err, no_err, when_ok}
-use Rattle.wasmi_collections.proofs.DedupRuns.{found-known, given-known, position-stays}
-use Rattle.std.proofs.lemmas.List.Quantifiers.{position-Some}
+use Rattle.wasmi_collections.proofs.DedupRuns.{index-known, index-key, index-within, given-known, position-stays}
 use Rattle.wasmi_collections.proofs.arena.dedup.DedupArena.alloc.Goals as goal
-
-if_none : {X P : Type 0} (Q : X → Type 0) (o : Option X) → o ≡ None → MatchOption o P Q → P
-if_none Q None none h = h
-if_none Q (Some x) none h = absurd (true≢false (ap is_some none))
 
 is_absent : (g : _) (c : goal.After-alloc g) → position (g.T.PartialEq.eq c.args.value) (in_order g.Key.ArenaKey.keys c.self.inside.index.entries) ≡ None
 is_absent g c = index-absent g.Key.ArenaKey.keys g.T.PartialEq.eq c.self.inside.index.entries (length c.self.inside.items.items) c.args.value c.self.invariant c.in_default.ensures
@@ -22,12 +17,9 @@ is_absent g c = index-absent g.Key.ArenaKey.keys g.T.PartialEq.eq c.self.inside.
 -- the index has the value behind those that were there
 is_pushed : (g : _) (c : goal.After-alloc g) → IsIndex g.Key.ArenaKey.keys g.T.PartialEq.eq (in_order g.Key.ArenaKey.keys c.self.inside.index.entries ++ c.args.value ∷ []) c.insert.new.self.entries
 is_pushed g c =
-    let keys = g.Key.ArenaKey.keys in
-    let index = c.self.inside.index.entries in
-    let none : value_at g.T.PartialEq.eq index c.args.value ≡ None = sym {b = value_at g.T.PartialEq.eq index c.args.value} c.in_default.ensures in
-    IsIndex-push keys g.met.T.Eq.laws (in_order keys index) index c.args.value c.in_ok-key.key c.self.invariant.0 (is_absent g c)
-    (c.in_ok-key.ensures.key ∙ ap keys.key (sym c.self.invariant.1))
-    c.insert.new.self.entries c.in_ok-insert.ensures.changes (if_none _ c.in_ok-insert.field-0 (c.in_ok-insert.ensures.old ∙ none) c.in_ok-insert.ensures.entries)
+    let keys = g.Key.ArenaKey.keys in let eq = g.T.PartialEq.eq in let index = c.self.inside.index.entries in let after = c.insert.new.self.entries in
+    IsIndex-push keys g.met.T.Eq.laws (in_order keys index) index c.args.value c.in_ok-key.key c.self.invariant.0 (is_absent g c) (c.in_ok-key.ensures.key ∙ ap keys.key (sym c.self.invariant.1)) after c.in_ok-insert.ensures.changes
+    (entries-inserted eq index after c.args.value c.in_ok-key.key c.in_ok-insert.field-0 c.in_ok-insert.ensures.old (sym {b = value_at eq index c.args.value} c.in_default.ensures) c.in_ok-insert.ensures.entries)
 
 -- an item was reserved a place, so it comes
 is_ok : (g : _) (c : goal.After-alloc g) → IsOk c.alloc.result
@@ -39,43 +31,53 @@ is_added g c = when_ok c.alloc.result (is_ok g c) c.alloc.ensures.ok ∙ ap (λ 
 
 handed_is : (g : _) (c : goal.After-alloc g) → in_order g.Key.ArenaKey.keys c.insert.new.self.entries ≡ in_order g.Key.ArenaKey.keys c.self.inside.index.entries ++ c.args.value ∷ []
 handed_is g c =
-    in_order-keyed g.Key.ArenaKey.keys g.met.Key.ArenaKey.key_law _ c.insert.new.self.entries (is_pushed g c).entries_are
-    (let same = c.self.invariant.1 in let low = c.in_ok-key.ensures.has_key in omega (arith, same, low, length-append (in_order g.Key.ArenaKey.keys c.self.inside.index.entries) (c.args.value ∷ [])))
+    let handed = in_order g.Key.ArenaKey.keys c.self.inside.index.entries in
+    in_order-keyed g.Key.ArenaKey.keys g.met.Key.ArenaKey.key_law (handed ++ c.args.value ∷ []) c.insert.new.self.entries (is_pushed g c).entries_are
+    (pushed_le handed c.args.value (length c.self.inside.items.items) g.Key.ArenaKey.keys.count c.self.invariant.1 c.in_ok-key.ensures.has_key)
 
 pub invariant_of-self-2 : goal.invariant_of-self-2
 invariant_of-self-2 g c =
-    rw (handed_is g c, is_added g c) (is_pushed g c, (let same = c.self.invariant.1 in omega (arith, same, length-append (in_order g.Key.ArenaKey.keys c.self.inside.index.entries) (c.args.value ∷ []), length-append c.self.inside.items.items (c.in_ok-item.item ∷ []))), (let low = c.in_ok-key.ensures.has_key in omega (arith, low, length-append c.self.inside.items.items (c.in_ok-item.item ∷ []))))
+    let handed = in_order g.Key.ArenaKey.keys c.self.inside.index.entries in let items = c.self.inside.items.items in let item = c.in_ok-item.item in
+    rw (handed_is g c, is_added g c) (is_pushed g c, length-pushed handed items c.args.value item c.self.invariant.1, pushed_le items item (length items) g.Key.ArenaKey.keys.count refl c.in_ok-key.ensures.has_key)
 
 pub returns-clause-ok : goal.returns-clause-ok
 returns-clause-ok g c =
     let same : length c.args.self.now.handed ≡ length c.self.inside.items.items = rw (← c.self.view_is) c.self.invariant.1 in
-    let low = c.in_ok-key.ensures.has_key in
     IfOk-weaker c.alloc.result _ _ (λ key at. inr (record {
       absent = rw (← c.self.view_is) (is_absent g c);
-      has_key = omega (arith, same, low);
+      has_key = rw same c.in_ok-key.ensures.has_key;
       key_is = at ∙ (ap (λ items. g.Key.ArenaKey.keys.key (length items)) c.in_ok-reserve.ensures.items ∙ ap g.Key.ArenaKey.keys.key (sym same));
       handed_are = rw (← c.self.view_is) (handed_is g c);
       items_are = (c.in_ok-item.item, c.in_ok-item.ensures.cases, rw (← c.self.view_is) (is_added g c));
     })) c.alloc.ensures.key
 
+-- ---- the value was handed in before, under the key that the index has for it
+
+is_known : (g : _) (c : goal.After-drop-value g) → position (g.T.PartialEq.eq c.args.value) c.args.self.now.handed ≡ Some (g.Key.ArenaKey.keys.number c.in-Some.key.now)
+is_known g c = let inside = c.self.inside in rw (← c.self.view_is) (index-known g.Key.ArenaKey.keys g.met.Key.ArenaKey.key_law g.met.T.Eq.laws g.T.Clone.is_clone inside.index.entries (length inside.items.items) c.args.value c.in-Some.key.now c.self.invariant c.in-Some.ensures)
+
+its_key : (g : _) (c : goal.After-drop-value g) (p : ℕ) → position (g.T.PartialEq.eq c.args.value) c.args.self.now.handed ≡ Some p → c.in-Some.key.now ≡ g.Key.ArenaKey.keys.key p
+its_key g c p at = let inside = c.self.inside in index-key g.Key.ArenaKey.keys g.met.Key.ArenaKey.key_law g.met.T.Eq.laws g.T.Clone.is_clone inside.index.entries (length inside.items.items) c.args.value c.in-Some.key.now c.self.invariant c.in-Some.ensures p (rw (← c.self.view_is) at at)
+
 pub returns-in-Some-clause-known : goal.returns-in-Some-clause-known
-returns-in-Some-clause-known g c =
-    let keys = g.Key.ArenaKey.keys in let handed = in_order keys c.self.inside.index.entries in
-    let few : length handed ≤ keys.count = let same = c.self.invariant.1 in let low = c.self.invariant.2 in omega (arith, same, low) in
-    rw (← c.self.view_is) (found-known keys g.met.Key.ArenaKey.key_law g.met.T.Eq.laws g.T.Clone.is_clone handed c.args.value c.in-Some.key.now few (sym (c.self.invariant.0.finds c.args.value) ∙ sym c.in-Some.ensures))
+returns-in-Some-clause-known g c = is_known g c
 
 pub returns-in-Some-clause-within : goal.returns-in-Some-clause-within
-returns-in-Some-clause-within g c =
-    let keys = g.Key.ArenaKey.keys in let handed = in_order keys c.self.inside.index.entries in
-    let few : length handed ≤ keys.count = let same = c.self.invariant.1 in let low = c.self.invariant.2 in omega (arith, same, low) in
-    let at = found-known keys g.met.Key.ArenaKey.key_law g.met.T.Eq.laws g.T.Clone.is_clone handed c.args.value c.in-Some.key.now few (sym (c.self.invariant.0.finds c.args.value) ∙ sym c.in-Some.ensures) in
-    let low = (position-Some (g.T.PartialEq.eq c.args.value) handed (keys.number c.in-Some.key.now) c.args.value at).0 in let same = c.self.invariant.1 in
-    rw (← c.self.view_is) (omega (arith, low, same))
+returns-in-Some-clause-within g c = let inside = c.self.inside in rw (← c.self.view_is) (index-within g.Key.ArenaKey.keys g.met.Key.ArenaKey.key_law g.met.T.Eq.laws g.T.Clone.is_clone inside.index.entries (length inside.items.items) c.args.value c.in-Some.key.now c.self.invariant c.in-Some.ensures)
+
+pub returns-in-Some-clause-there : goal.returns-in-Some-clause-there
+returns-in-Some-clause-there g c = λ p at. (ap Ok (its_key g c p at), refl)
+
+pub returns-in-Some-clause-ok : goal.returns-in-Some-clause-ok
+returns-in-Some-clause-ok g c = let n = g.Key.ArenaKey.keys.number c.in-Some.key.now in inl (n, is_known g c, its_key g c n (is_known g c), refl)
+
+pub returns-in-Some-clause-no_key : goal.returns-in-Some-clause-no_key
+returns-in-Some-clause-no_key g c = (λ is. absurd (no_err refl is), λ full. absurd (none-some (g.Key.ArenaKey.keys.number c.in-Some.key.now) (sym full.0 ∙ is_known g c)))
 
 pub returns-clause-known : goal.returns-clause-known
 returns-clause-known g c =
-    IfOk-weaker c.alloc.result _ _ (λ key allocates. given-known g.Key.ArenaKey.keys g.met.Key.ArenaKey.key_law g.met.T.Eq.laws g.T.Clone.is_clone c.args.self.now _ c.args.value key
-    (rw (← c.self.view_is) (let same = c.self.invariant.1 in let low = c.self.invariant.2 in omega (arith, same, low))) allocates) (returns-clause-ok g c)
+    let few : length c.args.self.now.handed ≤ g.Key.ArenaKey.keys.count = rw (← c.self.view_is, c.self.invariant.1) c.self.invariant.2 in
+    IfOk-weaker c.alloc.result _ _ (λ key allocates. given-known g.Key.ArenaKey.keys g.met.Key.ArenaKey.key_law g.met.T.Eq.laws g.T.Clone.is_clone c.args.self.now _ c.args.value key few allocates) (returns-clause-ok g c)
 
 pub returns-clause-kept : goal.returns-clause-kept
 returns-clause-kept g c = λ other p is.

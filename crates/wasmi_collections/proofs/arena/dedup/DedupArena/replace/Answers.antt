@@ -1,10 +1,10 @@
-use Rattle.std.proofs.Common.{Err, ◌≡◌, ◌<◌, length, IsOk, None, Some, sym, ap, ◌∙◌, refl, slice_set, position, inl, inr, arith}
+use Rattle.std.proofs.Common.{Err, IfOk, ◌≡◌, ◌<◌, length, IsOk, None, Some, sym, ap, ◌∙◌, refl, slice_set, position, inl, inr, arith}
 use Rattle.std.proofs.Math.Nat.{not-le_of_lt}
 use Rattle.std.proofs.lemmas.Option.{none-some}
 use Rattle.std.proofs.lemmas.List.{length-set}
 use Rattle.std.proofs.lemmas.Result.{IfOk-from_err, IfOk-weaker}
 use Rattle.wasmi_arena.specs.declared.error.ArenaError.TheVariants.{DuplicateItem, KeyOutOfBounds, OutOfSystemMemory}
-use Rattle.wasmi_collections.specs.Dedup.{HasOtherKey, in_order}
+use Rattle.wasmi_collections.specs.Dedup.{HasOtherKey, ReplacesValue, in_order}
 use Rattle.wasmi_collections.proofs.Dedup.{in_order-keyed, length-put, index-absent}
 use Rattle.wasmi_collections.proofs.DedupRuns.{index-known, some_is}
 use Rattle.wasmi_collections.proofs.DedupRefusal.{IsNoReplace, no_replace}
@@ -108,20 +108,9 @@ is_ok_there g c =
     ok_unless c.put.result _ c.put.ensures.errors
     (λ refused. not-le_of_lt (within (g.Key.ArenaKey.keys.number c.args.key) c.self.inside.items.items c.in_ok-there.there.now c.in_ok-there.ensures.item) (c.put.ensures.out_of_bounds.0 refused))
 
-pub returns-in-Some-clause-duplicate : goal.returns-in-Some-clause-duplicate
-returns-in-Some-clause-duplicate g c = (
-  λ is. absurd (no_err (is_ok_there g c) is),
-  λ other. absurd (other.1.2 (some_is other.1.0 _ (sym (rw (← c.self.view_is) at other.1.1) ∙ has_key g c))),
-)
-
-pub returns-in-Some-clause-out_of_bounds : goal.returns-in-Some-clause-out_of_bounds
-returns-in-Some-clause-out_of_bounds g c = rw (← c.self.view_is) c.put.ensures.out_of_bounds
-
-pub returns-in-Some-clause-known : goal.returns-in-Some-clause-known
-returns-in-Some-clause-known g c = on_ok c.put.result (has_key g c)
-
-pub returns-in-Some-clause-ok : goal.returns-in-Some-clause-ok
-returns-in-Some-clause-ok g c =
+replaces_there : (g : _) (c : goal.After-put g) → IfOk c.put.result (λ there. ReplacesValue g.Key.ArenaKey.keys g.T.PartialEq.eq g.T.Clone.is_clone c.args.self.now c.args.key c.args.value there
+    (record { handed = in_order g.Key.ArenaKey.keys c.self.inside.index.entries; items = c.put.new.self.items }))
+replaces_there g c =
     IfOk-weaker c.put.result _ _ (λ there at. inl (
       rw (← c.self.view_is) (has_key g c),
       record {
@@ -130,6 +119,19 @@ returns-in-Some-clause-ok g c =
         items_are = rw (← c.self.view_is) (when_ok c.put.result (is_ok_there g c) c.put.ensures.ok);
       },
     )) c.put.ensures.old
+
+pub returns-in-Some : goal.returns-in-Some
+returns-in-Some g c =
+    let ok = is_ok_there g c in let at = has_key g c in record {
+      ok = replaces_there g c;
+      out_of_bounds = rw (← c.self.view_is) c.put.ensures.out_of_bounds;
+      duplicate = (λ is. absurd (no_err ok is), λ other. absurd (other.1.2 (some_is other.1.0 _ (sym (rw (← c.self.view_is) at other.1.1) ∙ at))));
+      refused = if_no_err _ c.put.result ok;
+      same_key = λ _. ok;
+      err = if_no_err _ c.put.result ok;
+      known = on_ok c.put.result at;
+      kept = λ other p is _. rw (← c.self.view_is) at is;
+    }
 
 pub invariant_of-self : goal.invariant_of-self
 invariant_of-self g c =
@@ -180,3 +182,6 @@ pub returns-in_err-move_key : goal.returns-in_err-move_key
 returns-in_err-move_key g c =
     let result = c.from_residual-in_err-move_key.result in let x = at_move_key g c in let fails = x.fails in
     record { ok = IfOk-from_err result _ fails; out_of_bounds = x.out_of_bounds; duplicate = x.duplicate; refused = x.refused; same_key = x.same_key; err = x.err; known = IfOk-from_err result _ fails; kept = x.kept }
+
+pub returns-clause-same_key : goal.returns-clause-same_key
+returns-clause-same_key g c = λ _. is_ok g c
