@@ -1,5 +1,6 @@
 -- Facts on results that are known to be values.
 use Rattle.std.proofs.Common.{Result, Ok, Err, IsOk, IfErr, OnOk, OnErr, IsOkUnless, IsErrOf, ◌≡◌, is_ok, refl, sym, ap, ◌∙◌, true≢false}
+use Rattle.std.specs.Result.{IsErrAnd}
 
 -- where the one error that there is doesn't come
 pub ok_unless : {X E : Type 0} (r : Result X E) (e : E) → IsOkUnless r e → (r ≡ Err e → ⊥) → IsOk r
@@ -25,3 +26,8 @@ no_err ok is = true≢false (sym ok ∙ ap is_ok is)
 pub on_err : {X E P : Type 0} (r : Result X E) → P → OnErr r P
 on_err (Ok x) h = tt
 on_err (Err e) h = h
+
+-- the one error is passed on
+pub passed_unless : {X E : Type 0} (r : Result X E) (error : E) → IsErrAnd r (λ e. e ≡ error) → IsOkUnless r error
+passed_unless (Ok x) error is = absurd is
+passed_unless (Err e) error is = is
