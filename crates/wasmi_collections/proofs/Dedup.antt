@@ -181,13 +181,13 @@ pub length-written : {T : Type 0} (items last : List T) → length (written item
 length-written items last =
     length-take-le (length items) (last ++ drop (length last) items) (omega (arith, length-append last (drop (length last) items), length-drop (length last) items))
 
-pub map-none : {X Y : Type 0} (f : X → Y) (o : Option X) → option_map f o ≡ None → o ≡ None
+pub map-none : {X Y : Type 0} (f : X → Y) (o : Option X) → None ≡ option_map f o → o ≡ None
 map-none f None none = refl
-map-none f (Some x) none = absurd (true≢false (ap is_some none))
+map-none f (Some x) none = absurd (true≢false (sym (ap is_some none)))
 
 -- a value that an index doesn't find isn't among those handed in
 position-absent : {K T : Type 0} (keys : Keys K) (eq : T → T → Bool) (handed : List T) (index : List (T × K)) (value : T) → IsIndex keys eq handed index → value_at eq index value ≡ None → position (eq value) handed ≡ None
-position-absent keys eq handed index value is none = map-none keys.key (position (eq value) handed) (sym (is.finds value) ∙ none)
+position-absent keys eq handed index value is none = map-none keys.key (position (eq value) handed) (sym none ∙ is.finds value)
 
 -- and so of the index of an arena
 pub index-absent : {K T : Type 0} (keys : Keys K) (eq : T → T → Bool) (index : List (T × K)) (items : ℕ) (value : T)

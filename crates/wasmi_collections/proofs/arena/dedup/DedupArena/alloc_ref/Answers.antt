@@ -32,7 +32,7 @@ at_next_key : (g : _) (c : goal.After-from_residual g) → IsRefusal g.Key.Arena
 at_next_key g c =
     let keys = g.Key.ArenaKey.keys in let clause = c.in_err-next_key.ensures in
     refusal keys g.T.PartialEq.eq c.args.self.now c.args.value.now c.args.self.now c.from_residual.result c.in_err-next_key.field-0.0 NotEnoughKeys c.from_residual.ensures.1 clause.errors refl
-    (map-none keys.key (position (g.T.PartialEq.eq c.args.value.now) c.args.self.now.handed) (sym c.in_default.ensures.value), clause.no_key.0 (ap Err clause.errors))
+    (map-none keys.key (position (g.T.PartialEq.eq c.args.value.now) c.args.self.now.handed) c.in_default.ensures.value, clause.no_key.0 (ap Err clause.errors))
 
 pub returns-in_err-next_key : goal.returns-in_err-next_key
 returns-in_err-next_key g c =
@@ -43,7 +43,7 @@ at_clone : (g : _) (c : goal.After-from_residual-in_err-clone g) → IsRefusal g
 at_clone g c =
     let keys = g.Key.ArenaKey.keys in
     refusal keys g.T.PartialEq.eq c.args.self.now c.args.value.now c.args.self.now c.from_residual-in_err-clone.result OutOfSystemMemory OutOfSystemMemory c.from_residual-in_err-clone.ensures.1 refl refl
-    (map-none keys.key (position (g.T.PartialEq.eq c.args.value.now) c.args.self.now.handed) (sym c.in_default.ensures.value), c.in_ok-next_key.ensures.has_key)
+    (map-none keys.key (position (g.T.PartialEq.eq c.args.value.now) c.args.self.now.handed) c.in_default.ensures.value, c.in_ok-next_key.ensures.has_key)
 
 pub returns-in_err-clone : goal.returns-in_err-clone
 returns-in_err-clone g c =
@@ -53,7 +53,7 @@ returns-in_err-clone g c =
 -- ---- it passes on what the clone's call tells
 
 is_new : (g : _) (c : goal.After-alloc g) → position (g.T.PartialEq.eq c.args.value.now) c.args.self.now.handed ≡ None
-is_new g c = map-none g.Key.ArenaKey.keys.key (position (g.T.PartialEq.eq c.args.value.now) c.args.self.now.handed) (sym c.in_default.ensures.value)
+is_new g c = map-none g.Key.ArenaKey.keys.key (position (g.T.PartialEq.eq c.args.value.now) c.args.self.now.handed) c.in_default.ensures.value
 
 pub returns-clause-there : goal.returns-clause-there
 returns-clause-there g c = λ p at. absurd (none-some p (sym (is_new g c) ∙ at))

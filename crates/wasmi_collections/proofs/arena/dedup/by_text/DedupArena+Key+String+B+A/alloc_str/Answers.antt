@@ -1,4 +1,4 @@
-use Rattle.std.proofs.Common.{Ok, Err, length, map, string_bytes, refl, sym, ap, ◌∙◌}
+use Rattle.std.proofs.Common.{◌≡◌, position, Some, Ok, Err, length, map, string_bytes, refl, sym, ap, ◌∙◌}
 use Rattle.std.proofs.lemmas.Result.{IfOk-from_err, IfOk-weaker, IfErr-weaker}
 use Rattle.std.specs.Str.{bytes_eq}
 use Rattle.wasmi_collections.specs.Interner.{symbol_of}
@@ -20,7 +20,7 @@ returns-clause-new g c = λ absent.
 pub returns-clause-known : goal.returns-clause-known
 returns-clause-known g c =
     let handed = c.alloc.new.self.handed in
-    IfOk-weaker c.alloc.result _ _ (λ key at. ap (symbol_of (map string_bytes handed)) (sym c.in_ok-value.ensures.ok) ∙ (sym (position-by_view bytes_eq string_bytes c.in_ok-value.value handed) ∙ at)) c.alloc.ensures.known
+    IfOk-weaker c.alloc.result (λ key. position (string_eq c.in_ok-value.value) handed ≡ Some (g.Key.ArenaKey.keys.number key)) _ (λ key at. ap (symbol_of (map string_bytes handed)) (sym c.in_ok-value.ensures.ok) ∙ (sym (position-by_view bytes_eq string_bytes c.in_ok-value.value handed) ∙ at)) c.alloc.ensures.known
 
 pub returns-clause-kept : goal.returns-clause-kept
 returns-clause-kept g c = λ other p is.
@@ -44,11 +44,11 @@ returns-in-Some g c =
 at_next_key : (g : _) (c : goal.After-drop-alloc-in_err-next_key g) → IsNotAdded g.Key.ArenaKey.keys (symbol_of (map string_bytes c.args.self.now.handed) c.args.text.now) (length c.args.self.now.handed) c.from_residual.result
 at_next_key g c =
     let keys = g.Key.ArenaKey.keys in let found = symbol_of (map string_bytes c.args.self.now.handed) c.args.text.now in let clause = c.in_err-next_key.ensures in
-    not_added-keys keys found (length c.args.self.now.handed) c.from_residual.result c.in_err-next_key.field-0.0 c.from_residual.ensures.1 clause.errors (map-none keys.key found (sym c.in_default.ensures.value)) (clause.no_key.0 (ap Err clause.errors))
+    not_added-keys keys found (length c.args.self.now.handed) c.from_residual.result c.in_err-next_key.field-0.0 c.from_residual.ensures.1 clause.errors (map-none keys.key found c.in_default.ensures.value) (clause.no_key.0 (ap Err clause.errors))
 
 pub returns-in_err-next_key : goal.returns-in_err-next_key
 returns-in_err-next_key g c =
-    let result = c.from_residual.result in let x = at_next_key g c in let fails = x.fails in let none = map-none g.Key.ArenaKey.keys.key (symbol_of (map string_bytes c.args.self.now.handed) c.args.text.now) (sym c.in_default.ensures.value) in record {
+    let result = c.from_residual.result in let x = at_next_key g c in let fails = x.fails in let none = map-none g.Key.ArenaKey.keys.key (symbol_of (map string_bytes c.args.self.now.handed) c.args.text.now) c.in_default.ensures.value in record {
       there = λ p at. absurd (none-some p (sym none ∙ at));
       new = λ _. IfOk-from_err result _ fails;
       no_key = x.no_key;
@@ -65,7 +65,7 @@ at_value g c =
 
 pub returns-in_err-value : goal.returns-in_err-value
 returns-in_err-value g c =
-    let result = c.from_residual-in_err-value.result in let x = at_value g c in let fails = x.fails in let none = map-none g.Key.ArenaKey.keys.key (symbol_of (map string_bytes c.args.self.now.handed) c.args.text.now) (sym c.in_default.ensures.value) in record {
+    let result = c.from_residual-in_err-value.result in let x = at_value g c in let fails = x.fails in let none = map-none g.Key.ArenaKey.keys.key (symbol_of (map string_bytes c.args.self.now.handed) c.args.text.now) c.in_default.ensures.value in record {
       there = λ p at. absurd (none-some p (sym none ∙ at));
       new = λ _. IfOk-from_err result _ fails;
       no_key = x.no_key;
@@ -79,7 +79,7 @@ returns-in_err-value g c =
 -- ---- it passes on what the call of the value tells
 
 pub returns-clause-there : goal.returns-clause-there
-returns-clause-there g c = λ p at. absurd (none-some p (sym (map-none g.Key.ArenaKey.keys.key (symbol_of (map string_bytes c.args.self.now.handed) c.args.text.now) (sym c.in_default.ensures.value)) ∙ at))
+returns-clause-there g c = λ p at. absurd (none-some p (sym (map-none g.Key.ArenaKey.keys.key (symbol_of (map string_bytes c.args.self.now.handed) c.args.text.now) c.in_default.ensures.value) ∙ at))
 
 pub returns-clause-no_key : goal.returns-clause-no_key
 returns-clause-no_key g c =
