@@ -1,13 +1,17 @@
 -- Facts on the values handed in to a deduplicating arena, and on its index.
-use Rattle.std.proofs.Common.{All, ◌≡◌, ℕ, ◌+◌, ◌<◌, ◌≤◌, suc, Bool, true, false, cond, List, [], ◌∷◌, ◌++◌, length, map, Option, Some, None, option_map, find, filter_map, position, slice_get, nat_eq, IsPermutation, refl, sym, ap, ◌∙◌, subst, is_some, eqb-true, ◌||◌, true≢false, arith}
+use Rattle.std.proofs.Common.{All, ◌≡◌, ℕ, ◌+◌, ◌<◌, ◌≤◌, suc, Bool, true, false, cond, List, [], ◌∷◌, ◌++◌, length, length-append, drop, map, Result, Ok, Err, OnOk, OnErr, MatchOption, Option, Some, None, option_map, find, filter_map, position, slice_get, slice_set, nat_eq, IsPermutation, refl, sym, ap, ◌∙◌, subst, is_some, eqb-true, ◌||◌, true≢false, arith}
 use Rattle.std.specs.Cmp.{IsEquivalence}
+use Rattle.std.specs.Map.{set_value}
 use Rattle.std.specs.List.{AllByRecursion, IsDistinct, list_any, position_from, range_with_len, cons_option}
 use Rattle.std.proofs.lemmas.Bool.{eqb-false}
 use Rattle.std.proofs.lemmas.Iterator.Adapters.{position_from-zero}
+use Rattle.std.proofs.lemmas.List.{length-set, length-drop, length-take-le}
 use Rattle.std.proofs.lemmas.List.Sorted.{length_permutation, list_any-IsPermutation, All-permutation, IsPermutation-push_more, IsPermutation-refl}
 use Rattle.std.proofs.lemmas.List.Elements.{All-nil, All-cons, All-head, All-tail}
 use Rattle.std.proofs.lemmas.Map.Keys.{IsDistinct-cons, IsDistinct-head, IsDistinct-tail}
+use Rattle.wasmi_arena.specs.Arena.{ArenaState}
 use Rattle.wasmi_arena.specs.Keys.{Keys, KeyLaw}
+use Rattle.wasmi_dense.specs.ArenaLoan.{written}
 use Rattle.wasmi_map_specs.specs.Maps.{value_at, ChangesAt}
 use Rattle.wasmi_collections.specs.Dedup.{keyed_from, keyed, value_numbered, in_order, IsIndex, DedupState, AllocatesValue, AllocatesEach}
 
@@ -148,13 +152,47 @@ pub IsIndex-nil : {K T : Type 0} (keys : Keys K) (eq : T → T → Bool) → IsI
 unfolding IsDistinct
 IsIndex-nil keys eq = record { distinct = tt; entries_are = IsPermutation-refl []; finds = λ value. refl }
 
+-- a map takes a key that is new to it in among its entries
+pub entries-inserted : {K T : Type 0} (eq : T → T → Bool) (index after : List (T × K)) (value : T) (key : K) (old : Option K) → old ≡ value_at eq index value → value_at eq index value ≡ None
+    → MatchOption old (IsPermutation ((value, key) ∷ index) after) (λ _. after ≡ set_value (eq value) index key) → IsPermutation ((value, key) ∷ index) after
+entries-inserted eq index after value key None is none entered = entered
+entries-inserted eq index after value key (Some other) is none entered = absurd (true≢false (ap is_some (is ∙ none)))
+
+-- one more of each
+pub length-pushed : {T : Type 0} (xs ys : List T) (x y : T) → length xs ≡ length ys → length (xs ++ x ∷ []) ≡ length (ys ++ y ∷ [])
+length-pushed xs ys x y same = omega (arith, same, length-append xs (x ∷ []), length-append ys (y ∷ []))
+
+pub pushed_le : {T : Type 0} (xs : List T) (x : T) (n count : ℕ) → length xs ≡ n → n < count → length (xs ++ x ∷ []) ≤ count
+pushed_le xs x n count same low = omega (arith, same, low, length-append xs (x ∷ []))
+
+-- the key of the position behind all items reads the one that goes there
+pub last_within : {K T : Type 0} (keys : Keys K) (law : KeyLaw keys) (old new : List T) (item : T) (key : K) → new ≡ old ++ item ∷ [] → length old < keys.count → key ≡ keys.key (length old)
+    → keys.number key < length new
+last_within keys law old new item key added low at =
+    omega (arith, low, ap keys.number at, law.numbered (length old) low, ap length added, length-append old (item ∷ []))
+
+-- a write under a key keeps the number of items, also where it fails
+pub length-put : {X E : Type 0} {T : Type 0} (r : Result X E) (old new : ArenaState T) (n : ℕ) (item : T) → OnOk r (new.items ≡ slice_set old.items n item) → OnErr r (new ≡ old) → length new.items ≡ length old.items
+length-put (Ok x) old new n item is same = ap length is ∙ length-set old.items n item
+length-put (Err e) old new n item is same = ap (λ (arena : ArenaState _). length arena.items) same
+
+-- and so do writes over the first of them
+pub length-written : {T : Type 0} (items last : List T) → length (written items last) ≡ length items
+length-written items last =
+    length-take-le (length items) (last ++ drop (length last) items) (omega (arith, length-append last (drop (length last) items), length-drop (length last) items))
+
+pub map-none : {X Y : Type 0} (f : X → Y) (o : Option X) → None ≡ option_map f o → o ≡ None
+map-none f None none = refl
+map-none f (Some x) none = absurd (true≢false (sym (ap is_some none)))
+
 -- a value that an index doesn't find isn't among those handed in
-pub position-absent : {K T : Type 0} (keys : Keys K) (eq : T → T → Bool) (handed : List T) (index : List (T × K)) (value : T) → IsIndex keys eq handed index → value_at eq index value ≡ None → position (eq value) handed ≡ None
-position-absent keys eq handed index value is none = next (position (eq value) handed) (sym (is.finds value) ∙ none)
-  where
-    next : (o : Option ℕ) → option_map keys.key o ≡ None → o ≡ None
-    next None none = refl
-    next (Some p) none = absurd (true≢false (ap is_some none))
+position-absent : {K T : Type 0} (keys : Keys K) (eq : T → T → Bool) (handed : List T) (index : List (T × K)) (value : T) → IsIndex keys eq handed index → value_at eq index value ≡ None → position (eq value) handed ≡ None
+position-absent keys eq handed index value is none = map-none keys.key (position (eq value) handed) (sym none ∙ is.finds value)
+
+-- and so of the index of an arena
+pub index-absent : {K T : Type 0} (keys : Keys K) (eq : T → T → Bool) (index : List (T × K)) (items : ℕ) (value : T)
+    → IsIndex keys eq (in_order keys index) index × (length (in_order keys index) ≡ items) × (items ≤ keys.count) → None ≡ value_at eq index value → position (eq value) (in_order keys index) ≡ None
+index-absent keys eq index items value keeps none = position-absent keys eq (in_order keys index) index value keeps.0 (sym none)
 
 module _ {K T : Type 0} (keys : Keys K) (eq : T → T → Bool) (clones : T → T → Type 0) where
   pub AllocatesEach-push : (old : DedupState T) (values : List T) (middle : DedupState T) (value : T) (key : K) (new : DedupState T) → AllocatesEach keys eq clones old values middle

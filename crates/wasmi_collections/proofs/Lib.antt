@@ -1,5 +1,6 @@
 mod BinaryDigits
 mod Dedup
+mod DedupRefusal
 mod DedupReplace
 mod DedupRuns
 mod Filtered
@@ -11,6 +12,7 @@ mod InternerRuns
 mod InternsEach
 mod LastItem
 mod MapRuns
+mod Results
 mod Runs
 mod Search
 mod SetRuns

@@ -1,5 +1,5 @@
 -- Facts on runs.
-use Rattle.std.proofs.Common.{◌≡◌, List, [], ◌∷◌, ◌++◌, refl, subst}
+use Rattle.std.proofs.Common.{◌≡◌, ℕ, ◌+◌, List, [], ◌∷◌, ◌++◌, length, length-append, refl, subst, arith}
 use Rattle.std.specs.List.{AllByRecursion}
 use Rattle.wasmi_collections.specs.Runs.{IsRun}
 
@@ -13,6 +13,10 @@ IsRun-append step state old (c ∷ cs) (r ∷ rs) mid command reply new run last
     (run.0, run.1, IsRun-append step state run.0 cs rs mid command reply new run.2 last)
 IsRun-append step state old [] (r ∷ rs) mid command reply new run last = absurd run
 IsRun-append step state old (c ∷ cs) [] mid command reply new run last = absurd run
+
+-- one more reply to one more command
+pub counts_on : {C : Type 0} (new old : ℕ) (commands : List C) (command : C) → new ≡ old + 1 → old ≡ length commands → new ≡ length (commands ++ command ∷ [])
+counts_on new old commands command more counted = omega (arith, more, counted, length-append commands (command ∷ []))
 
 -- two that are the same before a run of the same commands are the same after it, and reply alike, if that
 -- holds of each step whose reply is accepted

@@ -1,7 +1,7 @@
-use Rattle.std.proofs.Common.{◌∙◌, length-append, arith, [], ◌∷◌}
+use Rattle.std.proofs.Common.{◌∙◌}
 use Rattle.std.proofs.IntoIterSteps.{All-taken}
 use Rattle.wasmi_collections.specs.DedupSteps.{DedupStep}
-use Rattle.wasmi_collections.proofs.Runs.{IsRun-append}
+use Rattle.wasmi_collections.proofs.Runs.{IsRun-append, counts_on}
 use Rattle.wasmi_collections.proofs.run.dedup.run_dedup.Goals as goal
 
 pub loop-command-preserved : goal.loop-command-preserved
@@ -9,7 +9,7 @@ loop-command-preserved g c =
     let so_far = c.loop-command.invariant in
     let goes_on = IsRun-append (DedupStep g.Key.ArenaKey.keys g.T.PartialEq.eq g.T.Clone.is_clone) (λ state. state) _ _ _ _ _ _ _ so_far.0 c.perform.ensures in (
       rw c.push_reserved.ensures.items goes_on,
-      c.push_reserved.ensures.len ∙ (let counted = so_far.1 in omega (arith, length-append c.loop-command.yielded (c.in-Some.command ∷ []))),
+      counts_on c.push_reserved.new.self.len _ c.loop-command.yielded c.in-Some.command c.push_reserved.ensures.len so_far.1,
       c.push_reserved.ensures.capacity ∙ so_far.2,
     )
 

@@ -9,9 +9,18 @@ invariant_of-self-2 g c =
     let absent = rw (sought.texts, sought.text) at c.in-Err.ensures.absent in let rank = rw (sought.texts, sought.text) at c.in-Err.ensures.rank in
     let number : c.from_u32-symbol.result ≡ length before = omega (arith, c.from_u32-symbol.ensures, small.1, c.len.ensures) in
     let entries : c.insert.new.self.entries ≡ insert c.self.inside.index.entries c.in-Err.rank entry =
-    c.insert.ensures ∙ (λ i. insert (c.in_ok-reserve.ensures.entries i) c.in-Err.rank entry) in
+    ◌∙◌ {b = insert c.reserve.new.self.entries c.in-Err.rank entry} c.insert.ensures (λ i. insert (c.in_ok-reserve.ensures.entries i) c.in-Err.rank entry) in
     rw (c.in_ok-push.ensures.ok, entries) (
       AreDistinctTexts-push c.args.text.now before c.self.invariant.0 absent,
       rank.1 entry (c.new-2.ensures.symbol ∙ number) (rw (c.new-2.ensures.head, c.new-2.ensures.tail, ← sought.text) c.new-sought.result.keyed),
       omega (arith, length_push before c.args.text.now, small.0, c.len.ensures),
     )
+
+pub insert-requires-clause-within : goal.insert-requires-clause-within
+insert-requires-clause-within g c = rw c.in_ok-reserve.ensures.entries c.in-Err.ensures.rank.0
+
+pub invariant_of-self : goal.invariant_of-self
+invariant_of-self g c = rw c.in_err-reserve.ensures.entries c.self.invariant
+
+pub invariant_of-self-in_err-push : goal.invariant_of-self-in_err-push
+invariant_of-self-in_err-push g c = rw (c.in_err-push.ensures.err, c.in_ok-reserve.ensures.entries) c.self.invariant

@@ -1,12 +1,9 @@
-use Rattle.std.proofs.Common.{◌≡◌, ◌∷◌, Option, None, Some, is_some, true≢false, MatchOption, IsPermutation, option_map, subst, ap, ◌∙◌}
+use Rattle.std.proofs.Common.{◌≡◌, ◌∷◌, None, Some, IsPermutation, option_map, subst, ap, ◌∙◌}
 use Rattle.wasmi_map_specs.specs.Maps.{value_at, ChangesAt}
 use Rattle.wasmi_collections.specs.Dedup.{in_order}
+use Rattle.wasmi_collections.proofs.Dedup.{entries-inserted}
 use Rattle.wasmi_collections.proofs.DedupReplace.{IsIndex-set}
 use Rattle.wasmi_collections.proofs.arena.dedup.replace.move_entry.Goals as goal
-
-if_none : {X P : Type 0} (Q : X → Type 0) (o : Option X) → o ≡ None → MatchOption o P Q → P
-if_none Q None none h = h
-if_none Q (Some x) none h = absurd (true≢false (ap is_some none))
 
 pub returns-clause-ok : goal.returns-clause-ok
 returns-clause-ok g c =
@@ -18,6 +15,6 @@ returns-clause-ok g c =
     subst (λ k. ChangesAt eq index value (Some k) mid) c.requires.key_is c.in_ok-insert.ensures.changes in
     let more : IsPermutation ((value, keys.key n) ∷ index) mid =
     subst (λ k. IsPermutation ((value, k) ∷ index) mid) c.requires.key_is
-    (if_none _ c.in_ok-insert.field-0 (c.in_ok-insert.ensures.old ∙ none) c.in_ok-insert.ensures.entries) in
+    (entries-inserted eq index mid value c.args.key c.in_ok-insert.field-0 c.in_ok-insert.ensures.old none c.in_ok-insert.ensures.entries) in
     IsIndex-set keys g.met.T.Eq.laws (in_order keys index) c.requires.is.distinct c.args.old.now value n c.requires.there c.requires.absent index mid after
     c.requires.is enters more c.remove.ensures.changes c.remove.ensures.entries

@@ -1,7 +1,12 @@
-use Rattle.wasmi_collections.proofs.TextIndex.{entry_order}
+use Rattle.wasmi_collections.proofs.TextIndex.{entry_of_rank, entry_order}
 use Rattle.wasmi_collections.proofs.string_interner.find.IndexLooksNarrow.narrow.Goals as goal
 
 pub returns-clause-goes_on : goal.returns-clause-goes_on
 returns-clause-goes_on g c =
     let self = c.args.self.now in let texts = self.sought.now.texts.now in
     rw (entry_order self.sought.now.text.now texts self.index.now.entries c.args.at c.at.result c.at.ensures) c.compared.ensures
+
+pub compared-requires : goal.compared-requires
+compared-requires g c =
+    let self = c.args.self.now in
+    entry_of_rank self.sought.now.text.now self.sought.now.texts.now self.index.now.entries self.entries c.args.at c.at.result c.at.ensures

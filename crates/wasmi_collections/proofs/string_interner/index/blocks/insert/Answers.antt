@@ -22,7 +22,7 @@ returns-then-block-last g c =
     let fits = fits_last blocks last block block c.requires.blocks is_last c.requires.room c.index_mut.ensures.value in
     let long = ap (λ b. length b.entries) c.index_mut.ensures.value in
     let next = put_last blocks last place c.args.rank c.args.entry block c.put.new.self c.requires.blocks is_last at (omega (arith, long, at, fits.0, c.requires.within)) (omega (arith, long, fits.1))
-    (c.put.ensures ∙ ap (λ b. insert b.entries place c.args.entry) c.index_mut.ensures.value) in
+    (◌∙◌ {b = insert block.entries place c.args.entry} c.put.ensures (ap (λ b. insert b.entries place c.args.entry) c.index_mut.ensures.value)) in
     record { blocks = next.0; entries = next.1 }
 
 -- ---- where it is in another
@@ -42,7 +42,7 @@ loop-block-init g c =
     let blocks = vec_items c.args.blocks.now in let rank = c.args.rank in let block = rank / width in let place = rank % width in
     let out = c.push_out-carried.result in let new = c.push_out-carried.new.self in
     let before : block + 1 < length blocks = omega (arith, has_room blocks c.requires.blocks c.requires.room, c.requires.within, c.if-block-last.false, c.len-last.ensures, c.args.blocks.now.ok) in
-    let goes = c.push_out-carried.ensures ∙ ap (λ b. insert b.entries place c.args.entry) c.index_mut-2.ensures.value in
+    let goes = ◌∙◌ {b = insert c.index_mut-2.result.now.entries place c.args.entry} c.push_out-carried.ensures (ap (λ b. insert b.entries place c.args.entry) c.index_mut-2.ensures.value) in
     let next = pushed_out blocks block place rank c.args.entry out c.index_mut-2.result.now new c.requires.blocks before (omega arith) (omega arith) goes in
     let on : (block + 1) * width ≡ suc block * width = omega arith in
     record {
@@ -64,7 +64,7 @@ loop-block-preserved g c =
     let now = c.loop-block in let blocks = vec_items now.blocks in let block = now.block in
     let out = c.turn-carried.result in let new = c.turn-carried.new.self in
     let before : block + 1 < length blocks = omega (arith, now.invariant.last, c.loop-block-test.true) in
-    let goes = c.turn-carried.ensures ∙ ap (λ b. insert b.entries 0 now.carried) c.index_mut-in-loop-block.ensures.value in
+    let goes = ◌∙◌ {b = insert c.index_mut-in-loop-block.result.now.entries 0 now.carried} c.turn-carried.ensures (ap (λ b. insert b.entries 0 now.carried) c.index_mut-in-loop-block.ensures.value) in
     let next = pushed_out blocks block 0 (block * width) now.carried out c.index_mut-in-loop-block.result.now new now.invariant.blocks before (omega arith) (omega arith) goes in
     let on : (block + 1) * width ≡ suc block * width = omega arith in
     record {
@@ -88,7 +88,7 @@ returns g c =
     let fits = fits_last blocks last block block now.invariant.blocks now.invariant.last now.invariant.room c.index_mut-3.ensures.value in
     let long = ap (λ b. length b.entries) c.index_mut-3.ensures.value in
     let next = put_last blocks last 0 (last * width) now.carried block c.put-2.new.self now.invariant.blocks now.invariant.last (omega arith) (omega arith) (omega (arith, long, fits.1))
-    (c.put-2.ensures ∙ ap (λ b. insert b.entries 0 now.carried) c.index_mut-3.ensures.value) in
+    (◌∙◌ {b = insert block.entries 0 now.carried} c.put-2.ensures (ap (λ b. insert b.entries 0 now.carried) c.index_mut-3.ensures.value)) in
     record {
       blocks = next.0;
       entries = next.1 ∙ (ap (λ k. insert (entries_in blocks) (k * width) now.carried) (sym here) ∙ now.invariant.same);
