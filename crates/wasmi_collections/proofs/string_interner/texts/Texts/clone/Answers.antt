@@ -3,8 +3,8 @@ use Rattle.wasmi_collections.proofs.string_interner.texts.Texts.clone.Goals as g
 
 pub returns : goal.returns
 returns g c =
-    rw (c.in_ok-clone.ensures.cases, same_from_all_zip _ c.self.inside.ends.items c.in_ok-clone-2.field-0.items c.in_ok-clone-2.ensures.cases.0 (λ x y same. same)) c.self.view_is
+    rw (c.in_ok-clone.ensures.cases, same_from_all_zip _ c.self.inside.parts.items c.in_ok-clone-2.field-0.items c.in_ok-clone-2.ensures.cases.0 (λ x y same. same)) c.self.view_is
 
 pub invariant_of-result : goal.invariant_of-result
 invariant_of-result g c =
-    rw (c.in_ok-clone.ensures.cases, same_from_all_zip _ c.self.inside.ends.items c.in_ok-clone-2.field-0.items c.in_ok-clone-2.ensures.cases.0 (λ x y same. same)) c.self.invariant
+    rw (c.in_ok-clone.ensures.cases, same_from_all_zip _ c.self.inside.parts.items c.in_ok-clone-2.field-0.items c.in_ok-clone-2.ensures.cases.0 (λ x y same. same)) c.self.invariant
