@@ -1,7 +1,7 @@
-use Rattle.std.proofs.Common.{Some, sym, ap}
+use Rattle.std.proofs.Common.{Some, ◌∷◌, sym, ◌∙◌, ap, subst}
 use Rattle.std.specs.Array.Iter.{array_into_iter_items}
 use Rattle.wasmi_arena.specs.Ahead.{in_hand}
-use Rattle.wasmi_arena.specs.Table.{items_of}
+use Rattle.wasmi_arena.specs.Table.{AreFilled, items_of}
 use Rattle.wasmi_arena.proofs.Taken.{all_left, first_taken, first_taken_counted, first_taken_ahead, taken_behind, taken_behind_ahead}
 use Rattle.wasmi_arena.proofs.Ahead.{front_yields, front_ahead, progress_first}
 use Rattle.wasmi_arena.proofs.Sizes.{buckets_small}
@@ -44,3 +44,7 @@ returns-in-None-clause-goes g c = progress_first (λ x. x) all_left _ (λ _. tt)
 
 pub next-requires : goal.next-requires
 next-requires g c = (buckets_small g.row.T g.row.A g.A.Allocator assumption, tt)
+
+pub unreachable-requires : goal.unreachable-requires
+unreachable-requires g c =
+    let left = array_into_iter_items c.next.new.self in subst AreFilled (c.in-Some-None.ensures.steps ∙ ap (λ b. b ∷ left) c.in-Some-None.field-0-is) c.self.invariant.filled
