@@ -18,7 +18,9 @@ same_error x y is = cc
 errors_apart : OutOfSystemMemory ≡ NotEnoughKeys → ⊥
 errors_apart same = absurd (cc)
 
+-- A value that isn't handed in.
 module _ {K T : Type 0} (keys : Keys K) (eq : T → T → Bool) (old : DedupState T) (value : T) where
+  -- what a call tells that fails with it
   pub record IsRefusal (new : DedupState T) (r : Result K ArenaError) : Type 0 where
     pub fails : IsErr r
     pub there : (p : ℕ) → position (eq value) old.handed ≡ Some p → (r ≡ Ok (keys.key p)) × (new ≡ old)
@@ -27,6 +29,7 @@ module _ {K T : Type 0} (keys : Keys K) (eq : T → T → Bool) (old : DedupStat
     pub err : OnErr r (new ≡ old)
     pub kept : (other : T) (p : ℕ) → position (eq other) old.handed ≡ Some p → position (eq other) new.handed ≡ Some p
 
+  -- only a new value is refused, and only for want of a key where there is none
   absent : (error : ArenaError) → RefusesValue keys eq old value error → position (eq value) old.handed ≡ None
   absent NotEnoughKeys why = why.0
   absent OutOfSystemMemory why = why.0

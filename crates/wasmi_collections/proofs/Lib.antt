@@ -11,6 +11,7 @@ mod IndexRing
 mod InternerRuns
 mod InternsEach
 mod LastItem
+mod MapCalls
 mod MapRuns
 mod Results
 mod Runs

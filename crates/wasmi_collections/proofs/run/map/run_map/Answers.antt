@@ -1,4 +1,4 @@
-use Rattle.std.proofs.Common.{◌∙◌}
+use Rattle.std.proofs.Common.{vec_capacity, ◌∙◌}
 use Rattle.std.proofs.IntoIterSteps.{All-taken}
 use Rattle.wasmi_collections.specs.MapSteps.{MapStep}
 use Rattle.wasmi_collections.proofs.Runs.{IsRun-append, counts_on}
@@ -10,7 +10,7 @@ loop-command-preserved g c =
     let goes_on = IsRun-append (MapStep g.M.AnyMap.eq) g.M.AnyMap.entries _ _ _ _ _ _ _ so_far.0 c.perform.ensures in (
       rw c.push_reserved.ensures.items goes_on,
       counts_on c.push_reserved.new.self.len _ c.loop-command.yielded c.in-Some.command c.push_reserved.ensures.len so_far.1,
-      c.push_reserved.ensures.capacity ∙ so_far.2,
+      ◌∙◌ {a = vec_capacity c.push_reserved.new.self} c.push_reserved.ensures.capacity so_far.2,
     )
 
 pub returns-clause-run : goal.returns-clause-run

@@ -104,7 +104,7 @@ returns-clause-refused g c = if_no_err _ c.alloc.result (is_ok g c)
 pub returns-clause-there : goal.returns-clause-there
 returns-clause-there g c = λ p at. absurd (none-some p (sym (is_absent g c) ∙ (rw (← c.self.view_is) at at)))
 
--- ---- nothing has changed
+-- ---- it fails, and nothing has changed
 
 pub invariant_of-self : goal.invariant_of-self
 invariant_of-self g c = rw c.in_err-reserve.ensures.items c.self.invariant
@@ -115,12 +115,10 @@ invariant_of-self-in_err-item g c = rw c.in_ok-reserve.ensures.items c.self.inva
 pub invariant_of-self-in_err-insert : goal.invariant_of-self-in_err-insert
 invariant_of-self-in_err-insert g c = rw (c.in_err-insert.ensures.err, c.in_ok-reserve.ensures.items) c.self.invariant
 
--- ---- it fails, and nothing has changed
-
-at_key : (g : _) (c : goal.After-drop-value-in_err-key g) → IsRefusal g.Key.ArenaKey.keys g.T.PartialEq.eq c.args.self.now c.args.value (c.args.self.now) c.from_residual.result
+at_key : (g : _) (c : goal.After-drop-value-in_err-key g) → IsRefusal g.Key.ArenaKey.keys g.T.PartialEq.eq c.args.self.now c.args.value c.args.self.now c.from_residual.result
 at_key g c =
     let keys = g.Key.ArenaKey.keys in let eq = g.T.PartialEq.eq in let old = c.args.self.now in let inside = c.self.inside in
-    refusal keys eq old c.args.value (old) c.from_residual.result c.in_err-key.field-0.0 NotEnoughKeys c.from_residual.ensures.1 c.in_err-key.ensures.errors (refl)
+    refusal keys eq old c.args.value old c.from_residual.result c.in_err-key.field-0.0 NotEnoughKeys c.from_residual.ensures.1 c.in_err-key.ensures.errors refl
     (refuses-keys keys eq old c.args.value inside.index.entries inside.items.items c.self.view_is c.self.invariant c.in_default.ensures (c.in_err-key.ensures.no_key.0 (ap Err c.in_err-key.ensures.errors)))
 
 pub returns-in_err-key : goal.returns-in_err-key

@@ -4,15 +4,11 @@ use Rattle.wasmi_arena.specs.declared.error.ArenaError.TheVariants.{OutOfSystemM
 use Rattle.wasmi_collections.proofs.Results.{on_err, passed_unless}
 use Rattle.wasmi_collections.proofs.arena.dedup.replace.move_key.Goals as goal
 
-pub move_entry-requires : goal.move_entry-requires
-move_entry-requires g c =
-    let asked = c.requires in
-    record { is = asked.is; few = asked.few; key_is = sym c.into_usize-number.ensures.key; there = c.has_key.ensures.0 c.if-has_key.true; absent = asked.absent }
+pub move_entry-requires-clause-key_is : goal.move_entry-requires-clause-key_is
+move_entry-requires-clause-key_is g c = sym c.into_usize-number.ensures.key
 
-pub move_entry-requires-2 : goal.move_entry-requires-2
-move_entry-requires-2 g c =
-    let asked = c.requires in
-    record { is = asked.is; few = asked.few; key_is = sym c.into_usize-number.ensures.key; there = c.has_key-2.ensures.0 c.if-not-has_key.false; absent = asked.absent }
+pub move_entry-requires-2-clause-key_is : goal.move_entry-requires-2-clause-key_is
+move_entry-requires-2-clause-key_is g c = sym c.into_usize-number.ensures.key
 
 pub returns-then-has_key : goal.returns-then-has_key
 returns-then-has_key g c = let moved = c.move_entry.ensures in record { ok = moved.ok; errors = moved.errors; err = moved.err }
