@@ -1,103 +1,130 @@
-//! The lines of the output.
+//! What calls return, and the lines of the output.
 
-use std::fmt::{Debug, Display};
-use std::io::{ErrorKind, Write};
-use std::{io, mem};
+use crate::line::Line;
+use std::cmp::Ordering;
+use std::mem;
 use wasmi_arena::ArenaError;
 
-/// Writes what a call returned.
-pub fn value<W: Write, V: Display + Drop>(out: &mut W, value: V) -> io::Result<()> {
-    writeln!(out, "{value}")
+/// What a call returned.
+#[derive(Drop)]
+pub enum Answer {
+    /// A word in place of a value.
+    Word(&'static str),
+    Truth(bool),
+    Number(usize),
+    Numbers(usize, usize),
+    /// The number of a key, or `none`.
+    Key(Option<usize>),
+    /// An item, or `none`.
+    Item(Option<i64>),
+    Items(i64, i64),
+    /// A key with its item, or `none`.
+    Pair(Option<(i64, i64)>),
+    /// The key of an entry, with its item if it is occupied.
+    Entry(i64, Option<i64>),
+    Order(Ordering),
+    PartialOrder(Option<Ordering>),
+    Hash(u64),
+    Error(ArenaError),
 }
 
-/// Writes the text that `Debug` gives.
-pub fn debug<W: Write, V: Debug>(out: &mut W, value: &V) -> io::Result<()> {
-    writeln!(out, "{value:?}")
+impl Answer {
+    /// A call that returns nothing.
+    pub const DONE: Answer = Answer::Word("done");
+
+    /// A line that names no call of the container.
+    pub const BAD: Answer = Answer::Word("bad line");
 }
 
-/// Writes the value, or `none`.
-pub fn option<W: Write, V: Display + Drop>(out: &mut W, found: Option<V>) -> io::Result<()> {
+/// The answer of a call that returns nothing.
+pub fn done(outcome: Result<(), ArenaError>) -> Answer {
+    match outcome {
+        Ok(()) => Answer::DONE,
+        Err(error) => Answer::Error(error),
+    }
+}
+
+/// The answer of a call that returns an item.
+pub fn item(outcome: Result<i64, ArenaError>) -> Answer {
+    match outcome {
+        Ok(item) => Answer::Item(Some(item)),
+        Err(error) => Answer::Error(error),
+    }
+}
+
+/// The answer of a call that lends an item.
+pub fn lent(outcome: Result<&i64, ArenaError>) -> Answer {
+    match outcome {
+        Ok(item) => Answer::Item(Some(*item)),
+        Err(error) => Answer::Error(error),
+    }
+}
+
+/// The answer of a call that may return an item.
+pub fn found(outcome: Result<Option<i64>, ArenaError>) -> Answer {
+    match outcome {
+        Ok(found) => Answer::Item(found),
+        Err(error) => Answer::Error(error),
+    }
+}
+
+/// An item, or `none`.
+pub fn shown(found: Option<&i64>) -> Answer {
     match found {
-        Some(found) => value(out, found),
-        None => value(out, "none"),
+        Some(item) => Answer::Item(Some(*item)),
+        None => Answer::Item(None),
     }
 }
 
-/// Writes the value, or `error` and the text of the error. Running out of memory ends the replay.
-pub fn result<W: Write, V: Display + Drop>(
-    out: &mut W,
-    outcome: Result<V, ArenaError>,
-) -> io::Result<()> {
+/// What an item was. It becomes the number.
+pub fn written(found: Option<&mut i64>, new: i64) -> Answer {
+    match found {
+        Some(item) => Answer::Item(Some(mem::replace(item, new))),
+        None => Answer::Item(None),
+    }
+}
+
+/// The same of a call that may fail.
+pub fn overwritten(outcome: Result<&mut i64, ArenaError>, new: i64) -> Answer {
     match outcome {
-        Ok(found) => value(out, found),
-        Err(error) => refusal(out, error),
+        Ok(item) => Answer::Item(Some(mem::replace(item, new))),
+        Err(error) => Answer::Error(error),
     }
 }
 
-/// Writes `error` and the text of the error. Running out of memory ends the replay.
-pub fn refusal<W: Write>(out: &mut W, error: ArenaError) -> io::Result<()> {
-    match error {
-        ArenaError::OutOfSystemMemory => Err(ErrorKind::OutOfMemory.into()),
-        error => writeln!(out, "error {error}"),
-    }
-}
-
-/// Writes `done`, or `error` and the text of the error.
-pub fn done<W: Write>(out: &mut W, outcome: Result<(), ArenaError>) -> io::Result<()> {
-    match outcome {
-        Ok(()) => value(out, "done"),
-        Err(error) => refusal(out, error),
-    }
-}
-
-/// Puts a container that was made in the place of another one, and writes the same.
-pub fn keep<W: Write, C: Drop>(
-    out: &mut W,
-    made: Result<C, ArenaError>,
-    place: &mut C,
-) -> io::Result<()> {
+/// Puts a container that was made in the place of another one.
+pub fn keep<C: Drop>(made: Result<C, ArenaError>, place: &mut C) -> Answer {
     match made {
         Ok(made) => {
             *place = made;
-            value(out, "done")
+            Answer::DONE
         }
-        Err(error) => refusal(out, error),
+        Err(error) => Answer::Error(error),
     }
 }
 
-/// Writes the value, `none` where there is none, or `error` and the text of the error.
-pub fn found<W: Write, V: Display + Drop>(
-    out: &mut W,
-    outcome: Result<Option<V>, ArenaError>,
-    none: &str,
-) -> io::Result<()> {
-    match outcome {
-        Ok(Some(found)) => value(out, found),
-        Ok(None) => value(out, none),
-        Err(error) => refusal(out, error),
-    }
-}
-
-/// Writes what an item was, or `none`. It becomes the number.
-pub fn written<W: Write>(out: &mut W, found: Option<&mut i64>, new: i64) -> io::Result<()> {
-    match found {
-        Some(item) => value(out, mem::replace(item, new)),
-        None => value(out, "none"),
-    }
-}
-
-/// Writes a key with its item, or `none`.
-pub fn pair<W: Write, K: Display + Drop, V: Display + Drop>(
-    out: &mut W,
-    found: Option<(K, V)>,
-) -> io::Result<()> {
-    match found {
-        Some((key, item)) => writeln!(out, "{key}={item}"),
-        None => value(out, "none"),
+/// Writes the line of an answer. Running out of memory ends the replay.
+pub fn write(out: &mut Line, answer: Answer) {
+    match answer {
+        Answer::Word(word) => writeln!(out, "{word}"),
+        Answer::Truth(truth) => writeln!(out, "{truth}"),
+        Answer::Number(number) | Answer::Key(Some(number)) => writeln!(out, "{number}"),
+        Answer::Numbers(one, other) => writeln!(out, "{one} {other}"),
+        Answer::Item(Some(item)) => writeln!(out, "{item}"),
+        Answer::Items(one, other) => writeln!(out, "{one} {other}"),
+        Answer::Pair(Some((key, item))) => writeln!(out, "{key}={item}"),
+        Answer::Key(None) | Answer::Item(None) | Answer::Pair(None) => writeln!(out, "none"),
+        Answer::Entry(key, Some(item)) => writeln!(out, "occupied {key}={item}"),
+        Answer::Entry(key, None) => writeln!(out, "vacant {key}"),
+        Answer::Order(order) => writeln!(out, "{order:?}"),
+        Answer::PartialOrder(order) => writeln!(out, "{order:?}"),
+        Answer::Hash(hash) => writeln!(out, "{hash}"),
+        Answer::Error(ArenaError::OutOfSystemMemory) => out.cut(),
+        Answer::Error(error) => writeln!(out, "error {error}"),
     }
 }
 
 /// Writes that a line names no call of the container.
-pub fn bad<W: Write>(out: &mut W) -> io::Result<()> {
-    value(out, "bad line")
+pub fn bad(out: &mut Line) {
+    writeln!(out, "bad line")
 }

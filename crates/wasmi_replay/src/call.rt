@@ -1,7 +1,7 @@
 //! What a line asks for.
 
 use crate::counted::Counted;
-use std::str::{FromStr, Split};
+use crate::words::Words;
 
 /// A call on a container, named as the method is.
 #[derive(Clone, Copy)]
@@ -38,31 +38,13 @@ pub enum Call<'a> {
     PartialCmp,
     Cmp,
     Hash,
-    /// Take items from an iterator: an `f` from the front, a `b` from the back.
-    Iter(&'a str),
-    Keys(&'a str),
-    Values(&'a str),
-    /// The same by what `into_iter` returns.
-    IntoIter(&'a str),
-    /// Take buckets from an iterator of slices, likewise.
-    Slices(&'a str),
-    /// All items, by a `for` over a reference.
-    For,
-    /// Take items to write, likewise, and write the numbers from one on.
-    IterMut(&'a str, i64),
-    /// Take buckets to write, likewise.
-    SlicesMut(&'a str, i64),
-    /// Write all items, by a `for` over a `&mut` reference.
-    ForMut(i64),
-    /// Write all items, from the last to the first.
-    RevMut(i64),
     NextKey,
     Room,
     OpenBuckets,
     Slots,
-    Bucket(usize),
     Place(usize),
     SizeOfBucketAt(usize),
+    Walk(Walk<'a>),
 }
 
 /// A call on one item.
@@ -82,16 +64,41 @@ pub enum ItemCall {
     IndexMut(i64),
 }
 
+/// An iteration, whose items are written as it comes to them.
+#[derive(Clone, Copy)]
+pub enum Walk<'a> {
+    /// Take items from an iterator: an `f` from the front, a `b` from the back.
+    Iter(&'a str),
+    Keys(&'a str),
+    Values(&'a str),
+    /// The same by what `into_iter` returns.
+    IntoIter(&'a str),
+    /// Take buckets from an iterator of slices, likewise.
+    Slices(&'a str),
+    /// All items, by a `for` over a reference.
+    For,
+    /// Take items to write, likewise, and write the numbers from one on.
+    IterMut(&'a str, i64),
+    /// Take buckets to write, likewise.
+    SlicesMut(&'a str, i64),
+    /// Write all items, by a `for` over a `&mut` reference.
+    ForMut(i64),
+    /// Write all items, from the last to the first.
+    RevMut(i64),
+    /// All items of a bucket.
+    Bucket(usize),
+}
+
 impl<'a> Call<'a> {
     /// Reads a line, given without its line feed. `None` if it names no call, or not with its numbers.
     pub fn parse(line: &'a str) -> Option<Call<'a>> {
-        let mut words = line.split(' ');
-        let call = Call::named(words.next()?, &mut words)?;
-        ended(call, &mut words)
+        let mut words = Words::new(line);
+        let call = Call::named(words.text(), &mut words)?;
+        words.end(call)
     }
 
     // The call of a name, with its numbers.
-    fn named(name: &str, words: &mut Split<'a, char>) -> Option<Call<'a>> {
+    fn named(name: &str, words: &mut Words<'a>) -> Option<Call<'a>> {
         let call = match name {
             "len" => Call::Len,
             "is_empty" => Call::IsEmpty,
@@ -105,7 +112,6 @@ impl<'a> Call<'a> {
             "partial_cmp" => Call::PartialCmp,
             "cmp" => Call::Cmp,
             "hash" => Call::Hash,
-            "for" => Call::For,
             "next_key" => Call::NextKey,
             "room" => Call::Room,
             "open_buckets" => Call::OpenBuckets,
@@ -115,108 +121,81 @@ impl<'a> Call<'a> {
         Some(call)
     }
 
-    fn of_number(name: &str, words: &mut Split<'a, char>) -> Option<Call<'a>> {
+    fn of_number(name: &str, words: &mut Words<'a>) -> Option<Call<'a>> {
         let call = match name {
-            "reserve" => Call::Reserve(number(words)?),
-            "push" => Call::Push(number(words)?),
-            "last_mut" => Call::LastMut(number(words)?),
-            "alloc" => Call::Alloc(number(words)?),
-            "alloc_many" => Call::AllocMany(number(words)?),
-            "key_of" => Call::KeyOf(number(words)?),
-            "index_of" => Call::IndexOf(number(words)?),
-            "for_mut" => Call::ForMut(number(words)?),
-            "rev_mut" => Call::RevMut(number(words)?),
-            "bucket" => Call::Bucket(number(words)?),
-            "place" => Call::Place(number(words)?),
-            "size_of_bucket_at" => Call::SizeOfBucketAt(number(words)?),
+            "reserve" => Call::Reserve(words.count()),
+            "push" => Call::Push(words.number()),
+            "last_mut" => Call::LastMut(words.number()),
+            "alloc" => Call::Alloc(words.number()),
+            "alloc_many" => Call::AllocMany(words.count()),
+            "key_of" => Call::KeyOf(words.number()),
+            "index_of" => Call::IndexOf(words.number()),
+            "place" => Call::Place(words.index()),
+            "size_of_bucket_at" => Call::SizeOfBucketAt(words.index()),
             _ => return Call::of_numbers(name, words),
         };
         Some(call)
     }
 
-    fn of_numbers(name: &str, words: &mut Split<'a, char>) -> Option<Call<'a>> {
+    fn of_numbers(name: &str, words: &mut Words<'a>) -> Option<Call<'a>> {
         let call = match name {
-            "swap" => Call::Swap(number(words)?, number(words)?),
+            "swap" => Call::Swap(words.index(), words.index()),
             "get_disjoint_mut" => {
-                Call::GetDisjointMut(number(words)?, number(words)?, number(words)?)
+                Call::GetDisjointMut(words.index(), words.index(), words.number())
             }
-            "extend" => Call::Extend(counted(words)?),
-            "from_iter" => Call::FromIter(counted(words)?),
-            "iter" | "keys" | "values" | "into_iter" | "slices" | "iter_mut" | "slices_mut" => {
-                return Call::of_steps(name, steps(words)?, words);
-            }
-            _ => Call::Item(number(words)?, ItemCall::named(name, words)?),
+            "extend" => Call::Extend(counted(words)),
+            "from_iter" => Call::FromIter(counted(words)),
+            _ => match Walk::named(name, words) {
+                Some(walk) => Call::Walk(walk),
+                None => Call::Item(words.index(), ItemCall::named(name, words)?),
+            },
         };
         Some(call)
     }
+}
 
-    // The call of a name that takes steps.
-    fn of_steps(name: &str, steps: &'a str, words: &mut Split<'a, char>) -> Option<Call<'a>> {
-        let call = match name {
-            "iter" => Call::Iter(steps),
-            "keys" => Call::Keys(steps),
-            "values" => Call::Values(steps),
-            "into_iter" => Call::IntoIter(steps),
-            "slices" => Call::Slices(steps),
-            "iter_mut" => Call::IterMut(steps, number(words)?),
-            "slices_mut" => Call::SlicesMut(steps, number(words)?),
+impl<'a> Walk<'a> {
+    fn named(name: &str, words: &mut Words<'a>) -> Option<Walk<'a>> {
+        let walk = match name {
+            "iter" => Walk::Iter(words.steps()),
+            "keys" => Walk::Keys(words.steps()),
+            "values" => Walk::Values(words.steps()),
+            "into_iter" => Walk::IntoIter(words.steps()),
+            "slices" => Walk::Slices(words.steps()),
+            "for" => Walk::For,
+            "iter_mut" => Walk::IterMut(words.steps(), words.number()),
+            "slices_mut" => Walk::SlicesMut(words.steps(), words.number()),
+            "for_mut" => Walk::ForMut(words.number()),
+            "rev_mut" => Walk::RevMut(words.number()),
+            "bucket" => Walk::Bucket(words.index()),
             _ => return None,
         };
-        Some(call)
+        Some(walk)
     }
 }
 
 impl ItemCall {
-    fn named(name: &str, words: &mut Split<'_, char>) -> Option<ItemCall> {
+    fn named(name: &str, words: &mut Words<'_>) -> Option<ItemCall> {
         let call = match name {
             "get" => ItemCall::Get,
-            "get_mut" => ItemCall::GetMut(number(words)?),
-            "put" => ItemCall::Put(number(words)?),
-            "replace" => ItemCall::Replace(number(words)?),
+            "get_mut" => ItemCall::GetMut(words.number()),
+            "put" => ItemCall::Put(words.number()),
+            "replace" => ItemCall::Replace(words.number()),
             "has" => ItemCall::Has,
-            "set" => ItemCall::Set(number(words)?),
+            "set" => ItemCall::Set(words.number()),
             "unset" => ItemCall::Unset,
             "index" => ItemCall::Index,
-            "index_mut" => ItemCall::IndexMut(number(words)?),
+            "index_mut" => ItemCall::IndexMut(words.number()),
             _ => return None,
         };
         Some(call)
     }
 }
 
-/// What was read, if no word is left.
-pub fn ended<C>(call: C, words: &mut Split<'_, char>) -> Option<C>
-where
-    C: Copy,
-{
-    match words.next() {
-        None => Some(call),
-        Some(_) => None,
-    }
-}
-
-/// The number that the next word is.
-pub fn number<N: FromStr>(words: &mut Split<'_, char>) -> Option<N>
-where
-    N::Err: Drop,
-{
-    words.next()?.parse().ok()
-}
-
-/// The next word, where it has no letter but `f` and `b`.
-pub fn steps<'a>(words: &mut Split<'a, char>) -> Option<&'a str> {
-    let word = words.next()?;
-    if word.bytes().all(|step| step == b'f' || step == b'b') {
-        Some(word)
-    } else {
-        None
-    }
-}
-
 // The first of so many numbers, and how many there are.
-fn counted(words: &mut Split<'_, char>) -> Option<Counted> {
-    Some(Counted {
-        next: number(words)?,
-        left: number(words)?,
-    })
+fn counted(words: &mut Words<'_>) -> Counted {
+    Counted {
+        next: words.number(),
+        left: words.count(),
+    }
 }

@@ -1,13 +1,12 @@
 //! Calls on a `ComponentVec`. A line names a key by its number.
 
-use crate::answers::{bad, done, found, keep, option, value, written};
-use crate::call::{Call, ItemCall};
+use crate::answers::{Answer, bad, done, found, keep, shown, write, written};
+use crate::call::{Call, ItemCall, Walk};
 use crate::format::{Numbered, Renewed};
+use crate::line::Line;
 use crate::replay::Container;
 use crate::walk::{walk_steps, walk_steps_to_end, write_all};
 use std::alloc::Global;
-use std::io;
-use std::io::Write;
 use wasmi_arena::ArenaKey;
 use wasmi_dense::ComponentVec;
 
@@ -16,73 +15,73 @@ impl<Key: ArenaKey> Container for ComponentVec<Key, i64> {
         ComponentVec::new(alloc)
     }
 
-    fn answer<W: Write>(
-        &mut self,
-        other: &mut Self,
-        _alloc: Global,
-        line: &str,
-        out: &mut W,
-    ) -> io::Result<()> {
-        let Some(call) = Call::parse(line) else {
-            return bad(out);
-        };
-        match call {
-            Call::Extent => value(out, self.extent()),
-            Call::Clear => {
-                self.clear();
-                value(out, "done")
-            }
-            Call::Reserve(count) => done(out, self.reserve(usize::from(count))),
-            Call::Clone => keep(out, self.clone(), other),
-            Call::Iter(steps) => walk_steps(self.iter(), steps, Numbered, out),
-            Call::For => write_all(self.extent(), &*self, Numbered, out),
-            Call::IterMut(steps, first) => iter_mut(self, steps, first, out),
-            Call::ForMut(first) => all_mut(self, first, out),
-            Call::Item(number, call) => match Key::from_usize(number) {
-                Some(key) => answer_item(self, key, call, out),
-                None => value(out, "no key"),
-            },
-            _ => bad(out),
+    fn answer(&mut self, other: &mut Self, _alloc: Global, line: &str, out: &mut Line) {
+        match Call::parse(line) {
+            Some(Call::Walk(walk)) => answer_walk(self, walk, out),
+            Some(call) => write(out, answer_call(self, other, call)),
+            None => bad(out),
         }
+    }
+}
+
+fn answer_call<Key: ArenaKey>(
+    components: &mut ComponentVec<Key, i64>,
+    other: &mut ComponentVec<Key, i64>,
+    call: Call<'_>,
+) -> Answer {
+    match call {
+        Call::Extent => Answer::Number(components.extent()),
+        Call::Clear => {
+            components.clear();
+            Answer::DONE
+        }
+        Call::Reserve(count) => done(components.reserve(usize::from(count))),
+        Call::Clone => keep(components.clone(), other),
+        Call::Item(number, call) => match Key::from_usize(number) {
+            Some(key) => answer_item(components, key, call),
+            None => Answer::Word("no key"),
+        },
+        _ => Answer::BAD,
     }
 }
 
 // Makes a call on the component under a key.
-fn answer_item<Key: ArenaKey, W: Write>(
+fn answer_item<Key: ArenaKey>(
     components: &mut ComponentVec<Key, i64>,
     key: Key,
     call: ItemCall,
-    out: &mut W,
-) -> io::Result<()> {
+) -> Answer {
     match call {
-        ItemCall::Get => option(out, components.get(key)),
-        ItemCall::GetMut(new) => written(out, components.get_mut(key), new),
-        ItemCall::Set(new) => found(out, components.set(key, new), "none"),
-        ItemCall::Has => value(out, components.has(key)),
-        ItemCall::Unset => option(out, components.unset(key)),
-        ItemCall::Index if components.get(key).is_some() => value(out, components[key]),
-        ItemCall::IndexMut(new) if components.get(key).is_some() => {
-            components[key] = new;
-            value(out, "written")
+        ItemCall::Get => shown(components.get(key)),
+        ItemCall::GetMut(new) => written(components.get_mut(key), new),
+        ItemCall::Set(new) => found(components.set(key, new)),
+        ItemCall::Has => Answer::Truth(components.has(key)),
+        ItemCall::Unset => Answer::Item(components.unset(key)),
+        ItemCall::Index | ItemCall::IndexMut(_) if components.get(key).is_none() => {
+            Answer::Word("no item")
         }
-        ItemCall::Index | ItemCall::IndexMut(_) => value(out, "no item"),
-        ItemCall::Put(_) | ItemCall::Replace(_) => bad(out),
+        ItemCall::Index => Answer::Item(Some(components[key])),
+        ItemCall::IndexMut(new) => {
+            components[key] = new;
+            Answer::Word("written")
+        }
+        ItemCall::Put(_) | ItemCall::Replace(_) => Answer::BAD,
     }
 }
 
-fn iter_mut<Key: ArenaKey, W: Write>(
+// Goes over all components.
+fn answer_walk<Key: ArenaKey>(
     components: &mut ComponentVec<Key, i64>,
-    steps: &str,
-    first: i64,
-    out: &mut W,
-) -> io::Result<()> {
-    walk_steps_to_end(components.iter_mut(), steps, Renewed(first), out)
-}
-
-fn all_mut<Key: ArenaKey, W: Write>(
-    components: &mut ComponentVec<Key, i64>,
-    first: i64,
-    out: &mut W,
-) -> io::Result<()> {
-    write_all(components.extent(), components, Renewed(first), out)
+    walk: Walk<'_>,
+    out: &mut Line,
+) {
+    match walk {
+        Walk::Iter(steps) => walk_steps(components.iter(), steps, Numbered, out),
+        Walk::For => write_all(components.extent(), &*components, Numbered, out),
+        Walk::IterMut(steps, first) => {
+            walk_steps_to_end(components.iter_mut(), steps, Renewed(first), out)
+        }
+        Walk::ForMut(first) => write_all(components.extent(), components, Renewed(first), out),
+        _ => bad(out),
+    }
 }

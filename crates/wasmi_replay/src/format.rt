@@ -1,14 +1,14 @@
 //! How iterations write the items that they come to.
 
+use crate::line::Line;
 use std::fmt::Display;
-use std::io::Write;
-use std::{io, mem};
+use std::mem;
 use wasmi_arena::ArenaKey;
 use wasmi_collections::string_interner::Sym;
 
 /// Writes items. One that is lent may change.
 pub trait Format<T>: Drop {
-    fn write<W: Write>(&mut self, item: T, out: &mut W) -> io::Result<()>;
+    fn write(&mut self, item: T, out: &mut Line);
 }
 
 /// An item alone.
@@ -44,37 +44,37 @@ pub struct Raised(pub i64);
 pub struct Renewed(pub i64);
 
 impl<T: Display + Drop> Format<T> for Plain {
-    fn write<W: Write>(&mut self, item: T, out: &mut W) -> io::Result<()> {
+    fn write(&mut self, item: T, out: &mut Line) {
         write!(out, "{item}")
     }
 }
 
 impl<K: Display + Drop, T: Display + Drop> Format<(K, T)> for Pair {
-    fn write<W: Write>(&mut self, (key, item): (K, T), out: &mut W) -> io::Result<()> {
+    fn write(&mut self, (key, item): (K, T), out: &mut Line) {
         write!(out, "{key}={item}")
     }
 }
 
 impl<Key: ArenaKey> Format<Key> for Number {
-    fn write<W: Write>(&mut self, key: Key, out: &mut W) -> io::Result<()> {
+    fn write(&mut self, key: Key, out: &mut Line) {
         Plain.write(key.into_usize(), out)
     }
 }
 
 impl<Key: ArenaKey, T: Display + Drop> Format<(Key, T)> for Numbered {
-    fn write<W: Write>(&mut self, (key, item): (Key, T), out: &mut W) -> io::Result<()> {
+    fn write(&mut self, (key, item): (Key, T), out: &mut Line) {
         Pair.write((key.into_usize(), item), out)
     }
 }
 
 impl<'a> Format<&'a [i64]> for Bucket {
-    fn write<W: Write>(&mut self, items: &'a [i64], out: &mut W) -> io::Result<()> {
+    fn write(&mut self, items: &'a [i64], out: &mut Line) {
         write!(out, "{items:?}")
     }
 }
 
 impl<'a> Format<(Sym, &'a str)> for Text {
-    fn write<W: Write>(&mut self, (symbol, text): (Sym, &'a str), out: &mut W) -> io::Result<()> {
+    fn write(&mut self, (symbol, text): (Sym, &'a str), out: &mut Line) {
         write!(out, "{symbol}=\"{text}\"")
     }
 }
@@ -87,17 +87,13 @@ impl Raised {
 }
 
 impl<'a> Format<&'a mut i64> for Raised {
-    fn write<W: Write>(&mut self, item: &'a mut i64, out: &mut W) -> io::Result<()> {
+    fn write(&mut self, item: &'a mut i64, out: &mut Line) {
         Plain.write(self.raise(item), out)
     }
 }
 
 impl<'a> Format<(&'a i64, &'a mut i64)> for Raised {
-    fn write<W: Write>(
-        &mut self,
-        (key, item): (&'a i64, &'a mut i64),
-        out: &mut W,
-    ) -> io::Result<()> {
+    fn write(&mut self, (key, item): (&'a i64, &'a mut i64), out: &mut Line) {
         Pair.write((*key, self.raise(item)), out)
     }
 }
@@ -111,23 +107,22 @@ impl Renewed {
 }
 
 impl<'a> Format<&'a mut i64> for Renewed {
-    fn write<W: Write>(&mut self, item: &'a mut i64, out: &mut W) -> io::Result<()> {
+    fn write(&mut self, item: &'a mut i64, out: &mut Line) {
         Plain.write(self.renew(item), out)
     }
 }
 
 impl<'a, Key: ArenaKey> Format<(Key, &'a mut i64)> for Renewed {
-    fn write<W: Write>(&mut self, (key, item): (Key, &'a mut i64), out: &mut W) -> io::Result<()> {
+    fn write(&mut self, (key, item): (Key, &'a mut i64), out: &mut Line) {
         Numbered.write((key, self.renew(item)), out)
     }
 }
 
 impl<'a> Format<&'a mut [i64]> for Renewed {
-    fn write<W: Write>(&mut self, items: &'a mut [i64], out: &mut W) -> io::Result<()> {
-        Bucket.write(&*items, out)?;
+    fn write(&mut self, items: &'a mut [i64], out: &mut Line) {
+        Bucket.write(&*items, out);
         for item in items {
             self.renew(item);
         }
-        Ok(())
     }
 }

@@ -1,7 +1,6 @@
 //! What a line asks of an interner.
 
-use crate::call::{ended, number, steps};
-use std::str::Split;
+use crate::words::Words;
 use wasmi_collections::string_interner::InternHint;
 
 /// A call on an interner, named as the method is.
@@ -31,28 +30,28 @@ impl<'a> InternerCall<'a> {
     /// Reads a line, given without its line feed. `None` if it names no call, or not with its text or
     /// numbers.
     pub fn parse(line: &'a str) -> Option<InternerCall<'a>> {
-        let mut words = line.split(' ');
-        let call = InternerCall::named(words.next()?, &mut words)?;
-        ended(call, &mut words)
+        let mut words = Words::new(line);
+        let call = InternerCall::named(words.text(), &mut words)?;
+        words.end(call)
     }
 
     // The call of a name, with its text or numbers.
-    fn named(name: &str, words: &mut Split<'a, char>) -> Option<InternerCall<'a>> {
+    fn named(name: &str, words: &mut Words<'a>) -> Option<InternerCall<'a>> {
         let call = match name {
             "len" => InternerCall::Len,
             "is_empty" => InternerCall::IsEmpty,
             "clear" => InternerCall::Clear,
             "clone" => InternerCall::Clone,
-            "iter" => InternerCall::Iter(steps(words)?),
-            "resolve" => InternerCall::Resolve(number(words)?),
-            "symbols" => InternerCall::Symbols(number(words)?, number(words)?),
-            _ => return InternerCall::of_text(name, words.next()?, words),
+            "iter" => InternerCall::Iter(words.steps()),
+            "resolve" => InternerCall::Resolve(words.symbol()),
+            "symbols" => InternerCall::Symbols(words.symbol(), words.symbol()),
+            _ => return InternerCall::of_text(name, words.text(), words),
         };
         Some(call)
     }
 
     // The call of a name that takes a text, which the next word is; or a hint, and then the text.
-    fn of_text(name: &str, word: &'a str, words: &mut Split<'a, char>) -> Option<InternerCall<'a>> {
+    fn of_text(name: &str, word: &'a str, words: &mut Words<'a>) -> Option<InternerCall<'a>> {
         let call = match name {
             "contains" => InternerCall::Contains(word),
             "get" => InternerCall::Get(word),
@@ -60,7 +59,7 @@ impl<'a> InternerCall<'a> {
             "get_or_intern" => InternerCall::GetOrIntern(word),
             "extend" => InternerCall::Extend(word),
             "get_or_intern_with_hint" => {
-                InternerCall::GetOrInternWithHint(hint(word)?, words.next()?)
+                InternerCall::GetOrInternWithHint(hint(word)?, words.text())
             }
             _ => return None,
         };

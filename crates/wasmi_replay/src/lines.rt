@@ -27,10 +27,10 @@ impl<R: Read + Drop> Lines<R> {
         Ok(count > 0)
     }
 
-    /// The line without its line feed, if it is UTF-8.
-    pub fn text(&self) -> Option<&str> {
+    /// The line without its line feed. Empty if it isn't UTF-8.
+    pub fn text(&self) -> &str {
         let bytes = self.line.as_slice();
         let bytes = bytes.strip_suffix(b"\n").unwrap_or(bytes);
-        str::from_utf8(bytes).ok()
+        str::from_utf8(bytes).unwrap_or("")
     }
 }

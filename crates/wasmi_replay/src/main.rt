@@ -10,6 +10,7 @@ mod format;
 mod head_vec;
 mod interner_call;
 mod left;
+mod line;
 mod lines;
 mod map;
 mod named;
@@ -21,6 +22,7 @@ mod string_interner;
 mod table;
 mod table_call;
 mod walk;
+mod words;
 
 use std::io;
 

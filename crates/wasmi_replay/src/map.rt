@@ -1,15 +1,14 @@
 //! Calls on a `Map` of either backing.
 
-use crate::answers::{bad, done, found, keep, option, pair, refusal, result, value, written};
+use crate::answers::{Answer, bad, done, found, item, keep, overwritten, shown, write, written};
 use crate::format::{Pair, Plain, Raised};
+use crate::line::Line;
 use crate::replay::Container;
 use crate::table::answer_table;
-use crate::table_call::{BackingCall, EntryCall, KeyCall, MutCall, SideCall, TableCall, WalkCall};
+use crate::table_call::{BackingCall, EntryCall, KeyCall, Part, SideCall, TableCall, Walk};
 use crate::walk::{walk, walk_ends, write_all};
 use std::alloc::Global;
-use std::io::Write;
-use std::{io, mem};
-use wasmi_arena::ArenaError;
+use std::mem;
 use wasmi_hashed::map as hashed;
 use wasmi_ordered::map as ordered;
 
@@ -17,158 +16,118 @@ use wasmi_ordered::map as ordered;
 /// and the macro that is its body stands below.
 trait AnyMap: Sized {
     /// Makes a call on a key.
-    fn answer_key<W: Write>(&mut self, key: i64, call: KeyCall, out: &mut W) -> io::Result<()>;
-
-    /// The key of an entry, and its item if it is there.
-    fn look(&mut self, key: i64) -> Result<(i64, Option<i64>), ArenaError>;
+    fn answer_key(&mut self, key: i64, call: KeyCall) -> Answer;
 
     /// Makes a call on the entry of a key, whether or not it is there.
-    fn on_entry(&mut self, key: i64, call: EntryCall) -> Result<i64, ArenaError>;
+    fn on_entry(&mut self, key: i64, call: EntryCall) -> Answer;
 
-    /// Makes a call on an entry that is there, or on one that isn't. `None` if it is the other.
-    fn on_side(&mut self, key: i64, call: SideCall) -> Result<Option<i64>, ArenaError>;
-
-    /// Takes out an entry. `None` if it isn't there.
-    fn take_entry(&mut self, key: i64) -> Result<Option<(i64, i64)>, ArenaError>;
-
-    fn walk<W: Write>(&self, steps: u16, walk: WalkCall, out: &mut W) -> io::Result<()>;
-
-    /// Each item is written as it was, and becomes more by a number.
-    fn walk_mut<W: Write>(&mut self, steps: u16, walk: MutCall, out: &mut W) -> io::Result<()>;
-
-    /// The map is empty afterwards.
-    fn walk_taken<W: Write>(
-        &mut self,
-        alloc: Global,
-        steps: u16,
-        walk: WalkCall,
-        out: &mut W,
-    ) -> io::Result<()>;
-
-    fn all<W: Write>(&self, out: &mut W) -> io::Result<()>;
-
-    fn all_mut<W: Write>(&mut self, add: i64, out: &mut W) -> io::Result<()>;
-
-    /// Adds a number to each item, and keeps those that differ from their keys in a bit of the mask. Counts the calls.
-    fn thin(&mut self, mask: i64, add: i64) -> u64;
+    /// Makes a call on an entry that is there, or on one that isn't.
+    fn on_side(&mut self, key: i64, call: SideCall) -> Answer;
 
     /// Makes a call that maps of the other backing don't have.
-    fn answer_backing<W: Write>(
-        &mut self,
-        other: &mut Self,
-        call: BackingCall,
-        out: &mut W,
-    ) -> io::Result<()>;
+    fn answer_backing(&mut self, other: &mut Self, call: BackingCall) -> Answer;
+
+    /// Adds a number to each item, and keeps those that differ from their keys in a bit of the mask. Counts the calls.
+    fn thin(&mut self, mask: i64, add: i64) -> usize;
+
+    /// Makes an iteration. Where it writes, each item is shown as it was, and becomes more by a number.
+    fn answer_walk(&mut self, alloc: Global, walk: Walk, out: &mut Line);
+
+    /// Makes an iteration that takes the items out.
+    fn walk_taken(&mut self, alloc: Global, part: Part, steps: u16, out: &mut Line);
 }
 
 macro_rules! answer_key {
-    ($map:ident, $key:ident, $call:ident, $out:ident) => {
+    ($map:ident, $key:ident, $call:ident) => {
         match $call {
-            KeyCall::Insert(item) => found($out, $map.insert($key, item), "none"),
-            KeyCall::Get => option($out, $map.get(&$key)),
-            KeyCall::GetMut(new) => written($out, $map.get_mut(&$key), new),
-            KeyCall::ContainsKey => value($out, $map.contains_key(&$key)),
-            KeyCall::GetKeyValue => pair($out, $map.get_key_value(&$key)),
-            KeyCall::Index if $map.contains_key(&$key) => value($out, $map[&$key]),
-            KeyCall::Index => value($out, "no item"),
-            KeyCall::Remove => option($out, $map.remove(&$key)),
-            KeyCall::RemoveEntry => pair($out, $map.remove_entry(&$key)),
-            KeyCall::Add | KeyCall::Contains | KeyCall::Replace | KeyCall::Take => bad($out),
-        }
-    };
-}
-
-macro_rules! look {
-    ($map:ident, $backing:ident, $key:ident) => {
-        match $map.entry($key)? {
-            $backing::Entry::Occupied(entry) => Ok((*entry.key(), Some(*entry.get()))),
-            $backing::Entry::Vacant(entry) => Ok((*entry.key(), None)),
+            KeyCall::Insert(item) => found($map.insert($key, item)),
+            KeyCall::Get => shown($map.get(&$key)),
+            KeyCall::GetMut(new) => written($map.get_mut(&$key), new),
+            KeyCall::ContainsKey => Answer::Truth($map.contains_key(&$key)),
+            KeyCall::GetKeyValue => pair($map.get_key_value(&$key)),
+            KeyCall::Index if $map.contains_key(&$key) => Answer::Item(Some($map[&$key])),
+            KeyCall::Index => Answer::Word("no item"),
+            KeyCall::Remove => Answer::Item($map.remove(&$key)),
+            KeyCall::RemoveEntry => Answer::Pair($map.remove_entry(&$key)),
+            KeyCall::Add | KeyCall::Contains | KeyCall::Replace | KeyCall::Take => Answer::BAD,
         }
     };
 }
 
 macro_rules! on_entry {
     ($map:ident, $key:ident, $call:ident) => {{
-        let entry = $map.entry($key)?;
-        let (item, new) = match $call {
-            EntryCall::Key => return Ok(*entry.key()),
-            EntryCall::AndModify(add, item) => {
-                let entry = entry.and_modify(|item| *item = item.wrapping_add(add));
-                return Ok(*entry.or_insert(item)?);
-            }
-            EntryCall::OrInsert(item, new) => (entry.or_insert(item), new),
-            EntryCall::OrInsertWith(item, new) => (entry.or_insert_with(|| item), new),
-            EntryCall::OrInsertWithKey(new) => {
-                (entry.or_insert_with_key(|key| key.wrapping_neg()), new)
-            }
-            EntryCall::OrDefault(new) => (entry.or_default(), new),
+        let entry = match $map.entry($key) {
+            Ok(entry) => entry,
+            Err(error) => return Answer::Error(error),
         };
-        Ok(mem::replace(item?, new))
+        match $call {
+            EntryCall::Key => Answer::Item(Some(*entry.key())),
+            EntryCall::OrInsert(item, new) => overwritten(entry.or_insert(item), new),
+            EntryCall::OrInsertWith(item, new) => overwritten(entry.or_insert_with(|| item), new),
+            EntryCall::OrInsertWithKey(new) => {
+                overwritten(entry.or_insert_with_key(|key| key.wrapping_neg()), new)
+            }
+            EntryCall::OrDefault(new) => overwritten(entry.or_default(), new),
+            EntryCall::AndModify(add, new) => {
+                let entry = entry.and_modify(|item| *item = item.wrapping_add(add));
+                item(entry.or_insert(new).copied())
+            }
+        }
     }};
 }
 
 macro_rules! on_side {
     ($map:ident, $backing:ident, $key:ident, $call:ident) => {
-        match $map.entry($key)? {
-            $backing::Entry::Occupied(mut entry) => match $call {
-                SideCall::GetMut(new) => Ok(Some(mem::replace(entry.get_mut(), new))),
-                SideCall::Insert(new) => Ok(Some(entry.insert(new))),
-                SideCall::IntoMut(new) => Ok(Some(mem::replace(entry.into_mut(), new))),
-                SideCall::Remove => Ok(Some(entry.remove())),
-                SideCall::VacantInsert(..) | SideCall::IntoKey => Ok(None),
+        match $map.entry($key) {
+            Ok($backing::Entry::Occupied(mut entry)) => match $call {
+                SideCall::GetMut(new) => Answer::Item(Some(mem::replace(entry.get_mut(), new))),
+                SideCall::Insert(new) => Answer::Item(Some(entry.insert(new))),
+                SideCall::IntoMut(new) => Answer::Item(Some(mem::replace(entry.into_mut(), new))),
+                SideCall::Remove => Answer::Item(Some(entry.remove())),
+                SideCall::RemoveEntry => Answer::Pair(Some(entry.remove_entry())),
+                SideCall::Look => Answer::Entry(*entry.key(), Some(*entry.get())),
+                SideCall::VacantInsert(..) | SideCall::IntoKey => Answer::Word("occupied"),
             },
-            $backing::Entry::Vacant(entry) => match $call {
-                SideCall::VacantInsert(item, new) => {
-                    Ok(Some(mem::replace(entry.insert(item)?, new)))
-                }
-                SideCall::IntoKey => Ok(Some(entry.into_key())),
-                _ => Ok(None),
+            Ok($backing::Entry::Vacant(entry)) => match $call {
+                SideCall::VacantInsert(item, new) => overwritten(entry.insert(item), new),
+                SideCall::IntoKey => Answer::Item(Some(entry.into_key())),
+                SideCall::Look => Answer::Entry(*entry.key(), None),
+                _ => Answer::Word("vacant"),
             },
+            Err(error) => Answer::Error(error),
         }
     };
 }
 
-macro_rules! take_entry {
-    ($map:ident, $backing:ident, $key:ident) => {
-        match $map.entry($key)? {
-            $backing::Entry::Occupied(entry) => Ok(Some(entry.remove_entry())),
-            $backing::Entry::Vacant(_) => Ok(None),
-        }
-    };
-}
-
-macro_rules! walk_by {
-    ($map:ident, $steps:ident, $walk:ident, $out:ident) => {
+macro_rules! answer_walk {
+    ($map:ident, $alloc:ident, $walk:ident, $out:ident) => {
         match $walk {
-            WalkCall::Iter => walk($map.iter(), $steps, Pair, $out),
-            WalkCall::Keys => walk($map.keys(), $steps, Plain, $out),
-            WalkCall::Values => walk($map.values(), $steps, Plain, $out),
-        }
-    };
-}
-
-macro_rules! walk_mut {
-    ($map:ident, $steps:ident, $walk:ident, $out:ident) => {
-        match $walk {
-            MutCall::Items(add) => walk($map.iter_mut(), $steps, Raised(add), $out),
-            MutCall::Values(add) => walk($map.values_mut(), $steps, Raised(add), $out),
+            Walk::Over(Part::Iter, steps) => walk($map.iter(), steps, Pair, $out),
+            Walk::Over(Part::Keys, steps) => walk($map.keys(), steps, Plain, $out),
+            Walk::Over(Part::Values, steps) => walk($map.values(), steps, Plain, $out),
+            Walk::Taken(part, steps) => $map.walk_taken($alloc, part, steps, $out),
+            Walk::IterMut(steps, add) => walk($map.iter_mut(), steps, Raised(add), $out),
+            Walk::ValuesMut(steps, add) => walk($map.values_mut(), steps, Raised(add), $out),
+            Walk::For => write_all($map.len(), &*$map, Pair, $out),
+            Walk::ForMut(add) => write_all($map.len(), $map, Raised(add), $out),
+            Walk::Range(..) | Walk::Both(..) => bad($out),
         }
     };
 }
 
 macro_rules! walk_taken {
-    ($map:ident, $steps:ident, $walk:ident, $out:ident) => {
-        match $walk {
-            WalkCall::Iter => walk($map.into_iter(), $steps, Pair, $out),
-            WalkCall::Keys => walk($map.into_keys(), $steps, Plain, $out),
-            WalkCall::Values => walk($map.into_values(), $steps, Plain, $out),
+    ($map:ident, $part:ident, $steps:ident, $out:ident) => {
+        match $part {
+            Part::Iter => walk($map.into_iter(), $steps, Pair, $out),
+            Part::Keys => walk($map.into_keys(), $steps, Plain, $out),
+            Part::Values => walk($map.into_values(), $steps, Plain, $out),
         }
     };
 }
 
 macro_rules! thin {
     ($map:ident, $mask:ident, $add:ident) => {{
-        let mut calls: u64 = 0;
+        let mut calls: usize = 0;
         $map.retain(|key, item| {
             calls = calls.wrapping_add(1);
             *item = item.wrapping_add($add);
@@ -179,40 +138,22 @@ macro_rules! thin {
 }
 
 // Makes a call that sets don't have.
-fn answer_own<M: AnyMap, W: Write>(
-    map: &mut M,
-    other: &mut M,
-    alloc: Global,
-    call: TableCall,
-    out: &mut W,
-) -> io::Result<()> {
+fn answer_own<M: AnyMap>(map: &mut M, other: &mut M, call: TableCall) -> Answer {
     match call {
-        TableCall::Key(key, call) => map.answer_key(key, call, out),
-        TableCall::Look(key) => variant(out, map.look(key)),
-        TableCall::Entry(key, call) => result(out, map.on_entry(key, call)),
-        TableCall::Side(key, call) => found(out, map.on_side(key, call), call.other_side()),
-        TableCall::TakeEntry(key) => match map.take_entry(key) {
-            Ok(Some(taken)) => pair(out, Some(taken)),
-            Ok(None) => value(out, "vacant"),
-            Err(error) => refusal(out, error),
-        },
-        TableCall::Walk(steps, walk) => map.walk(steps, walk, out),
-        TableCall::WalkMut(steps, walk) => map.walk_mut(steps, walk, out),
-        TableCall::WalkTaken(steps, walk) => map.walk_taken(alloc, steps, walk, out),
-        TableCall::For => map.all(out),
-        TableCall::ForMut(add) => map.all_mut(add, out),
-        TableCall::Retain(mask, add) => value(out, map.thin(mask, add)),
-        TableCall::Backing(call) => map.answer_backing(other, call, out),
-        _ => bad(out),
+        TableCall::Key(key, call) => map.answer_key(key, call),
+        TableCall::Entry(key, call) => map.on_entry(key, call),
+        TableCall::Side(key, call) => map.on_side(key, call),
+        TableCall::Retain(mask, add) => Answer::Number(map.thin(mask, add)),
+        TableCall::Backing(call) => map.answer_backing(other, call),
+        _ => Answer::BAD,
     }
 }
 
-// Writes which variant an entry is, with its key and item.
-fn variant<W: Write>(out: &mut W, entry: Result<(i64, Option<i64>), ArenaError>) -> io::Result<()> {
-    match entry {
-        Ok((key, Some(item))) => writeln!(out, "occupied {key}={item}"),
-        Ok((key, None)) => writeln!(out, "vacant {key}"),
-        Err(error) => refusal(out, error),
+// A key with its item, or `none`.
+fn pair(found: Option<(&i64, &i64)>) -> Answer {
+    match found {
+        Some((key, item)) => Answer::Pair(Some((*key, *item))),
+        None => Answer::Pair(None),
     }
 }
 
@@ -221,97 +162,60 @@ impl Container for ordered::Map<i64, i64> {
         ordered::Map::new(alloc)
     }
 
-    fn answer<W: Write>(
-        &mut self,
-        other: &mut Self,
-        alloc: Global,
-        line: &str,
-        out: &mut W,
-    ) -> io::Result<()> {
-        answer_table!(self, other, alloc, line, out, pairs => pairs)
-    }
-}
-
-impl AnyMap for ordered::Map<i64, i64> {
-    fn answer_key<W: Write>(&mut self, key: i64, call: KeyCall, out: &mut W) -> io::Result<()> {
-        answer_key!(self, key, call, out)
-    }
-
-    fn look(&mut self, key: i64) -> Result<(i64, Option<i64>), ArenaError> {
-        look!(self, ordered, key)
-    }
-
-    fn on_entry(&mut self, key: i64, call: EntryCall) -> Result<i64, ArenaError> {
-        on_entry!(self, key, call)
-    }
-
-    fn on_side(&mut self, key: i64, call: SideCall) -> Result<Option<i64>, ArenaError> {
-        on_side!(self, ordered, key, call)
-    }
-
-    fn take_entry(&mut self, key: i64) -> Result<Option<(i64, i64)>, ArenaError> {
-        take_entry!(self, ordered, key)
-    }
-
-    fn walk<W: Write>(&self, steps: u16, walk: WalkCall, out: &mut W) -> io::Result<()> {
-        walk_by!(self, steps, walk, out)
-    }
-
-    fn walk_mut<W: Write>(&mut self, steps: u16, walk: MutCall, out: &mut W) -> io::Result<()> {
-        walk_mut!(self, steps, walk, out)
-    }
-
-    fn walk_taken<W: Write>(
-        &mut self,
-        alloc: Global,
-        steps: u16,
-        walk: WalkCall,
-        out: &mut W,
-    ) -> io::Result<()> {
-        let map = mem::replace(self, Self::new(alloc));
-        walk_taken!(map, steps, walk, out)
-    }
-
-    fn all<W: Write>(&self, out: &mut W) -> io::Result<()> {
-        write_all(self.len(), self, Pair, out)
-    }
-
-    fn all_mut<W: Write>(&mut self, add: i64, out: &mut W) -> io::Result<()> {
-        write_all(self.len(), self, Raised(add), out)
-    }
-
-    fn thin(&mut self, mask: i64, add: i64) -> u64 {
-        thin!(self, mask, add)
-    }
-
-    fn answer_backing<W: Write>(
-        &mut self,
-        other: &mut Self,
-        call: BackingCall,
-        out: &mut W,
-    ) -> io::Result<()> {
-        match call {
-            BackingCall::First => pair(out, self.first_key_value()),
-            BackingCall::Last => pair(out, self.last_key_value()),
-            BackingCall::PopFirst => pair(out, self.pop_first()),
-            BackingCall::PopLast => pair(out, self.pop_last()),
-            BackingCall::Range(from, to, steps) => range(self, from, to, steps, out),
-            BackingCall::SplitOff(key) => keep(out, self.split_off(&key), other),
-            BackingCall::Append => done(out, self.append(other)),
-            BackingCall::Capacity | BackingCall::ShrinkToFit => bad(out),
+    fn answer(&mut self, other: &mut Self, alloc: Global, line: &str, out: &mut Line) {
+        match TableCall::parse(line) {
+            Some(TableCall::Walk(walk)) => self.answer_walk(alloc, walk, out),
+            Some(call) => { write(out, answer_table!(self, other, alloc, call, pairs => pairs)) }
+            None => bad(out),
         }
     }
 }
 
-fn range<W: Write>(
-    map: &ordered::Map<i64, i64>,
-    from: i64,
-    to: i64,
-    steps: u16,
-    out: &mut W,
-) -> io::Result<()> {
+impl AnyMap for ordered::Map<i64, i64> {
+    fn answer_key(&mut self, key: i64, call: KeyCall) -> Answer {
+        answer_key!(self, key, call)
+    }
+
+    fn on_entry(&mut self, key: i64, call: EntryCall) -> Answer {
+        on_entry!(self, key, call)
+    }
+
+    fn on_side(&mut self, key: i64, call: SideCall) -> Answer {
+        on_side!(self, ordered, key, call)
+    }
+
+    fn answer_walk(&mut self, alloc: Global, walk: Walk, out: &mut Line) {
+        match walk {
+            Walk::Range(from, to, steps) => range(self, from, to, steps, out),
+            walk => answer_walk!(self, alloc, walk, out),
+        }
+    }
+
+    fn walk_taken(&mut self, alloc: Global, part: Part, steps: u16, out: &mut Line) {
+        let map = mem::replace(self, Self::new(alloc));
+        walk_taken!(map, part, steps, out)
+    }
+
+    fn thin(&mut self, mask: i64, add: i64) -> usize {
+        thin!(self, mask, add)
+    }
+
+    fn answer_backing(&mut self, other: &mut Self, call: BackingCall) -> Answer {
+        match call {
+            BackingCall::First => pair(self.first_key_value()),
+            BackingCall::Last => pair(self.last_key_value()),
+            BackingCall::PopFirst => Answer::Pair(self.pop_first()),
+            BackingCall::PopLast => Answer::Pair(self.pop_last()),
+            BackingCall::SplitOff(key) => keep(self.split_off(&key), other),
+            BackingCall::Append => done(self.append(other)),
+            BackingCall::Capacity | BackingCall::ShrinkToFit => Answer::BAD,
+        }
+    }
+}
+
+fn range(map: &ordered::Map<i64, i64>, from: i64, to: i64, steps: u16, out: &mut Line) {
     if from > to {
-        return value(out, "no range");
+        return writeln!(out, "no range");
     }
     walk_ends(map.range(from..to), steps, Pair, out)
 }
@@ -321,82 +225,49 @@ impl Container for hashed::Map<i64, i64> {
         hashed::Map::new(alloc)
     }
 
-    fn answer<W: Write>(
-        &mut self,
-        other: &mut Self,
-        alloc: Global,
-        line: &str,
-        out: &mut W,
-    ) -> io::Result<()> {
-        answer_table!(self, other, alloc, line, out, pairs => pairs)
+    fn answer(&mut self, other: &mut Self, alloc: Global, line: &str, out: &mut Line) {
+        match TableCall::parse(line) {
+            Some(TableCall::Walk(walk)) => self.answer_walk(alloc, walk, out),
+            Some(call) => { write(out, answer_table!(self, other, alloc, call, pairs => pairs)) }
+            None => bad(out),
+        }
     }
 }
 
 impl AnyMap for hashed::Map<i64, i64> {
-    fn answer_key<W: Write>(&mut self, key: i64, call: KeyCall, out: &mut W) -> io::Result<()> {
-        answer_key!(self, key, call, out)
+    fn answer_key(&mut self, key: i64, call: KeyCall) -> Answer {
+        answer_key!(self, key, call)
     }
 
-    fn look(&mut self, key: i64) -> Result<(i64, Option<i64>), ArenaError> {
-        look!(self, hashed, key)
-    }
-
-    fn on_entry(&mut self, key: i64, call: EntryCall) -> Result<i64, ArenaError> {
+    fn on_entry(&mut self, key: i64, call: EntryCall) -> Answer {
         on_entry!(self, key, call)
     }
 
-    fn on_side(&mut self, key: i64, call: SideCall) -> Result<Option<i64>, ArenaError> {
+    fn on_side(&mut self, key: i64, call: SideCall) -> Answer {
         on_side!(self, hashed, key, call)
     }
 
-    fn take_entry(&mut self, key: i64) -> Result<Option<(i64, i64)>, ArenaError> {
-        take_entry!(self, hashed, key)
+    fn answer_walk(&mut self, alloc: Global, walk: Walk, out: &mut Line) {
+        answer_walk!(self, alloc, walk, out)
     }
 
-    fn walk<W: Write>(&self, steps: u16, walk: WalkCall, out: &mut W) -> io::Result<()> {
-        walk_by!(self, steps, walk, out)
-    }
-
-    fn walk_mut<W: Write>(&mut self, steps: u16, walk: MutCall, out: &mut W) -> io::Result<()> {
-        walk_mut!(self, steps, walk, out)
-    }
-
-    fn walk_taken<W: Write>(
-        &mut self,
-        alloc: Global,
-        steps: u16,
-        walk: WalkCall,
-        out: &mut W,
-    ) -> io::Result<()> {
+    fn walk_taken(&mut self, alloc: Global, part: Part, steps: u16, out: &mut Line) {
         let map = mem::replace(self, Self::new(alloc));
-        walk_taken!(map, steps, walk, out)
+        walk_taken!(map, part, steps, out)
     }
 
-    fn all<W: Write>(&self, out: &mut W) -> io::Result<()> {
-        write_all(self.len(), self, Pair, out)
-    }
-
-    fn all_mut<W: Write>(&mut self, add: i64, out: &mut W) -> io::Result<()> {
-        write_all(self.len(), self, Raised(add), out)
-    }
-
-    fn thin(&mut self, mask: i64, add: i64) -> u64 {
+    fn thin(&mut self, mask: i64, add: i64) -> usize {
         thin!(self, mask, add)
     }
 
-    fn answer_backing<W: Write>(
-        &mut self,
-        _other: &mut Self,
-        call: BackingCall,
-        out: &mut W,
-    ) -> io::Result<()> {
+    fn answer_backing(&mut self, _other: &mut Self, call: BackingCall) -> Answer {
         match call {
-            BackingCall::Capacity => value(out, self.capacity() >= self.len()),
+            BackingCall::Capacity => Answer::Truth(self.capacity() >= self.len()),
             BackingCall::ShrinkToFit => {
                 self.shrink_to_fit();
-                value(out, "done")
+                Answer::DONE
             }
-            _ => bad(out),
+            _ => Answer::BAD,
         }
     }
 }

@@ -1,6 +1,6 @@
 //! The container that a line names.
 
-use crate::call::ended;
+use crate::words::Words;
 
 /// What a line `on ..` names.
 #[derive(Clone, Copy)]
@@ -37,11 +37,11 @@ pub enum Keys {
 impl Named {
     /// Reads a line, given without its line feed. `None` if it names no container.
     pub fn parse(line: &str) -> Option<Named> {
-        let mut words = line.split(' ');
-        if words.next()? != "on" {
+        let mut words = Words::new(line);
+        if words.text() != "on" {
             return None;
         }
-        let named = match words.next()? {
+        let named = match words.text() {
             "stable_vec" => Named::StableVec,
             "head_vec" => Named::HeadVec,
             "ordered_map" => Named::OrderedMap,
@@ -49,9 +49,9 @@ impl Named {
             "hashed_map" => Named::HashedMap,
             "hashed_set" => Named::HashedSet,
             "string_interner" => Named::StringInterner,
-            name => Named::Keyed(Keyed::parse(name)?, Keys::parse(words.next()?)?),
+            name => Named::Keyed(Keyed::parse(name)?, Keys::parse(words.text())?),
         };
-        ended(named, &mut words)
+        words.end(named)
     }
 }
 

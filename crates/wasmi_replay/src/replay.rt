@@ -1,6 +1,6 @@
 //! The loop over the input.
 
-use crate::answers::{bad, debug, value};
+use crate::line::Line;
 use crate::lines::Lines;
 use crate::named::{Keyed, Keys, Named};
 use crate::pair_key::PairKey;
@@ -21,108 +21,117 @@ pub trait Container: Sized {
     fn empty(alloc: Global) -> Self;
 
     /// Makes the call that a line names, and writes the line of its answer. The other container lies beside this one.
-    fn answer<W: Write>(
-        &mut self,
-        other: &mut Self,
-        alloc: Global,
-        line: &str,
-        out: &mut W,
-    ) -> io::Result<()>;
+    fn answer(&mut self, other: &mut Self, alloc: Global, line: &str, out: &mut Line);
 }
 
 /// Makes the calls of the input on the containers that it names, and writes one line for each of its
 /// lines.
 ///
-/// Fails where a read or a write fails, or memory runs out. It holds two containers and the longest line.
+/// Fails where a read or a write fails, or memory runs out. It holds two containers, the longest line and the longest
+/// answer.
 pub fn run<R: Read + Drop, W: Write + Drop>(alloc: Global, reader: R, writer: W) -> io::Result<()> {
-    let mut lines = Lines::new(alloc, reader)?;
-    let mut out = BufWriter::new(alloc, writer)?;
-    let mut more = lines.advance()?;
+    let mut replay = Replay {
+        alloc,
+        lines: Lines::new(alloc, reader)?,
+        answer: Line::new(alloc),
+        out: BufWriter::new(alloc, writer)?,
+    };
+    let mut more = replay.lines.advance()?;
     for _ in 0..u64::MAX {
         if !more {
             break;
         }
-        more = match Named::parse(lines.text().unwrap_or("")) {
-            Some(named) => serve_named(named, alloc, &mut lines, &mut out)?,
+        more = replay.serve_named()?;
+    }
+    replay.out.flush()
+}
+
+// A run over the input. It came to a line.
+#[derive(Drop)]
+struct Replay<R: Read + Drop, W: Write + Drop> {
+    alloc: Global,
+    lines: Lines<R>,
+    answer: Line,
+    out: BufWriter<W>,
+}
+
+impl<R: Read + Drop, W: Write + Drop> Replay<R, W> {
+    // Answers the line that names a container, and the lines after it up to the next that begins with `on`. False if
+    // there is none.
+    fn serve_named(&mut self) -> io::Result<bool> {
+        match Named::parse(self.lines.text()) {
+            Some(Named::StableVec) => self.serve::<StableVec<i64>>(),
+            Some(Named::HeadVec) => self.serve::<HeadVec<i64>>(),
+            Some(Named::OrderedMap) => self.serve::<ordered::Map<i64, i64>>(),
+            Some(Named::OrderedSet) => self.serve::<ordered::Set<i64>>(),
+            Some(Named::HashedMap) => self.serve::<hashed::Map<i64, i64>>(),
+            Some(Named::HashedSet) => self.serve::<hashed::Set<i64>>(),
+            Some(Named::StringInterner) => self.serve::<StringInterner>(),
+            Some(Named::Keyed(keyed, Keys::U32)) => self.serve_keyed::<u32>(keyed),
+            Some(Named::Keyed(keyed, Keys::Usize)) => self.serve_keyed::<usize>(keyed),
+            Some(Named::Keyed(keyed, Keys::NonZeroU32)) => self.serve_keyed::<NonZero<u32>>(keyed),
+            Some(Named::Keyed(keyed, Keys::NonZeroUsize)) => {
+                self.serve_keyed::<NonZero<usize>>(keyed)
+            }
+            Some(Named::Keyed(keyed, Keys::Few)) => self.serve_keyed::<FewKeys>(keyed),
             None => {
-                bad(&mut out)?;
-                lines.advance()?
+                writeln!(self.out, "bad line")?;
+                self.lines.advance()
             }
-        };
+        }
     }
-    out.flush()
-}
 
-// The same as `serve`, on the container named.
-fn serve_named<R: Read + Drop, W: Write>(
-    named: Named,
-    alloc: Global,
-    lines: &mut Lines<R>,
-    out: &mut W,
-) -> io::Result<bool> {
-    match named {
-        Named::StableVec => serve::<StableVec<i64>, R, W>(alloc, lines, out),
-        Named::HeadVec => serve::<HeadVec<i64>, R, W>(alloc, lines, out),
-        Named::OrderedMap => serve::<ordered::Map<i64, i64>, R, W>(alloc, lines, out),
-        Named::OrderedSet => serve::<ordered::Set<i64>, R, W>(alloc, lines, out),
-        Named::HashedMap => serve::<hashed::Map<i64, i64>, R, W>(alloc, lines, out),
-        Named::HashedSet => serve::<hashed::Set<i64>, R, W>(alloc, lines, out),
-        Named::StringInterner => serve::<StringInterner, R, W>(alloc, lines, out),
-        Named::Keyed(keyed, Keys::U32) => serve_keyed::<u32, R, W>(keyed, alloc, lines, out),
-        Named::Keyed(keyed, Keys::Usize) => serve_keyed::<usize, R, W>(keyed, alloc, lines, out),
-        Named::Keyed(keyed, Keys::NonZeroU32) => {
-            serve_keyed::<NonZero<u32>, R, W>(keyed, alloc, lines, out)
+    // The same with keys of a type.
+    fn serve_keyed<Key: PairKey + Debug>(&mut self, keyed: Keyed) -> io::Result<bool> {
+        match keyed {
+            Keyed::StableArena => self.serve::<StableArena<Key, i64>>(),
+            Keyed::Arena => self.serve::<Arena<Key, i64>>(),
+            Keyed::DedupArena => self.serve::<DedupArena<Key, i64>>(),
+            Keyed::ComponentVec => self.serve::<ComponentVec<Key, i64>>(),
         }
-        Named::Keyed(keyed, Keys::NonZeroUsize) => {
-            serve_keyed::<NonZero<usize>, R, W>(keyed, alloc, lines, out)
-        }
-        Named::Keyed(keyed, Keys::Few) => serve_keyed::<FewKeys, R, W>(keyed, alloc, lines, out),
     }
-}
 
-// The same with keys of a type.
-fn serve_keyed<Key: PairKey + Debug, R: Read + Drop, W: Write>(
-    keyed: Keyed,
-    alloc: Global,
-    lines: &mut Lines<R>,
-    out: &mut W,
-) -> io::Result<bool> {
-    match keyed {
-        Keyed::StableArena => serve::<StableArena<Key, i64>, R, W>(alloc, lines, out),
-        Keyed::Arena => serve::<Arena<Key, i64>, R, W>(alloc, lines, out),
-        Keyed::DedupArena => serve::<DedupArena<Key, i64>, R, W>(alloc, lines, out),
-        Keyed::ComponentVec => serve::<ComponentVec<Key, i64>, R, W>(alloc, lines, out),
-    }
-}
-
-// Answers the line that the reader came to, which named the container, and the lines after it up to the
-// next that begins with `on`. False if there is none. Each container has the calls that are made here.
-fn serve<C: Container + PartialEq + Debug + Drop, R: Read + Drop, W: Write>(
-    alloc: Global,
-    lines: &mut Lines<R>,
-    out: &mut W,
-) -> io::Result<bool> {
-    let mut container = C::empty(alloc);
-    let mut other = C::empty(alloc);
-    value(out, "new")?;
-    for _ in 0..u64::MAX {
-        if !lines.advance()? {
-            break;
-        }
-        let line = lines.text().unwrap_or("");
-        if line.starts_with("on ") {
-            return Ok(true);
-        }
-        let written = match line {
-            "exchange" => {
-                mem::swap(&mut container, &mut other);
-                value(out, "done")
+    // The same on a container.
+    fn serve<C: Container + PartialEq + Debug + Drop>(&mut self) -> io::Result<bool> {
+        let mut container = C::empty(self.alloc);
+        let mut other = C::empty(self.alloc);
+        writeln!(self.out, "new")?;
+        for _ in 0..u64::MAX {
+            if !self.lines.advance()? {
+                break;
             }
-            "eq" => value(out, container == other),
-            "debug" => debug(out, &container),
-            _ => container.answer(&mut other, alloc, line, out),
-        };
-        written?;
+            let line = self.lines.text();
+            if line.starts_with("on ") {
+                return Ok(true);
+            }
+            answer(
+                &mut container,
+                &mut other,
+                self.alloc,
+                line,
+                &mut self.answer,
+            );
+            self.answer.flush(&mut self.out)?;
+        }
+        Ok(false)
     }
-    Ok(false)
+}
+
+// Makes a call that each container has, or one of its own.
+fn answer<C: Container + PartialEq + Debug>(
+    container: &mut C,
+    other: &mut C,
+    alloc: Global,
+    line: &str,
+    out: &mut Line,
+) {
+    match line {
+        "exchange" => {
+            mem::swap(container, other);
+            writeln!(out, "done")
+        }
+        "eq" => writeln!(out, "{}", *container == *other),
+        "debug" => writeln!(out, "{container:?}"),
+        _ => container.answer(other, alloc, line, out),
+    }
 }

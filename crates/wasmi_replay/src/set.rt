@@ -1,14 +1,16 @@
 //! Calls on a `Set` of either backing.
 
-use crate::answers::{bad, done, found, keep, option, result, value};
+use crate::answers::{Answer, bad, done, found, keep, shown, write};
 use crate::format::Plain;
+use crate::line::Line;
 use crate::replay::Container;
 use crate::table::answer_table;
-use crate::table_call::{BackingCall, BothCall, KeyCall, MadeCall, TableCall, WalkCall};
+use crate::table_call::{
+    BackingCall, BothCall, BothWalk, KeyCall, MadeCall, Part, TableCall, Walk,
+};
 use crate::walk::{walk, walk_all, walk_ends, write_all};
 use std::alloc::Global;
-use std::io::Write;
-use std::{io, mem};
+use std::mem;
 use wasmi_arena::ArenaError;
 use wasmi_hashed::set as hashed;
 use wasmi_ordered::set as ordered;
@@ -17,58 +19,75 @@ use wasmi_ordered::set as ordered;
 /// that is its body stands below.
 trait AnySet: Sized {
     /// Makes a call on an element.
-    fn answer_key<W: Write>(&mut self, key: i64, call: KeyCall, out: &mut W) -> io::Result<()>;
+    fn answer_key(&mut self, key: i64, call: KeyCall) -> Answer;
 
     /// Makes a call on both sets that changes neither.
-    fn compare<W: Write>(&self, other: &Self, call: BothCall, out: &mut W) -> io::Result<()>;
+    fn compare(&self, other: &Self, call: BothCall) -> bool;
 
     /// The set of both, by an operator.
     fn made(&self, other: &Self, call: MadeCall) -> Result<Self, ArenaError>;
 
-    fn walk<W: Write>(&self, steps: u16, out: &mut W) -> io::Result<()>;
-
-    /// The set is empty afterwards.
-    fn walk_taken<W: Write>(&mut self, alloc: Global, steps: u16, out: &mut W) -> io::Result<()>;
-
-    fn all<W: Write>(&self, out: &mut W) -> io::Result<()>;
-
     /// Keeps the elements that have a bit of the mask. Counts the calls.
-    fn thin(&mut self, mask: i64) -> u64;
+    fn thin(&mut self, mask: i64) -> usize;
 
     /// Makes a call that sets of the other backing don't have.
-    fn answer_backing<W: Write>(
-        &mut self,
-        other: &mut Self,
-        call: BackingCall,
-        out: &mut W,
-    ) -> io::Result<()>;
+    fn answer_backing(&mut self, other: &mut Self, call: BackingCall) -> Answer;
+
+    fn answer_walk(&mut self, other: &Self, alloc: Global, walk: Walk, out: &mut Line);
+
+    fn walk_both(&self, other: &Self, walk: BothWalk, steps: u16, out: &mut Line);
 }
 
 macro_rules! answer_key {
-    ($set:ident, $key:ident, $call:ident, $out:ident) => {
+    ($set:ident, $key:ident, $call:ident) => {
         match $call {
-            KeyCall::Add => result($out, $set.insert($key)),
-            KeyCall::Get => option($out, $set.get(&$key)),
-            KeyCall::Contains => value($out, $set.contains(&$key)),
-            KeyCall::Replace => found($out, $set.replace($key), "none"),
-            KeyCall::Remove => value($out, $set.remove(&$key)),
-            KeyCall::Take => option($out, $set.take(&$key)),
-            _ => bad($out),
+            KeyCall::Add => match $set.insert($key) {
+                Ok(is_new) => Answer::Truth(is_new),
+                Err(error) => Answer::Error(error),
+            },
+            KeyCall::Get => shown($set.get(&$key)),
+            KeyCall::Contains => Answer::Truth($set.contains(&$key)),
+            KeyCall::Replace => found($set.replace($key)),
+            KeyCall::Remove => Answer::Truth($set.remove(&$key)),
+            KeyCall::Take => Answer::Item($set.take(&$key)),
+            _ => Answer::BAD,
         }
     };
 }
 
 macro_rules! compare {
-    ($set:ident, $other:ident, $call:ident, $out:ident) => {
+    ($set:ident, $other:ident, $call:ident) => {
         match $call {
-            BothCall::IsSubset => value($out, $set.is_subset($other)),
-            BothCall::IsSuperset => value($out, $set.is_superset($other)),
-            BothCall::IsDisjoint => value($out, $set.is_disjoint($other)),
-            BothCall::Union(steps) => walk_all($set.union($other), steps, Plain, $out),
-            BothCall::Intersection(steps) => walk_all($set.intersection($other), steps, Plain, $out),
-            BothCall::Difference(steps) => walk_all($set.difference($other), steps, Plain, $out),
-            BothCall::SymmetricDifference(steps) => {
-                walk_all($set.symmetric_difference($other), steps, Plain, $out)
+            BothCall::IsSubset => $set.is_subset($other),
+            BothCall::IsSuperset => $set.is_superset($other),
+            BothCall::IsDisjoint => $set.is_disjoint($other),
+        }
+    };
+}
+
+macro_rules! answer_walk {
+    ($set:ident, $other:ident, $alloc:ident, $walk:ident, $out:ident) => {
+        match $walk {
+            Walk::Over(Part::Iter, steps) => walk($set.iter(), steps, Plain, $out),
+            Walk::Taken(Part::Iter, steps) => {
+                let set = mem::replace($set, Self::new($alloc));
+                walk(set.into_iter(), steps, Plain, $out)
+            }
+            Walk::For => write_all($set.len(), &*$set, Plain, $out),
+            Walk::Both(walk, steps) => $set.walk_both($other, walk, steps, $out),
+            _ => bad($out),
+        }
+    };
+}
+
+macro_rules! walk_both {
+    ($set:ident, $other:ident, $walk:ident, $steps:ident, $out:ident) => {
+        match $walk {
+            BothWalk::Union => walk_all($set.union($other), $steps, Plain, $out),
+            BothWalk::Intersection => walk_all($set.intersection($other), $steps, Plain, $out),
+            BothWalk::Difference => walk_all($set.difference($other), $steps, Plain, $out),
+            BothWalk::SymmetricDifference => {
+                walk_all($set.symmetric_difference($other), $steps, Plain, $out)
             }
         }
     };
@@ -87,7 +106,7 @@ macro_rules! made {
 
 macro_rules! thin {
     ($set:ident, $mask:ident) => {{
-        let mut calls: u64 = 0;
+        let mut calls: usize = 0;
         $set.retain(|element| {
             calls = calls.wrapping_add(1);
             *element & $mask != 0
@@ -97,23 +116,14 @@ macro_rules! thin {
 }
 
 // Makes a call that maps don't have.
-fn answer_own<S: AnySet + Drop, W: Write>(
-    set: &mut S,
-    other: &mut S,
-    alloc: Global,
-    call: TableCall,
-    out: &mut W,
-) -> io::Result<()> {
+fn answer_own<S: AnySet + Drop>(set: &mut S, other: &mut S, call: TableCall) -> Answer {
     match call {
-        TableCall::Key(key, call) => set.answer_key(key, call, out),
-        TableCall::Both(call) => set.compare(other, call, out),
-        TableCall::Made(call) => keep(out, set.made(other, call), other),
-        TableCall::Walk(steps, WalkCall::Iter) => set.walk(steps, out),
-        TableCall::WalkTaken(steps, WalkCall::Iter) => set.walk_taken(alloc, steps, out),
-        TableCall::For => set.all(out),
-        TableCall::Retain(mask, _) => value(out, set.thin(mask)),
-        TableCall::Backing(call) => set.answer_backing(other, call, out),
-        _ => bad(out),
+        TableCall::Key(key, call) => set.answer_key(key, call),
+        TableCall::Both(call) => Answer::Truth(set.compare(other, call)),
+        TableCall::Made(call) => keep(set.made(other, call), other),
+        TableCall::Retain(mask, _) => Answer::Number(set.thin(mask)),
+        TableCall::Backing(call) => set.answer_backing(other, call),
+        _ => Answer::BAD,
     }
 }
 
@@ -122,75 +132,64 @@ impl Container for ordered::Set<i64> {
         ordered::Set::new(alloc)
     }
 
-    fn answer<W: Write>(
-        &mut self,
-        other: &mut Self,
-        alloc: Global,
-        line: &str,
-        out: &mut W,
-    ) -> io::Result<()> {
-        answer_table!(self, other, alloc, line, out, pairs => pairs.keys())
+    fn answer(&mut self, other: &mut Self, alloc: Global, line: &str, out: &mut Line) {
+        match TableCall::parse(line) {
+            Some(TableCall::Walk(walk)) => self.answer_walk(other, alloc, walk, out),
+            Some(call) => {
+                write(
+                    out,
+                    answer_table!(self, other, alloc, call, pairs => pairs.keys()),
+                )
+            }
+            None => bad(out),
+        }
     }
 }
 
 impl AnySet for ordered::Set<i64> {
-    fn answer_key<W: Write>(&mut self, key: i64, call: KeyCall, out: &mut W) -> io::Result<()> {
-        answer_key!(self, key, call, out)
+    fn answer_key(&mut self, key: i64, call: KeyCall) -> Answer {
+        answer_key!(self, key, call)
     }
 
-    fn compare<W: Write>(&self, other: &Self, call: BothCall, out: &mut W) -> io::Result<()> {
-        compare!(self, other, call, out)
+    fn compare(&self, other: &Self, call: BothCall) -> bool {
+        compare!(self, other, call)
     }
 
     fn made(&self, other: &Self, call: MadeCall) -> Result<Self, ArenaError> {
         made!(self, other, call)
     }
 
-    fn walk<W: Write>(&self, steps: u16, out: &mut W) -> io::Result<()> {
-        walk(self.iter(), steps, Plain, out)
+    fn answer_walk(&mut self, other: &Self, alloc: Global, walk: Walk, out: &mut Line) {
+        match walk {
+            Walk::Range(from, to, steps) => range(self, from, to, steps, out),
+            walk => answer_walk!(self, other, alloc, walk, out),
+        }
     }
 
-    fn walk_taken<W: Write>(&mut self, alloc: Global, steps: u16, out: &mut W) -> io::Result<()> {
-        let set = mem::replace(self, Self::new(alloc));
-        walk(set.into_iter(), steps, Plain, out)
+    fn walk_both(&self, other: &Self, walk: BothWalk, steps: u16, out: &mut Line) {
+        walk_both!(self, other, walk, steps, out)
     }
 
-    fn all<W: Write>(&self, out: &mut W) -> io::Result<()> {
-        write_all(self.len(), self, Plain, out)
-    }
-
-    fn thin(&mut self, mask: i64) -> u64 {
+    fn thin(&mut self, mask: i64) -> usize {
         thin!(self, mask)
     }
 
-    fn answer_backing<W: Write>(
-        &mut self,
-        other: &mut Self,
-        call: BackingCall,
-        out: &mut W,
-    ) -> io::Result<()> {
+    fn answer_backing(&mut self, other: &mut Self, call: BackingCall) -> Answer {
         match call {
-            BackingCall::First => option(out, self.first()),
-            BackingCall::Last => option(out, self.last()),
-            BackingCall::PopFirst => option(out, self.pop_first()),
-            BackingCall::PopLast => option(out, self.pop_last()),
-            BackingCall::Range(from, to, steps) => range(self, from, to, steps, out),
-            BackingCall::SplitOff(from) => keep(out, self.split_off(&from), other),
-            BackingCall::Append => done(out, self.append(other)),
-            BackingCall::Capacity | BackingCall::ShrinkToFit => bad(out),
+            BackingCall::First => shown(self.first()),
+            BackingCall::Last => shown(self.last()),
+            BackingCall::PopFirst => Answer::Item(self.pop_first()),
+            BackingCall::PopLast => Answer::Item(self.pop_last()),
+            BackingCall::SplitOff(from) => keep(self.split_off(&from), other),
+            BackingCall::Append => done(self.append(other)),
+            BackingCall::Capacity | BackingCall::ShrinkToFit => Answer::BAD,
         }
     }
 }
 
-fn range<W: Write>(
-    set: &ordered::Set<i64>,
-    from: i64,
-    to: i64,
-    steps: u16,
-    out: &mut W,
-) -> io::Result<()> {
+fn range(set: &ordered::Set<i64>, from: i64, to: i64, steps: u16, out: &mut Line) {
     if from > to {
-        return value(out, "no range");
+        return writeln!(out, "no range");
     }
     walk_ends(set.range(from..to), steps, Plain, out)
 }
@@ -200,60 +199,53 @@ impl Container for hashed::Set<i64> {
         hashed::Set::new(alloc)
     }
 
-    fn answer<W: Write>(
-        &mut self,
-        other: &mut Self,
-        alloc: Global,
-        line: &str,
-        out: &mut W,
-    ) -> io::Result<()> {
-        answer_table!(self, other, alloc, line, out, pairs => pairs.keys())
+    fn answer(&mut self, other: &mut Self, alloc: Global, line: &str, out: &mut Line) {
+        match TableCall::parse(line) {
+            Some(TableCall::Walk(walk)) => self.answer_walk(other, alloc, walk, out),
+            Some(call) => {
+                write(
+                    out,
+                    answer_table!(self, other, alloc, call, pairs => pairs.keys()),
+                )
+            }
+            None => bad(out),
+        }
     }
 }
 
 impl AnySet for hashed::Set<i64> {
-    fn answer_key<W: Write>(&mut self, key: i64, call: KeyCall, out: &mut W) -> io::Result<()> {
-        answer_key!(self, key, call, out)
+    fn answer_key(&mut self, key: i64, call: KeyCall) -> Answer {
+        answer_key!(self, key, call)
     }
 
-    fn compare<W: Write>(&self, other: &Self, call: BothCall, out: &mut W) -> io::Result<()> {
-        compare!(self, other, call, out)
+    fn compare(&self, other: &Self, call: BothCall) -> bool {
+        compare!(self, other, call)
     }
 
     fn made(&self, other: &Self, call: MadeCall) -> Result<Self, ArenaError> {
         made!(self, other, call)
     }
 
-    fn walk<W: Write>(&self, steps: u16, out: &mut W) -> io::Result<()> {
-        walk(self.iter(), steps, Plain, out)
+    fn answer_walk(&mut self, other: &Self, alloc: Global, walk: Walk, out: &mut Line) {
+        answer_walk!(self, other, alloc, walk, out)
     }
 
-    fn walk_taken<W: Write>(&mut self, alloc: Global, steps: u16, out: &mut W) -> io::Result<()> {
-        let set = mem::replace(self, Self::new(alloc));
-        walk(set.into_iter(), steps, Plain, out)
+    fn walk_both(&self, other: &Self, walk: BothWalk, steps: u16, out: &mut Line) {
+        walk_both!(self, other, walk, steps, out)
     }
 
-    fn all<W: Write>(&self, out: &mut W) -> io::Result<()> {
-        write_all(self.len(), self, Plain, out)
-    }
-
-    fn thin(&mut self, mask: i64) -> u64 {
+    fn thin(&mut self, mask: i64) -> usize {
         thin!(self, mask)
     }
 
-    fn answer_backing<W: Write>(
-        &mut self,
-        _other: &mut Self,
-        call: BackingCall,
-        out: &mut W,
-    ) -> io::Result<()> {
+    fn answer_backing(&mut self, _other: &mut Self, call: BackingCall) -> Answer {
         match call {
-            BackingCall::Capacity => value(out, self.capacity() >= self.len()),
+            BackingCall::Capacity => Answer::Truth(self.capacity() >= self.len()),
             BackingCall::ShrinkToFit => {
                 self.shrink_to_fit();
-                value(out, "done")
+                Answer::DONE
             }
-            _ => bad(out),
+            _ => Answer::BAD,
         }
     }
 }

@@ -1,14 +1,13 @@
 //! Calls on a `StringInterner`. A line names a symbol by its number.
 
-use crate::answers::{bad, done, keep, option, refusal, value};
+use crate::answers::{Answer, bad, done, keep, write};
 use crate::format::Text;
 use crate::interner_call::InternerCall;
+use crate::line::Line;
 use crate::replay::Container;
 use crate::walk::walk_steps;
 use std::alloc::Global;
 use std::hash::{DefaultHasher, Hash, Hasher};
-use std::io;
-use std::io::Write;
 use wasmi_arena::ArenaError;
 use wasmi_collections::StringInterner;
 use wasmi_collections::string_interner::{InternHint, Steps, Sym};
@@ -18,62 +17,62 @@ impl Container for StringInterner {
         StringInterner::new(alloc)
     }
 
-    fn answer<W: Write>(
-        &mut self,
-        other: &mut Self,
-        _alloc: Global,
-        line: &str,
-        out: &mut W,
-    ) -> io::Result<()> {
+    fn answer(&mut self, other: &mut Self, _alloc: Global, line: &str, out: &mut Line) {
         let Some(call) = InternerCall::parse(line) else {
             return bad(out);
         };
         match call {
-            InternerCall::Len => value(out, self.len()),
-            InternerCall::IsEmpty => value(out, self.is_empty()),
-            InternerCall::Clear => {
-                self.clear();
-                value(out, "done")
-            }
-            InternerCall::Contains(text) => value(out, self.contains(text)),
-            InternerCall::Get(text) => option(out, self.get(text).map(Sym::into_u32)),
             InternerCall::GetCounted(text) => counted(self, text, out),
-            InternerCall::GetOrIntern(text) => number(out, self.get_or_intern(text)),
             InternerCall::GetOrInternWithHint(hint, text) => hinted(self, text, hint, out),
-            InternerCall::Extend(texts) => done(out, self.extend(texts.split(','))),
             InternerCall::Iter(steps) => walk_steps(self.iter(), steps, Text, out),
             InternerCall::Resolve(number) => match self.resolve(Sym::from_u32(number)) {
                 Some(text) => writeln!(out, "\"{text}\""),
-                None => value(out, "none"),
+                None => writeln!(out, "none"),
             },
             InternerCall::Symbols(first, second) => symbols(first, second, out),
-            InternerCall::Clone => keep(out, self.clone(), other),
+            call => write(out, answer_call(self, other, call)),
         }
     }
 }
 
-// Writes the number of a symbol, or `error` and the text of the error.
-fn number<W: Write>(out: &mut W, symbol: Result<Sym, ArenaError>) -> io::Result<()> {
+fn answer_call(
+    interner: &mut StringInterner,
+    other: &mut StringInterner,
+    call: InternerCall<'_>,
+) -> Answer {
+    match call {
+        InternerCall::Len => Answer::Number(interner.len()),
+        InternerCall::IsEmpty => Answer::Truth(interner.is_empty()),
+        InternerCall::Clear => {
+            interner.clear();
+            Answer::DONE
+        }
+        InternerCall::Contains(text) => Answer::Truth(interner.contains(text)),
+        InternerCall::Get(text) => Answer::Key(interner.get(text).map(Sym::into_usize)),
+        InternerCall::GetOrIntern(text) => number(interner.get_or_intern(text)),
+        InternerCall::Extend(texts) => done(interner.extend(texts.split(','))),
+        InternerCall::Clone => keep(interner.clone(), other),
+        _ => Answer::BAD,
+    }
+}
+
+// The number of a symbol.
+fn number(symbol: Result<Sym, ArenaError>) -> Answer {
     match symbol {
-        Ok(symbol) => value(out, symbol.into_u32()),
-        Err(error) => refusal(out, error),
+        Ok(symbol) => Answer::Number(symbol.into_usize()),
+        Err(error) => Answer::Error(error),
     }
 }
 
 // Writes the hint, and the number of the symbol.
-fn hinted<W: Write>(
-    interner: &mut StringInterner,
-    text: &str,
-    hint: InternHint,
-    out: &mut W,
-) -> io::Result<()> {
-    write!(out, "{hint:?} ")?;
-    number(out, interner.get_or_intern_with_hint(text, hint))
+fn hinted(interner: &mut StringInterner, text: &str, hint: InternHint, out: &mut Line) {
+    write!(out, "{hint:?} ");
+    write(out, number(interner.get_or_intern_with_hint(text, hint)))
 }
 
 // Writes the symbol of a text, and whether so many texts were compared as a binary search does: at
 // most one for each binary digit of the number of texts, and one where there is a text.
-fn counted<W: Write>(interner: &StringInterner, text: &str, out: &mut W) -> io::Result<()> {
+fn counted(interner: &StringInterner, text: &str, out: &mut Line) {
     let mut steps = Steps::new();
     let found = interner.get_counted(text, &mut steps);
     let is_few = match interner.len().checked_ilog2() {
@@ -87,7 +86,7 @@ fn counted<W: Write>(interner: &StringInterner, text: &str, out: &mut W) -> io::
 }
 
 // Writes two symbols, how they compare, and the hash of the first.
-fn symbols<W: Write>(first: u32, second: u32, out: &mut W) -> io::Result<()> {
+fn symbols(first: u32, second: u32, out: &mut Line) {
     let (first, second) = (Sym::from_u32(first), Sym::from_u32(second));
     let mut hasher = DefaultHasher::new();
     first.hash(&mut hasher);

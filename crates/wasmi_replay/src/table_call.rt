@@ -1,8 +1,7 @@
 //! What a line asks of a map or a set.
 
-use crate::call::{ended, number};
 use crate::counted::Pairs;
-use std::str::Split;
+use crate::words::Words;
 
 /// A call on a map or a set, named as the method is. A set has elements for keys, and no items.
 #[derive(Clone, Copy)]
@@ -15,19 +14,6 @@ pub enum TableCall {
     Key(i64, KeyCall),
     Entry(i64, EntryCall),
     Side(i64, SideCall),
-    /// Write what the entry of a key is.
-    Look(i64),
-    /// Take out an entry that is there.
-    TakeEntry(i64),
-    /// Iterate: so many steps, and then the rest.
-    Walk(u16, WalkCall),
-    /// The same by what `into_iter`, `into_keys` and `into_values` return.
-    WalkTaken(u16, WalkCall),
-    WalkMut(u16, MutCall),
-    /// All keys, by a `for` over a reference.
-    For,
-    /// Add a number to all items, by a `for` over a `&mut` reference.
-    ForMut(i64),
     /// Add a number to all items of a map, and keep what has a bit of the mask.
     Retain(i64, i64),
     Extend(Pairs),
@@ -39,6 +25,7 @@ pub enum TableCall {
     Both(BothCall),
     Made(MadeCall),
     Backing(BackingCall),
+    Walk(Walk),
 }
 
 /// A call on one key.
@@ -79,35 +66,54 @@ pub enum SideCall {
     Insert(i64),
     IntoMut(i64),
     Remove,
+    RemoveEntry,
     VacantInsert(i64, i64),
     IntoKey,
+    /// Write which of the two the entry is, with its key and item.
+    Look,
+}
+
+/// An iteration, whose items are written as it comes to them: so many steps, and then the rest.
+#[derive(Clone, Copy)]
+pub enum Walk {
+    Over(Part, u16),
+    /// The same by what `into_iter`, `into_keys` and `into_values` return.
+    Taken(Part, u16),
+    /// Add a number to each item.
+    IterMut(u16, i64),
+    ValuesMut(u16, i64),
+    /// All keys, by a `for` over a reference.
+    For,
+    /// Add a number to all items, by a `for` over a `&mut` reference.
+    ForMut(i64),
+    /// The keys from one on and below another one, from the front and the back in turn.
+    Range(i64, i64, u16),
+    Both(BothWalk, u16),
 }
 
 /// What an iteration goes over.
 #[derive(Clone, Copy)]
-pub enum WalkCall {
+pub enum Part {
     Iter,
     Keys,
     Values,
 }
 
-/// The same, and a number that is added to each item.
+/// An iteration over two sets: this one and the other.
 #[derive(Clone, Copy)]
-pub enum MutCall {
-    Items(i64),
-    Values(i64),
+pub enum BothWalk {
+    Union,
+    Intersection,
+    Difference,
+    SymmetricDifference,
 }
 
-/// A call on two sets: this one and the other.
+/// A call on two sets, likewise.
 #[derive(Clone, Copy)]
 pub enum BothCall {
     IsSubset,
     IsSuperset,
     IsDisjoint,
-    Union(u16),
-    Intersection(u16),
-    Difference(u16),
-    SymmetricDifference(u16),
 }
 
 /// An operator on two sets: the set that it makes takes the place of the other one.
@@ -127,8 +133,6 @@ pub enum BackingCall {
     Last,
     PopFirst,
     PopLast,
-    /// The keys from one on and below another one: so many, from the front and the back in turn, and then the rest.
-    Range(i64, i64, u16),
     /// What is from a key on takes the place of the other container.
     SplitOff(i64),
     /// Take all of the other container.
@@ -141,23 +145,21 @@ pub enum BackingCall {
 impl TableCall {
     /// Reads a line, given without its line feed. `None` if it names no call, or not with its numbers.
     pub fn parse(line: &str) -> Option<TableCall> {
-        let mut words = line.split(' ');
-        let call = TableCall::named(words.next()?, &mut words)?;
-        ended(call, &mut words)
+        let mut words = Words::new(line);
+        let call = TableCall::named(words.text(), &mut words)?;
+        words.end(call)
     }
 
     // The call of a name, with its numbers.
-    fn named(name: &str, words: &mut Split<'_, char>) -> Option<TableCall> {
+    fn named(name: &str, words: &mut Words<'_>) -> Option<TableCall> {
         let call = match name {
             "len" => TableCall::Len,
             "is_empty" => TableCall::IsEmpty,
             "clear" => TableCall::Clear,
-            "reserve" => TableCall::Reserve(number(words)?),
-            "for" => TableCall::For,
-            "for_mut" => TableCall::ForMut(number(words)?),
-            "retain" => TableCall::Retain(number(words)?, number(words)?),
-            "extend" => TableCall::Extend(pairs(words)?),
-            "from_iter" => TableCall::FromIter(pairs(words)?),
+            "reserve" => TableCall::Reserve(words.count()),
+            "retain" => TableCall::Retain(words.number(), words.number()),
+            "extend" => TableCall::Extend(pairs(words)),
+            "from_iter" => TableCall::FromIter(pairs(words)),
             "extend_ref" => TableCall::ExtendRef,
             "clone" => TableCall::Clone,
             _ => return TableCall::of_both(name, words),
@@ -165,15 +167,11 @@ impl TableCall {
         Some(call)
     }
 
-    fn of_both(name: &str, words: &mut Split<'_, char>) -> Option<TableCall> {
+    fn of_both(name: &str, words: &mut Words<'_>) -> Option<TableCall> {
         let call = match name {
             "is_subset" => BothCall::IsSubset,
             "is_superset" => BothCall::IsSuperset,
             "is_disjoint" => BothCall::IsDisjoint,
-            "union" => BothCall::Union(number(words)?),
-            "intersection" => BothCall::Intersection(number(words)?),
-            "difference" => BothCall::Difference(number(words)?),
-            "symmetric_difference" => BothCall::SymmetricDifference(number(words)?),
             "bitand" => return Some(TableCall::Made(MadeCall::BitAnd)),
             "bitor" => return Some(TableCall::Made(MadeCall::BitOr)),
             "bitxor" => return Some(TableCall::Made(MadeCall::BitXor)),
@@ -183,14 +181,13 @@ impl TableCall {
         Some(TableCall::Both(call))
     }
 
-    fn of_backing(name: &str, words: &mut Split<'_, char>) -> Option<TableCall> {
+    fn of_backing(name: &str, words: &mut Words<'_>) -> Option<TableCall> {
         let call = match name {
             "first" => BackingCall::First,
             "last" => BackingCall::Last,
             "pop_first" => BackingCall::PopFirst,
             "pop_last" => BackingCall::PopLast,
-            "range" => BackingCall::Range(number(words)?, number(words)?, number(words)?),
-            "split_off" => BackingCall::SplitOff(number(words)?),
+            "split_off" => BackingCall::SplitOff(words.number()),
             "append" => BackingCall::Append,
             "capacity" => BackingCall::Capacity,
             "shrink_to_fit" => BackingCall::ShrinkToFit,
@@ -199,30 +196,42 @@ impl TableCall {
         Some(TableCall::Backing(call))
     }
 
-    fn of_walk(name: &str, words: &mut Split<'_, char>) -> Option<TableCall> {
-        let call = match name {
-            "iter" => TableCall::Walk(number(words)?, WalkCall::Iter),
-            "keys" => TableCall::Walk(number(words)?, WalkCall::Keys),
-            "values" => TableCall::Walk(number(words)?, WalkCall::Values),
-            "into_iter" => TableCall::WalkTaken(number(words)?, WalkCall::Iter),
-            "into_keys" => TableCall::WalkTaken(number(words)?, WalkCall::Keys),
-            "into_values" => TableCall::WalkTaken(number(words)?, WalkCall::Values),
-            "iter_mut" => TableCall::WalkMut(number(words)?, MutCall::Items(number(words)?)),
-            "values_mut" => TableCall::WalkMut(number(words)?, MutCall::Values(number(words)?)),
-            _ => return TableCall::of_key(name, words),
+    fn of_walk(name: &str, words: &mut Words<'_>) -> Option<TableCall> {
+        let walk = match name {
+            "iter" => Walk::Over(Part::Iter, words.count()),
+            "keys" => Walk::Over(Part::Keys, words.count()),
+            "values" => Walk::Over(Part::Values, words.count()),
+            "into_iter" => Walk::Taken(Part::Iter, words.count()),
+            "into_keys" => Walk::Taken(Part::Keys, words.count()),
+            "into_values" => Walk::Taken(Part::Values, words.count()),
+            "iter_mut" => Walk::IterMut(words.count(), words.number()),
+            "values_mut" => Walk::ValuesMut(words.count(), words.number()),
+            "for" => Walk::For,
+            "for_mut" => Walk::ForMut(words.number()),
+            "range" => Walk::Range(words.number(), words.number(), words.count()),
+            _ => return TableCall::of_both_walk(name, words),
         };
-        Some(call)
+        Some(TableCall::Walk(walk))
     }
 
-    fn of_key(name: &str, words: &mut Split<'_, char>) -> Option<TableCall> {
-        let key = number(words)?;
+    fn of_both_walk(name: &str, words: &mut Words<'_>) -> Option<TableCall> {
+        let walk = match name {
+            "union" => BothWalk::Union,
+            "intersection" => BothWalk::Intersection,
+            "difference" => BothWalk::Difference,
+            "symmetric_difference" => BothWalk::SymmetricDifference,
+            _ => return TableCall::of_key(name, words),
+        };
+        Some(TableCall::Walk(Walk::Both(walk, words.count())))
+    }
+
+    fn of_key(name: &str, words: &mut Words<'_>) -> Option<TableCall> {
+        let key = words.number();
         let call = match name {
-            "insert" => match words.next() {
-                Some(word) => KeyCall::Insert(word.parse().ok()?),
-                None => KeyCall::Add,
-            },
+            "insert" if words.is_empty() => KeyCall::Add,
+            "insert" => KeyCall::Insert(words.number()),
             "get" => KeyCall::Get,
-            "get_mut" => KeyCall::GetMut(number(words)?),
+            "get_mut" => KeyCall::GetMut(words.number()),
             "contains_key" => KeyCall::ContainsKey,
             "get_key_value" => KeyCall::GetKeyValue,
             "index" => KeyCall::Index,
@@ -236,16 +245,14 @@ impl TableCall {
         Some(TableCall::Key(key, call))
     }
 
-    fn of_entry(key: i64, name: &str, words: &mut Split<'_, char>) -> Option<TableCall> {
+    fn of_entry(key: i64, name: &str, words: &mut Words<'_>) -> Option<TableCall> {
         let call = match name {
-            "entry" => return Some(TableCall::Look(key)),
-            "occupied_remove_entry" => return Some(TableCall::TakeEntry(key)),
             "entry_key" => EntryCall::Key,
-            "or_insert" => EntryCall::OrInsert(number(words)?, number(words)?),
-            "or_insert_with" => EntryCall::OrInsertWith(number(words)?, number(words)?),
-            "or_insert_with_key" => EntryCall::OrInsertWithKey(number(words)?),
-            "or_default" => EntryCall::OrDefault(number(words)?),
-            "and_modify" => EntryCall::AndModify(number(words)?, number(words)?),
+            "or_insert" => EntryCall::OrInsert(words.number(), words.number()),
+            "or_insert_with" => EntryCall::OrInsertWith(words.number(), words.number()),
+            "or_insert_with_key" => EntryCall::OrInsertWithKey(words.number()),
+            "or_default" => EntryCall::OrDefault(words.number()),
+            "and_modify" => EntryCall::AndModify(words.number(), words.number()),
             _ => return Some(TableCall::Side(key, SideCall::named(name, words)?)),
         };
         Some(TableCall::Entry(key, call))
@@ -253,34 +260,28 @@ impl TableCall {
 }
 
 impl SideCall {
-    fn named(name: &str, words: &mut Split<'_, char>) -> Option<SideCall> {
+    fn named(name: &str, words: &mut Words<'_>) -> Option<SideCall> {
         let call = match name {
-            "occupied_get_mut" => SideCall::GetMut(number(words)?),
-            "occupied_insert" => SideCall::Insert(number(words)?),
-            "occupied_into_mut" => SideCall::IntoMut(number(words)?),
+            "occupied_get_mut" => SideCall::GetMut(words.number()),
+            "occupied_insert" => SideCall::Insert(words.number()),
+            "occupied_into_mut" => SideCall::IntoMut(words.number()),
             "occupied_remove" => SideCall::Remove,
-            "vacant_insert" => SideCall::VacantInsert(number(words)?, number(words)?),
+            "occupied_remove_entry" => SideCall::RemoveEntry,
+            "vacant_insert" => SideCall::VacantInsert(words.number(), words.number()),
             "vacant_into_key" => SideCall::IntoKey,
+            "entry" => SideCall::Look,
             _ => return None,
         };
         Some(call)
     }
-
-    /// What the entry is where the call can't be made.
-    pub fn other_side(self) -> &'static str {
-        match self {
-            SideCall::VacantInsert(..) | SideCall::IntoKey => "occupied",
-            _ => "vacant",
-        }
-    }
 }
 
 // The first key, the step to the next one, the first item, and how many there are.
-fn pairs(words: &mut Split<'_, char>) -> Option<Pairs> {
-    Some(Pairs {
-        key: number(words)?,
-        step: number(words)?,
-        item: number(words)?,
-        left: number(words)?,
-    })
+fn pairs(words: &mut Words<'_>) -> Pairs {
+    Pairs {
+        key: words.number(),
+        step: words.number(),
+        item: words.number(),
+        left: words.count(),
+    }
 }
