@@ -1,6 +1,6 @@
 -- What a part of a value takes of memory: no more than the value, so less than 2 ^ 63 bytes where that does.
 use mathlib.Core.List.{[]}
-use mathlib.Core.Path.{◌≡◌}
+use mathlib.Core.Path.{◌≡◌, refl}
 use mathlib.Core.Option.{some}
 use native.Mathlib.Omega.{arith}
 use Prim.Native.Nat.{ℕ, zero, ◌<◌, ◌^◌}
@@ -28,7 +28,7 @@ module _ (A : RattleType) (alloc : Allocator.Ghosts A.Denot) where
   texts_fields = fields_of (layout (Texts.the_row A alloc))
 
   -- its arena, and the vector in it
-  abbrev pub texts_arena : Ty
+  abbrev texts_arena : Ty
   texts_arena = first texts_fields
 
   abbrev pub texts_vec : Ty
@@ -40,3 +40,10 @@ module _ (A : RattleType) (alloc : Allocator.Ghosts A.Denot) where
 -- a field takes no more than the struct
 pub field_small : (τs : Tys) (k : ℕ) (τ : Ty) (d : ℕ) → field_at zero τs k ≡ some (τ, d) → size (ty_struct [] τs) < 2 ^ 63 → size τ < 2 ^ 63
 field_small τs k τ d at small = let inside = field_in [] τs k τ d at in omega arith
+
+module _ (A : RattleType) (alloc : Allocator.Ghosts A.Denot) (small : size (ty_struct [] (texts_fields A alloc)) < 2 ^ 63) where
+  pub texts_arena_small : size (texts_arena A alloc) < 2 ^ 63
+  texts_arena_small = field_small (texts_fields A alloc) 0 (texts_arena A alloc) _ refl small
+
+  pub texts_vec_small : size (texts_vec A alloc) < 2 ^ 63
+  texts_vec_small = field_small (fields_of (texts_arena A alloc)) 0 (texts_vec A alloc) _ refl texts_arena_small

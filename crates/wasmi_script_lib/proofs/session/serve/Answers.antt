@@ -16,7 +16,7 @@ returns-in_ok-alloc-in-Some-Alloc-clause-state g c =
     let kept = map string_bytes texts.arena in
     rw (← c.in-Some-Alloc.ensures, c.in-Some-Alloc.field-0-is, ← c.in-Some-Alloc.text-is) (ap (with_entities store) c.in_ok-alloc-in-Some-Alloc.ensures.state ∙ of-either (with_entities store) (ltb (length kept) max_len) _ (with_texts texts))
 
--- ---- each container takes no more memory than the two that a script keeps
+-- ---- what the two containers take of memory
 
 pub alloc-requires : goal.alloc-requires
 alloc-requires g c = assumption

@@ -1,9 +1,9 @@
-use Rattle.std.proofs.Common.{refl, decimal, length, string_bytes, sym, ◌∙◌}
+use Rattle.std.proofs.Common.{decimal, length, string_bytes, sym, ◌∙◌}
 use Rattle.std.proofs.lemmas.List.{length-map}
 use Rattle.wasmi_arena.specs.Geometry.{slots}
 use Rattle.wasmi_script_lib.proofs.ReplyLemmas.{OnOk-same, counts_text}
 use denote.Param.{param}
-use Rattle.wasmi_script_lib.proofs.Sizes.{field_small, fields_of, texts_arena, texts_fields}
+use Rattle.wasmi_script_lib.proofs.Sizes.{texts_arena_small, texts_vec_small}
 use Rattle.wasmi_script_lib.proofs.texts.Texts.count.Goals as goal
 
 pub returns : goal.returns
@@ -17,11 +17,11 @@ returns g c =
     simp length-map (OnOk-same _ _ _ _ (counts_text (string_bytes c.args.replies.now) (decimal kept) (decimal deduped) (decimal interned) (decimal (slots kept))) written)
 
 pub len-kept-requires : goal.len-kept-requires
-len-kept-requires g c = field_small (texts_fields (param 0 g.row.A) g.A.Allocator) 0 _ _ refl assumption
+len-kept-requires g c = texts_arena_small (param 0 g.row.A) g.A.Allocator assumption
 
 pub items-requires : goal.items-requires
 items-requires g c =
-    (field_small (texts_fields (param 0 g.row.A) g.A.Allocator) 0 (texts_arena (param 0 g.row.A) g.A.Allocator) _ refl assumption, field_small (fields_of (texts_arena (param 0 g.row.A) g.A.Allocator)) 0 _ _ refl (field_small (texts_fields (param 0 g.row.A) g.A.Allocator) 0 (texts_arena (param 0 g.row.A) g.A.Allocator) _ refl assumption))
+    (texts_arena_small (param 0 g.row.A) g.A.Allocator assumption, texts_vec_small (param 0 g.row.A) g.A.Allocator assumption)
 
 pub slots-slots-requires : goal.slots-slots-requires
-slots-slots-requires g c = field_small (fields_of (texts_arena (param 0 g.row.A) g.A.Allocator)) 0 _ _ refl (field_small (texts_fields (param 0 g.row.A) g.A.Allocator) 0 (texts_arena (param 0 g.row.A) g.A.Allocator) _ refl assumption)
+slots-slots-requires g c = texts_vec_small (param 0 g.row.A) g.A.Allocator assumption
