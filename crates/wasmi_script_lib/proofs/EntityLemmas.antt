@@ -1,5 +1,5 @@
 -- What a store says of an entity that isn't there, and the key of one more.
-use Rattle.std.proofs.Common.{◌≡◌, ℕ, zero, suc, ◌≤◌, List, [], ◌∷◌, ◌++◌, codes, length, Bool, true, false, cond, ltb, Option, Some, None, refl, ap, ◌∙◌, inl, inr, arith}
+use Rattle.std.proofs.Common.{◌≡◌, ℕ, zero, suc, ◌<◌, ◌≤◌, List, [], ◌∷◌, ◌++◌, codes, length, Bool, true, false, cond, ltb, Option, Some, None, refl, sym, ap, ◌∙◌, inl, inr, arith}
 use Rattle.std.specs.Prelude.{◌≢◌, ◌⊎◌}
 use Rattle.std.specs.Option.{option_map}
 use Rattle.std.proofs.lemmas.Bool.{le-ltb, ltb-false, true_from_ne_false}
@@ -48,6 +48,14 @@ module _ (store : Store) (name : List ℕ) where
       either : (b : Bool) → cond {A = Option ℕ} b None None ≡ None
       either true = refl
       either false = refl
+
+-- what is read under a key, by its number
+pub under_key : {X Y : Type 0} (read : ℕ → Option X) (make : Y → X) (key number : ℕ) (had now : Y) → key ≡ number → read key ≡ Some (make had) → had ≡ now → read number ≡ Some (make now)
+under_key read make key number had now same at is = sym (ap read same) ∙ (at ∙ ap (λ y. Some (make y)) is)
+
+-- the key of an entity isn't past them
+pub not_past : (key number len : ℕ) → (key ≡ number) × (number < len) → len ≤ key → ⊥
+not_past key number len there past = omega (arith, there.0, there.1, past)
 
 -- what is replied where an entity has this property
 pub was-property : (found : Option Entity) (property : Option ℕ) → option_map (λ (entity : Entity). entity.property) found ≡ Some property → was_reply found ≡ codes "was " ++ property_text property

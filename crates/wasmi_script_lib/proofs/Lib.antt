@@ -6,4 +6,6 @@ pub mod NumberLemmas
 pub mod OutputLemmas
 pub mod ReadLemmas
 pub mod ReplyLemmas
+pub mod ResultLemmas
+pub mod Sizes
 pub mod StoreLemmas

@@ -1,10 +1,10 @@
-use Rattle.std.proofs.Common.{◌≡◌, Err, None, Some, codes, decimal, slice_get, string_bytes, ap, sym, ◌∙◌, arith}
+use Rattle.std.proofs.Common.{◌≡◌, Err, None, Some, codes, decimal, slice_get, string_bytes, length, ap, sym, ◌∙◌}
 use Rattle.std.specs.Option.{option_map}
 use Rattle.std.proofs.lemmas.Option.{slice_get_past}
 use Rattle.std.proofs.lemmas.Result.{on_ok_weaker}
 use Rattle.wasmi_script_lib.specs.Sessions.{with_store}
 use Rattle.wasmi_script_lib.specs.Store.{Entity}
-use Rattle.wasmi_script_lib.proofs.EntityLemmas.{property_of_none, was-property}
+use Rattle.wasmi_script_lib.proofs.EntityLemmas.{not_past, property_of_none, under_key, was-property}
 use Rattle.wasmi_script_lib.proofs.ReplyLemmas.{not_either, word_text}
 use Rattle.wasmi_script_lib.proofs.entities.set.Goals as goal
 
@@ -18,18 +18,24 @@ returns-in_default-clause-reply g c =
 
 pub returns-in_ok-writeln-in-Ok-Some-clause-reply : goal.returns-in_ok-writeln-in-Ok-Some-clause-reply
 returns-in_ok-writeln-in-Ok-Some-clause-reply g c =
-    let had : option_map (λ (entity : Entity). entity.property) (slice_get c.args.store.now.entities c.args.key) ≡ Some (Some c.in-Ok-Some.old) = cc (c.in-Some.ensures.there.0, c.in-Ok-Some.ensures.old, c.in-Ok-Some.field-0-is) in
+    let had : option_map (λ (entity : Entity). entity.property) (slice_get c.args.store.now.entities c.args.key) ≡ Some (Some c.in-Ok-Some.old) = under_key (λ key. option_map (λ (entity : Entity). entity.property) (slice_get c.args.store.now.entities key)) (λ had. had) c.in-Some.key c.args.key c.in-Ok-Some.field-0 (Some c.in-Ok-Some.old) c.in-Some.ensures.there.0 c.in-Ok-Some.ensures.old c.in-Ok-Some.field-0-is in
     rw (was-property _ _ had) (c.in_ok-writeln-in-Ok-Some.ensures.bytes ∙ word_text (string_bytes c.args.replies.now) (codes "was ") (decimal c.in-Ok-Some.old))
 
 pub returns-in_ok-writeln-in-Ok-None-clause-reply : goal.returns-in_ok-writeln-in-Ok-None-clause-reply
 returns-in_ok-writeln-in-Ok-None-clause-reply g c =
-    let had : option_map (λ (entity : Entity). entity.property) (slice_get c.args.store.now.entities c.args.key) ≡ Some None = cc (c.in-Some.ensures.there.0, c.in-Ok-None.ensures.old, c.in-Ok-None.field-0-is) in
+    let had : option_map (λ (entity : Entity). entity.property) (slice_get c.args.store.now.entities c.args.key) ≡ Some None = under_key (λ key. option_map (λ (entity : Entity). entity.property) (slice_get c.args.store.now.entities key)) (λ had. had) c.in-Some.key c.args.key c.in-Ok-None.field-0 None c.in-Some.ensures.there.0 c.in-Ok-None.ensures.old c.in-Ok-None.field-0-is in
     rw (was-property _ _ had) c.in_ok-writeln-in-Ok-None.ensures.bytes
 
 pub returns-in-Err-clause-state : goal.returns-in-Err-clause-state
 returns-in-Err-clause-state g c =
-    on_ok_weaker c.reply_error-in-Err.result (λ memory. absurd (not_either c.in-Err.ensures.errors (λ past. let beyond = c.in-Err.ensures.out_of_bounds.0 (ap Err past) in let there = c.in-Some.ensures.there in omega (arith, beyond, there.0, there.1)) memory)) c.reply_error-in-Err.ensures.memory
+    on_ok_weaker c.reply_error-in-Err.result (λ memory. absurd (not_either c.in-Err.ensures.errors (λ past. not_past c.in-Some.key c.args.key (length c.args.store.now.entities) c.in-Some.ensures.there (c.in-Err.ensures.out_of_bounds.0 (ap Err past))) memory)) c.reply_error-in-Err.ensures.memory
 
 pub returns-in-Err-clause-reply : goal.returns-in-Err-clause-reply
 returns-in-Err-clause-reply g c =
-    on_ok_weaker c.reply_error-in-Err.result (λ memory. absurd (not_either c.in-Err.ensures.errors (λ past. let beyond = c.in-Err.ensures.out_of_bounds.0 (ap Err past) in let there = c.in-Some.ensures.there in omega (arith, beyond, there.0, there.1)) memory)) c.reply_error-in-Err.ensures.memory
+    on_ok_weaker c.reply_error-in-Err.result (λ memory. absurd (not_either c.in-Err.ensures.errors (λ past. not_past c.in-Some.key c.args.key (length c.args.store.now.entities) c.in-Some.ensures.there (c.in-Err.ensures.out_of_bounds.0 (ap Err past))) memory)) c.reply_error-in-Err.ensures.memory
+
+pub key-requires : goal.key-requires
+key-requires g c = assumption
+
+pub set-requires : goal.set-requires
+set-requires g c = assumption

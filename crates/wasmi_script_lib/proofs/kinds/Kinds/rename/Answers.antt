@@ -1,9 +1,10 @@
-use Rattle.std.proofs.Common.{◌≡◌, ℕ, List, [], map, string_bytes, Some, None, slice_set, slice_index_or, is_some, ap, sym, refl, ◌∙◌, true≢false}
+use Rattle.std.proofs.Common.{◌≡◌, ℕ, List, [], map, string_bytes, Some, None, slice_set, slice_index_or, is_ok, is_some, ap, sym, refl, ◌∙◌, true≢false}
 use Rattle.std.specs.declared.string.String.{String}
 use Rattle.std.proofs.lemmas.Option.{get_or_from_slice_get, slice_get-get_or, none-some, same_Some}
-use Rattle.std.proofs.lemmas.Result.{err_from_is_err_and}
+use Rattle.wasmi_arena.specs.declared.error.ArenaError.TheVariants.{DuplicateItem}
 use Rattle.wasmi_collections.specs.Dedup.{DedupState}
 use Rattle.wasmi_collections.specs.Interner.{symbol_of}
+use Rattle.wasmi_script_lib.proofs.ResultLemmas.{passed, was_met}
 use Rattle.wasmi_script_lib.proofs.StoreLemmas.{either_way, no_place_found, place_found, renamed-again, renamed-set}
 use Rattle.wasmi_script_lib.proofs.kinds.Kinds.rename.Goals as goal
 
@@ -23,11 +24,11 @@ pub returns-in_err-replace-in-None-clause-duplicate : goal.returns-in_err-replac
 returns-in_err-replace-in-None-clause-duplicate g c =
     let old = c.self.inside.texts in
     let absent : symbol_of (texts_of old) c.args.kind.now ≡ None = no_place_found _ c.in-None.ensures.value in
-    let error = err_from_is_err_and c.from_residual-in_err-replace-in-None.result c.from_residual-in_err-replace-in-None.ensures.1 in
+    let met = passed c.from_residual-in_err-replace-in-None.result c.in_err-replace-in-None.field-0.0 c.from_residual-in_err-replace-in-None.ensures.1 in
     let value = c.in_ok-from_str-in-None.field-0 in
     let nowhere = c.strings_by_bytes.ensures old.handed value ∙ (ap (symbol_of (texts_of old)) c.in_ok-from_str-in-None.ensures.ok ∙ absent) in
     rw (← c.self.view_is) (
-      λ is. absurd (let there = c.in_err-replace-in-None.ensures.duplicate.0 (cc (error.1, error.2, is)) in none-some there.1.0 (sym nowhere ∙ there.1.1)),
+      λ is. absurd (let there = c.in_err-replace-in-None.ensures.duplicate.0 (was_met c.from_residual-in_err-replace-in-None.result c.in_err-replace-in-None.field-0.0 DuplicateItem met is) in none-some there.1.0 (sym nowhere ∙ there.1.1)),
       λ has. absurd (true≢false (sym has.1 ∙ ap is_some absent)),
     )
 
@@ -43,7 +44,7 @@ returns-in-Some-clause-duplicate g c =
     let old = c.self.inside.texts in
     let found = place_found c.in-Some.there _ c.in-Some.ensures.value in
     let reads = c.symbols_of_distinct_texts.ensures.reads (texts_of old) c.args.kind.now c.in-Some.there found in
-    rw (← c.self.view_is) (λ is. absurd (cc is), λ has. absurd (has.0 (get_or_from_slice_get (texts_of old) c.args.number c.args.kind.now [] (rw (← c.if-there-number.true) reads))))
+    rw (← c.self.view_is) (λ is. absurd (true≢false (ap is_ok is)), λ has. absurd (has.0 (get_or_from_slice_get (texts_of old) c.args.number c.args.kind.now [] (rw (← c.if-there-number.true) reads))))
 
 pub returns-in-Some-2-clause-duplicate : goal.returns-in-Some-2-clause-duplicate
 returns-in-Some-2-clause-duplicate g c =

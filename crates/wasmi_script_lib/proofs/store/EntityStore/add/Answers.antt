@@ -1,27 +1,31 @@
-use Rattle.std.proofs.Common.{List, Err, ap, sym, subst, inl, inr, ◌∙◌, arith}
-use Rattle.std.proofs.lemmas.Result.{IfOk-weaker, on_ok_weaker, on_err_weaker, err_from_is_err_and}
+use Rattle.std.proofs.Common.{refl, List, Err, ap, sym, subst, inl, inr, ◌∙◌, arith}
+use Rattle.std.proofs.lemmas.Result.{IfOk-weaker, on_ok_weaker, on_err_weaker}
+use Rattle.wasmi_arena.specs.declared.error.ArenaError.TheVariants.{NotEnoughKeys}
 use Rattle.wasmi_script_lib.specs.Store.{Store, KeepsEntities, store_of, with_entity}
 use Rattle.wasmi_script_lib.specs.declared.store.Named.{Named}
+use Rattle.wasmi_script_lib.proofs.ResultLemmas.{is_passed, keys_not_memory, passed, was_met}
 use Rattle.wasmi_script_lib.proofs.StoreLemmas.{all_shown_length, full, keys_left, not_full, OnErr-of, shown_added, shown_kept, sound_kept, sound_pushed}
+use denote.Param.{copied}
+use Rattle.wasmi_script_lib.proofs.Sizes.{field_small, store_fields}
 use Rattle.wasmi_script_lib.proofs.store.EntityStore.add.Goals as goal
 
 pub returns-in_err-next_key-clause-no_key : goal.returns-in_err-next_key-clause-no_key
 returns-in_err-next_key-clause-no_key g c =
     let inside = c.self.inside in
-    let error = err_from_is_err_and c.from_residual.result c.from_residual.ensures.1 in
+    let met = passed c.from_residual.result c.in_err-next_key.field-0.0 c.from_residual.ensures.1 in
     let high = c.in_err-next_key.ensures.no_key.0 (ap Err c.in_err-next_key.ensures.errors) in
-    rw (← c.self.view_is) (λ is. full inside.names inside.kinds inside.properties inside.entities c.args.name.now high, λ _. cc (error.1, error.2, c.in_err-next_key.ensures.errors))
+    rw (← c.self.view_is) (λ is. full inside.names inside.kinds inside.properties inside.entities c.args.name.now high, λ _. met ∙ ap Err c.in_err-next_key.ensures.errors)
 
 pub returns-in_err-name-clause-no_key : goal.returns-in_err-name-clause-no_key
 returns-in_err-name-clause-no_key g c =
     let inside = c.self.inside in
-    let error = err_from_is_err_and c.from_residual-in_err-name.result c.from_residual-in_err-name.ensures.1 in
+    let met = passed c.from_residual-in_err-name.result c.in_err-name.field-0.0 c.from_residual-in_err-name.ensures.1 in
     let no_symbol = c.in_err-name.ensures.no_symbol in
     rw (← c.self.view_is) (
-      λ is. inr (no_symbol.0 (cc (error.1, error.2, is))),
+      λ is. inr (no_symbol.0 (was_met c.from_residual-in_err-name.result c.in_err-name.field-0.0 NotEnoughKeys met is)),
       λ full. elim full [
         | inl all ↦ absurd (keys_left inside.names inside.kinds inside.properties inside.entities c.in_ok-next_key.ensures.has_key all)
-        | inr new ↦ let same = no_symbol.1 new in cc (error.1, error.2, same)
+        | inr new ↦ is_passed c.from_residual-in_err-name.result c.in_err-name.field-0.0 NotEnoughKeys met (no_symbol.1 new)
       ],
     )
 
@@ -33,9 +37,9 @@ invariant_of-self-in_err-kind g c =
 pub returns-in_err-kind-clause-no_key : goal.returns-in_err-kind-clause-no_key
 returns-in_err-kind-clause-no_key g c =
     let inside = c.self.inside in
-    let error = err_from_is_err_and c.from_residual-in_err-kind.result c.from_residual-in_err-kind.ensures.1 in
+    let met = passed c.from_residual-in_err-kind.result c.in_err-kind.field-0.0 c.from_residual-in_err-kind.ensures.1 in
     let memory = c.in_err-kind.ensures.errors in
-    rw (← c.self.view_is) (λ is. absurd (cc (error.1, error.2, is, memory)), λ all. absurd (not_full inside.names inside.kinds inside.properties inside.entities c.args.name.now c.in_ok-name.name c.in_ok-next_key.ensures.has_key c.in_ok-name.ensures.no_symbol.1 all))
+    rw (← c.self.view_is) (λ is. absurd (keys_not_memory c.from_residual-in_err-kind.result c.in_err-kind.field-0.0 met is memory), λ all. absurd (not_full inside.names inside.kinds inside.properties inside.entities c.args.name.now c.in_ok-name.name c.in_ok-next_key.ensures.has_key c.in_ok-name.ensures.no_symbol.1 all))
 
 pub returns-in_err-kind-clause-err : goal.returns-in_err-kind-clause-err
 returns-in_err-kind-clause-err g c =
@@ -70,3 +74,14 @@ pub returns-clause-key : goal.returns-clause-key
 returns-clause-key g c =
     let inside = c.self.inside in
     rw (← c.self.view_is) (IfOk-weaker c.alloc.result _ _ (λ key is. is ∙ sym (all_shown_length inside.names inside.kinds inside.properties 0 inside.entities)) c.alloc.ensures.key)
+
+pub next_key-requires : goal.next_key-requires
+next_key-requires g c = field_small (store_fields (copied 0 g.row.A) g.A.Allocator) 0 _ _ refl assumption
+
+pub alloc-requires : goal.alloc-requires
+alloc-requires g c = field_small (store_fields (copied 0 g.row.A) g.A.Allocator) 0 _ _ refl assumption
+
+pub returns-clause-unchanged : goal.returns-clause-unchanged
+returns-clause-unchanged g c =
+    let low = c.in_ok-next_key.ensures.has_key in
+    λ is. absurd (let high = c.alloc.ensures.no_key.0 is in omega (arith, high, low))

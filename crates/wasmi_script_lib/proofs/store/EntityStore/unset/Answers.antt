@@ -1,4 +1,4 @@
-use Rattle.std.proofs.Common.{◌∙◌, Some, None, ap, refl, sym, arith}
+use Rattle.std.proofs.Common.{◌∙◌, Some, None, is_ok, ap, refl, sym, true≢false, arith}
 use Rattle.wasmi_script_lib.specs.Store.{Store, with_property}
 use Rattle.wasmi_script_lib.proofs.StoreLemmas.{all_shown_length, all_shown_slot, shown_property}
 use Rattle.wasmi_script_lib.proofs.store.EntityStore.unset.Goals as goal
@@ -19,7 +19,13 @@ returns-then-has-clause-ok g c =
 pub returns-then-has-clause-out_of_bounds : goal.returns-then-has-clause-out_of_bounds
 returns-then-has-clause-out_of_bounds g c =
     let low = c.has.ensures.there c.if-has.true in
-    (λ is. absurd (cc is), λ past. absurd (omega (arith, past, low)))
+    (λ is. absurd (true≢false (ap is_ok is)), λ past. absurd (omega (arith, past, low)))
 
 pub returns-else-has-clause-out_of_bounds : goal.returns-else-has-clause-out_of_bounds
 returns-else-has-clause-out_of_bounds g c = (λ is. c.has.ensures.past c.if-has.false, λ past. refl)
+
+pub has-requires : goal.has-requires
+has-requires g c = assumption
+
+pub invariant_of-self : goal.invariant_of-self
+invariant_of-self g c = record { named = c.self.invariant.named; few = rw c.unset.ensures.extent c.self.invariant.few }

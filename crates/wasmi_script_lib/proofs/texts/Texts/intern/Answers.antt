@@ -1,4 +1,4 @@
-use Rattle.std.proofs.Common.{ℕ, List, Err, codes, decimal, string_bytes, ap, subst, ◌∙◌}
+use Rattle.std.proofs.Common.{ℕ, List, Err, codes, decimal, is_ok, string_bytes, ap, subst, true≢false, ◌∙◌}
 use Rattle.std.proofs.lemmas.Result.{on_ok_weaker}
 use Rattle.wasmi_arena.specs.declared.error.ArenaError.{ArenaError}
 use Rattle.wasmi_script_lib.specs.Replies.{error_reply}
@@ -16,12 +16,12 @@ with_interned texts interned = record (with_texts texts) { interned = interned }
 pub returns-in_ok-writeln-in-Ok-clause-state : goal.returns-in_ok-writeln-in-Ok-clause-state
 returns-in_ok-writeln-in-Ok-clause-state g c =
     let clause = c.in-Ok.ensures in
-    ap (with_interned c.args.self.now) (interned-number c.args.self.now.interner c.args.text.now c.get_or_intern.new.self c.in-Ok.symbol (λ s is. (clause.there s is).1) clause.new clause.known (λ full. absurd (cc (clause.no_symbol.1 full)))).1
+    ap (with_interned c.args.self.now) (interned-number c.args.self.now.interner c.args.text.now c.get_or_intern.new.self c.in-Ok.symbol (λ s is. (clause.there s is).1) clause.new clause.known (λ full. true≢false (ap is_ok (clause.no_symbol.1 full)))).1
 
 pub returns-in_ok-writeln-in-Ok-clause-reply : goal.returns-in_ok-writeln-in-Ok-clause-reply
 returns-in_ok-writeln-in-Ok-clause-reply g c =
     let clause = c.in-Ok.ensures in
-    rw (interned-number c.args.self.now.interner c.args.text.now c.get_or_intern.new.self c.in-Ok.symbol (λ s is. (clause.there s is).1) clause.new clause.known (λ full. absurd (cc (clause.no_symbol.1 full)))).0
+    rw (interned-number c.args.self.now.interner c.args.text.now c.get_or_intern.new.self c.in-Ok.symbol (λ s is. (clause.there s is).1) clause.new clause.known (λ full. true≢false (ap is_ok (clause.no_symbol.1 full)))).0
     (c.in_ok-writeln-in-Ok.ensures.bytes ∙ word_text (string_bytes c.args.replies.now) (codes "sym ") (decimal c.in-Ok.symbol))
 
 pub returns-in-Err-clause-state : goal.returns-in-Err-clause-state
