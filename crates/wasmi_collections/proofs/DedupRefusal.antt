@@ -7,13 +7,11 @@ use Rattle.std.specs.Result.{IsErrAnd}
 use Rattle.wasmi_arena.specs.Keys.{Keys}
 use Rattle.wasmi_arena.specs.declared.error.ArenaError.{ArenaError}
 use Rattle.wasmi_arena.specs.declared.error.ArenaError.TheVariants.{OutOfSystemMemory, KeyOutOfBounds, NotEnoughKeys, DuplicateItem}
+use Rattle.wasmi_arena.proofs.Results.{same_error}
 use Rattle.wasmi_map_specs.specs.Maps.{value_at}
 use Rattle.wasmi_collections.specs.Dedup.{DedupState, IsIndex, HasOtherKey, RefusesReplace, RefusesValue, in_order}
 use Rattle.wasmi_collections.proofs.Dedup.{index-absent}
 use Rattle.wasmi_collections.proofs.DedupRuns.{some_is}
-
-same_error : {X : Type 0} (x y : ArenaError) → ◌≡◌ {A = Result X ArenaError} (Err x) (Err y) → x ≡ y
-same_error x y is = cc
 
 errors_apart : OutOfSystemMemory ≡ NotEnoughKeys → ⊥
 errors_apart same = absurd (cc)
@@ -59,7 +57,7 @@ module _ {K T : Type 0} (keys : Keys K) (eq : T → T → Bool) (old : DedupStat
       record {
         fails = refl;
         there = λ p at. absurd (none-some p (sym (absent error why) ∙ at));
-        no_key = (λ none. subst (RefusesValue keys eq old value) (same_error e NotEnoughKeys none) refuses, λ full. ap Err (no_key_for e refuses full.1));
+        no_key = (λ none. subst (RefusesValue keys eq old value) (same_error none) refuses, λ full. ap Err (no_key_for e refuses full.1));
         refused = refuses;
         err = same;
         kept = λ other p at. subst (λ (state : DedupState T). position (eq other) state.handed ≡ Some p) (sym same) at;
@@ -95,7 +93,7 @@ module _ {K : Type 0} (keys : Keys K) (found : Option ℕ) (n : ℕ) where
   not_added-memory (Ok key) passed is meant low = absurd is
   not_added-memory (Err e) passed is meant low = record {
     fails = refl;
-    no_key = (λ no_key. absurd (errors_apart (sym (is ∙ meant) ∙ same_error e NotEnoughKeys no_key)), λ full. absurd (not-le_of_lt low full.1));
+    no_key = (λ no_key. absurd (errors_apart (sym (is ∙ meant) ∙ same_error no_key)), λ full. absurd (not-le_of_lt low full.1));
     errors = inr (is ∙ meant);
   }
 
@@ -135,8 +133,8 @@ module _ {K T : Type 0} (keys : Keys K) (eq : T → T → Bool) (old : DedupStat
       let refuses : RefusesReplace keys eq old key value e = subst (RefusesReplace keys eq old key value) (sym (is ∙ meant)) why in
       record {
         fails = refl;
-        out_of_bounds = (λ past. subst (RefusesReplace keys eq old key value) (same_error e KeyOutOfBounds past) refuses, λ past. ap Err (beyond e refuses past));
-        duplicate = (λ other. subst (RefusesReplace keys eq old key value) (same_error e DuplicateItem other) refuses, λ other. ap Err (elsewhere e refuses other));
+        out_of_bounds = (λ past. subst (RefusesReplace keys eq old key value) (same_error past) refuses, λ past. ap Err (beyond e refuses past));
+        duplicate = (λ other. subst (RefusesReplace keys eq old key value) (same_error other) refuses, λ other. ap Err (elsewhere e refuses other));
         refused = refuses;
         same_key = λ at. absurd (not_here lists e refuses at);
         err = same;

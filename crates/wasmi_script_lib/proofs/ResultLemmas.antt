@@ -1,15 +1,9 @@
 -- What a `?` passes on, and which errors aren't the same.
-use Rattle.std.proofs.Common.{◌≡◌, Result, Ok, Err, ap, ◌∙◌}
-use Rattle.std.specs.Result.{IsErrAnd}
+use Rattle.std.proofs.Common.{◌≡◌, Result, Err, ap, ◌∙◌}
 use Rattle.wasmi_arena.specs.declared.error.ArenaError.{ArenaError}
 use Rattle.wasmi_arena.specs.declared.error.ArenaError.TheVariants.{DuplicateItem, KeyOutOfBounds, NotEnoughKeys, OutOfSystemMemory}
 
--- the error that a `?` met
-pub passed : {T E : Type 0} (r : Result T E) (error : E) → IsErrAnd r (λ e. e ≡ error) → r ≡ Err error
-passed (Ok x) error is = absurd is
-passed (Err e) error is = ap Err is
-
--- what it passes on was met, and what it met is passed on
+-- what a `?` passes on was met, and what it met is passed on
 pub was_met : {T U : Type 0} (r : Result T ArenaError) (error x : ArenaError) → r ≡ Err error → r ≡ Err x → ◌≡◌ {A = Result U ArenaError} (Err error) (Err x)
 was_met r error x met is = let same : error ≡ x = cc (met, is) in ap Err same
 

@@ -4,7 +4,8 @@ use Rattle.std.proofs.lemmas.Option.{get_or_from_slice_get, slice_get-get_or, no
 use Rattle.wasmi_arena.specs.declared.error.ArenaError.TheVariants.{DuplicateItem}
 use Rattle.wasmi_collections.specs.Dedup.{DedupState}
 use Rattle.wasmi_collections.specs.Interner.{symbol_of}
-use Rattle.wasmi_script_lib.proofs.ResultLemmas.{passed, was_met}
+use Rattle.wasmi_arena.proofs.Results.{passed_is}
+use Rattle.wasmi_script_lib.proofs.ResultLemmas.{was_met}
 use Rattle.wasmi_script_lib.proofs.StoreLemmas.{either_way, no_place_found, place_found, renamed-again, renamed-set}
 use Rattle.wasmi_script_lib.proofs.kinds.Kinds.rename.Goals as goal
 
@@ -24,7 +25,7 @@ pub returns-in_err-replace-in-None-clause-duplicate : goal.returns-in_err-replac
 returns-in_err-replace-in-None-clause-duplicate g c =
     let old = c.self.inside.texts in
     let absent : symbol_of (texts_of old) c.args.kind.now ≡ None = no_place_found _ c.in-None.ensures.value in
-    let met = passed c.from_residual-in_err-replace-in-None.result c.in_err-replace-in-None.field-0.0 c.from_residual-in_err-replace-in-None.ensures.1 in
+    let met = passed_is c.from_residual-in_err-replace-in-None.result c.in_err-replace-in-None.field-0.0 c.from_residual-in_err-replace-in-None.ensures.1 in
     let value = c.in_ok-from_str-in-None.field-0 in
     let nowhere = c.strings_by_bytes.ensures old.handed value ∙ (ap (symbol_of (texts_of old)) c.in_ok-from_str-in-None.ensures.ok ∙ absent) in
     rw (← c.self.view_is) (

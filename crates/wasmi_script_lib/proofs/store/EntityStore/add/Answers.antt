@@ -3,7 +3,8 @@ use Rattle.std.proofs.lemmas.Result.{IfOk-weaker, on_ok_weaker, on_err_weaker}
 use Rattle.wasmi_arena.specs.declared.error.ArenaError.TheVariants.{NotEnoughKeys}
 use Rattle.wasmi_script_lib.specs.Store.{Store, KeepsEntities, store_of, with_entity}
 use Rattle.wasmi_script_lib.specs.declared.store.Named.{Named}
-use Rattle.wasmi_script_lib.proofs.ResultLemmas.{is_passed, keys_not_memory, passed, was_met}
+use Rattle.wasmi_arena.proofs.Results.{passed_is}
+use Rattle.wasmi_script_lib.proofs.ResultLemmas.{is_passed, keys_not_memory, was_met}
 use Rattle.wasmi_script_lib.proofs.StoreLemmas.{all_shown_length, full, keys_left, not_full, OnErr-of, shown_added, shown_kept, sound_kept, sound_pushed}
 use denote.Param.{copied}
 use Rattle.wasmi_script_lib.proofs.Sizes.{field_small, store_fields}
@@ -12,14 +13,14 @@ use Rattle.wasmi_script_lib.proofs.store.EntityStore.add.Goals as goal
 pub returns-in_err-next_key-clause-no_key : goal.returns-in_err-next_key-clause-no_key
 returns-in_err-next_key-clause-no_key g c =
     let inside = c.self.inside in
-    let met = passed c.from_residual.result c.in_err-next_key.field-0.0 c.from_residual.ensures.1 in
+    let met = passed_is c.from_residual.result c.in_err-next_key.field-0.0 c.from_residual.ensures.1 in
     let high = c.in_err-next_key.ensures.no_key.0 (ap Err c.in_err-next_key.ensures.errors) in
     rw (← c.self.view_is) (λ is. full inside.names inside.kinds inside.properties inside.entities c.args.name.now high, λ _. met ∙ ap Err c.in_err-next_key.ensures.errors)
 
 pub returns-in_err-name-clause-no_key : goal.returns-in_err-name-clause-no_key
 returns-in_err-name-clause-no_key g c =
     let inside = c.self.inside in
-    let met = passed c.from_residual-in_err-name.result c.in_err-name.field-0.0 c.from_residual-in_err-name.ensures.1 in
+    let met = passed_is c.from_residual-in_err-name.result c.in_err-name.field-0.0 c.from_residual-in_err-name.ensures.1 in
     let no_symbol = c.in_err-name.ensures.no_symbol in
     rw (← c.self.view_is) (
       λ is. inr (no_symbol.0 (was_met c.from_residual-in_err-name.result c.in_err-name.field-0.0 NotEnoughKeys met is)),
@@ -37,7 +38,7 @@ invariant_of-self-in_err-kind g c =
 pub returns-in_err-kind-clause-no_key : goal.returns-in_err-kind-clause-no_key
 returns-in_err-kind-clause-no_key g c =
     let inside = c.self.inside in
-    let met = passed c.from_residual-in_err-kind.result c.in_err-kind.field-0.0 c.from_residual-in_err-kind.ensures.1 in
+    let met = passed_is c.from_residual-in_err-kind.result c.in_err-kind.field-0.0 c.from_residual-in_err-kind.ensures.1 in
     let memory = c.in_err-kind.ensures.errors in
     rw (← c.self.view_is) (λ is. absurd (keys_not_memory c.from_residual-in_err-kind.result c.in_err-kind.field-0.0 met is memory), λ all. absurd (not_full inside.names inside.kinds inside.properties inside.entities c.args.name.now c.in_ok-name.name c.in_ok-next_key.ensures.has_key c.in_ok-name.ensures.no_symbol.1 all))
 
