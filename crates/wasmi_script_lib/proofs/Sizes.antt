@@ -9,7 +9,7 @@ use prog.Align.{field_in}
 use prog.Memory.{field_at, size}
 use denote.Param.{layout}
 use denote.RattleType.{RattleType}
-use Rattle.core.specs.declared.alloc.Allocator as Allocator
+use Rattle.std.specs.declared.alloc.Allocator as Allocator
 use Rattle.wasmi_script_lib.specs.contracts.store.EntityStore as EntityStore
 use Rattle.wasmi_script_lib.specs.contracts.texts.Texts as Texts
 
