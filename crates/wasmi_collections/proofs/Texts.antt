@@ -13,25 +13,23 @@ use Rattle.wasmi_collections.specs.declared.string_interner.texts.Part.{Part}
 
 module _ (joined : List ℕ) where
   pub length-texts_at : (parts : List Part) → length (texts_at joined parts) ≡ length parts
-  length-texts_at parts = length-map parts (λ part. slice_range joined part.start part.end)
+  length-texts_at parts = length-map parts (λ part. slice_range joined part.start (part.start + part.len))
 
   -- the text at a position is the part there
-  pub text_at : (parts : List Part) (i : ℕ) (d : Part) → i < length (texts_at joined parts) → slice_get (texts_at joined parts) i ≡ Some (slice_range joined (get_or parts i d).start (get_or parts i d).end)
+  pub text_at : (parts : List Part) (i : ℕ) (d : Part) → i < length (texts_at joined parts) → let part : Part = get_or parts i d in slice_get (texts_at joined parts) i ≡ Some (slice_range joined part.start (part.start + part.len))
   text_at parts i d within =
-      let range : Part → List ℕ = λ part. slice_range joined part.start part.end in
+      let range : Part → List ℕ = λ part. slice_range joined part.start (part.start + part.len) in
       slice_get-map range parts i ∙ ap (option_map range) (slice_get-get_or parts i d (omega (arith, within, length-texts_at parts)))
 
-  -- a part ends at or behind its start, and both lie between characters
+  -- a part begins and ends between characters
   pub record IsPart (part : Part) : Type 0 where
-    pub ends : part.start ≤ part.end
     pub start : 0 < part.start → IsCharBoundary joined part.start
-    pub end : IsCharBoundary joined part.end
+    pub end : IsCharBoundary joined (part.start + part.len)
 
   part_from : (from : ℕ) (parts : List Part) (i : ℕ) (d : Part) → (0 < from → IsCharBoundary joined from) → AreJoined joined from parts → i < length parts → IsPart (get_or parts i d)
   part_from from [] i d begins are within = absurd (omega (arith, within))
-  part_from from (part ∷ parts) zero d begins are within =
-      record { ends = omega (arith, are.0, are.1); start = rw (are.0) begins; end = are.2 }
-  part_from from (part ∷ parts) (suc i) d begins are within = part_from part.end parts i d (λ _. are.2) are.3 (omega (arith, within))
+  part_from from (part ∷ parts) zero d begins are within = record { start = rw (are.0) begins; end = rw (are.0) are.1 }
+  part_from from (part ∷ parts) (suc i) d begins are within = part_from (from + part.len) parts i d (λ _. are.1) are.2 (omega (arith, within))
 
   pub part_at : (parts : List Part) (i : ℕ) (d : Part) → AreJoined joined 0 parts → i < length (texts_at joined parts) → IsPart (get_or parts i d)
   part_at parts i d are within =
@@ -48,34 +46,37 @@ module _ (joined : List ℕ) where
           (omega (arith, is.0, length-append joined text), λ within high. omega (arith, same, is.1 less.1 (omega (arith, same, high))))
     ]
 
-    pub AreJoined-push : IsUtf8 text → (from : ℕ) (parts : List Part) → AreJoined joined from parts → AreJoined (joined ++ text) from (parts ++ record { start = length joined; end = length (joined ++ text) } ∷ [])
-    AreJoined-push utf8 from [] are = (sym are, omega (arith, are, length-append joined text), (omega arith, λ within. absurd (omega (arith, within))), refl)
-    AreJoined-push utf8 from (part ∷ parts) are = (are.0, are.1, boundary_kept utf8 part.end are.2, AreJoined-push utf8 part.end parts are.3)
+    pub AreJoined-push : IsUtf8 text → (from : ℕ) (parts : List Part) → AreJoined joined from parts → AreJoined (joined ++ text) from (parts ++ record { start = length joined; len = length text } ∷ [])
+    AreJoined-push utf8 from [] are =
+        let end : from + length text ≡ length (joined ++ text) = omega (arith, are, length-append joined text) in
+        (sym are, (omega (arith, end), λ within. absurd (omega (arith, within, end))), end)
+    AreJoined-push utf8 from (part ∷ parts) are = (are.0, boundary_kept utf8 (from + part.len) are.1, AreJoined-push utf8 (from + part.len) parts are.2)
 
-    pub texts_at-push : (from : ℕ) (parts : List Part) → AreJoined joined from parts → texts_at (joined ++ text) (parts ++ record { start = length joined; end = length (joined ++ text) } ∷ []) ≡ texts_at joined parts ++ text ∷ []
+    pub texts_at-push : (from : ℕ) (parts : List Part) → AreJoined joined from parts → texts_at (joined ++ text) (parts ++ record { start = length joined; len = length text } ∷ []) ≡ texts_at joined parts ++ text ∷ []
     texts_at-push from [] are =
-        let n = length (joined ++ text) - length joined in
-        ap (λ last. last ∷ []) (ap (take n) (drop_at joined text (length joined) refl) ∙ take_all n text (omega (arith, length-append joined text)))
+        let n = length joined + length text - length joined in
+        ap (λ last. last ∷ []) (ap (take n) (drop_at joined text (length joined) refl) ∙ take_all n text (omega arith))
     texts_at-push from (part ∷ parts) are =
-        let first : slice_range (joined ++ text) part.start part.end ≡ slice_range joined part.start part.end =
-        ap (take (part.end - part.start)) (drop-append-le part.start joined text (omega (arith, are.0, are.1, are.2.0)))
-        ∙ take-append-le (part.end - part.start) (drop part.start joined) text (omega (arith, are.0, are.1, are.2.0, length-drop part.start joined)) in
-        let rest = texts_at-push part.end parts are.3 in
+        let n = part.start + part.len - part.start in
+        let first : slice_range (joined ++ text) part.start (part.start + part.len) ≡ slice_range joined part.start (part.start + part.len) =
+        ap (take n) (drop-append-le part.start joined text (omega (arith, are.0, are.1.0)))
+        ∙ take-append-le n (drop part.start joined) text (omega (arith, are.0, are.1.0, length-drop part.start joined)) in
+        let rest = texts_at-push (from + part.len) parts are.2 in
         λ i. first i ∷ rest i
 
 -- ---- texts that are equal
 
-length-part : (joined : List ℕ) (from end : ℕ) → from ≤ end → end ≤ length joined → from + length (slice_range joined from end) ≡ end
-length-part joined from end le within =
-    omega (arith, le, within, length-take-le (end - from) (drop from joined) (omega (arith, le, within, length-drop from joined)))
+length-part : (joined : List ℕ) (from len : ℕ) → from + len ≤ length joined → length (slice_range joined from (from + len)) ≡ len
+length-part joined from len within =
+    omega (arith, within, length-take-le (from + len - from) (drop from joined) (omega (arith, within, length-drop from joined)))
 
 -- what two parts are compared by
 abbrev pub part_eq : Part → Part → Bool
-part_eq p q = nat_eq p.start q.start && nat_eq p.end q.end
+part_eq p q = nat_eq p.start q.start && nat_eq p.len q.len
 
 part_Decides : (p q : Part) → Decides (part_eq p q) (p ≡ q)
 part_Decides p q =
-    Decides-like _ (λ same. λ i. record { start = same.0 i; end = same.1 i }) (λ same. (ap (λ (r : Part). r.start) same, ap (λ (r : Part). r.end) same)) (Decides-and _ _ (Decides-eqb p.start q.start) (Decides-eqb p.end q.end))
+    Decides-like _ (λ same. λ i. record { start = same.0 i; len = same.1 i }) (λ same. (ap (λ (r : Part). r.start) same, ap (λ (r : Part). r.len) same)) (Decides-and _ _ (Decides-eqb p.start q.start) (Decides-eqb p.len q.len))
 
 module _ (xs ys : List ℕ) where
   -- texts tell what they are joined to, and where each lies
@@ -84,14 +85,15 @@ module _ (xs ys : List ℕ) where
   same_parts from [] (q ∷ qs) left right same = absurd (cc)
   same_parts from (p ∷ ps) [] left right same = absurd (cc)
   same_parts from (p ∷ ps) (q ∷ qs) left right same =
-      let text : slice_range xs p.start p.end ≡ slice_range ys q.start q.end = cc in
-      let first : slice_range xs from p.end ≡ slice_range ys from q.end =
-      ap (λ start. slice_range xs start p.end) (sym left.0) ∙ (text ∙ ap (λ start. slice_range ys start q.end) right.0) in
+      let text : slice_range xs p.start (p.start + p.len) ≡ slice_range ys q.start (q.start + q.len) = cc in
+      let first : slice_range xs from (from + p.len) ≡ slice_range ys from (from + q.len) =
+      ap (λ start. slice_range xs start (start + p.len)) (sym left.0) ∙ (text ∙ ap (λ start. slice_range ys start (start + q.len)) right.0) in
       let others : texts_at xs ps ≡ texts_at ys qs = cc in
-      let end : q.end ≡ p.end = omega (arith, ap length first, length-part xs from p.end left.1 left.2.0, length-part ys from q.end right.1 right.2.0) in
-      let rest = same_parts p.end ps qs left.3 (rw end at right.3) others in (
-        drop_split xs from p.end left.1 ∙ ((λ i. first i ++ rest.0 i) ∙ (ap (λ e. slice_range ys from q.end ++ drop e ys) (sym end) ∙ sym (drop_split ys from q.end right.1))),
-        (λ i. record { start = (left.0 ∙ sym right.0) i; end = sym end i } ∷ rest.1 i),
+      let len : q.len ≡ p.len = omega (arith, ap length first, length-part xs from p.len left.1.0, length-part ys from q.len right.1.0) in
+      let rest = same_parts (from + p.len) ps qs left.2 (rw len at right.2) others in (
+        drop_split xs from (from + p.len) (omega arith) ∙ ((λ i. first i ++ rest.0 i)
+            ∙ (ap (λ n. slice_range ys from (from + q.len) ++ drop (from + n) ys) (sym len) ∙ sym (drop_split ys from (from + q.len) (omega arith)))),
+        (λ i. record { start = (left.0 ∙ sym right.0) i; len = sym len i } ∷ rest.1 i),
       )
 
   pub texts_equal : (ps qs : List Part) → AreJoined xs 0 ps → AreJoined ys 0 qs → (bytes_eq xs ys && pointwise part_eq ps qs) ≡ pointwise bytes_eq (texts_at xs ps) (texts_at ys qs)

@@ -14,11 +14,11 @@ pub(super) struct Texts<A: Allocator> {
     parts: Vec<Part, A>,
 }
 
-// Where a text lies: from a byte on, and before another.
+// Where a text lies: from a byte on, so many bytes.
 #[derive(Clone, Copy, PartialEq)]
 struct Part {
     start: usize,
-    end: usize,
+    len: usize,
 }
 
 impl<A: Allocator> Model for Texts<A> {
@@ -68,7 +68,7 @@ impl<A: Allocator> Texts<A> {
         ensures { slice_get self.now position ≡ Some result.now }
     {
         let part = self.parts[position];
-        &self.joined.as_str()[part.start..part.end]
+        &self.joined.as_str()[part.start..part.start + part.len]
     }
 
     // Copies a text behind the others. Without memory for it, all is as before.
@@ -79,8 +79,10 @@ impl<A: Allocator> Texts<A> {
         self.parts.reserve(1)?;
         let start = self.joined.len();
         self.joined.push_str(text)?;
-        let end = self.joined.len();
-        self.parts.push_reserved(Part { start, end });
+        self.parts.push_reserved(Part {
+            start,
+            len: text.len(),
+        });
         Ok(())
     }
 

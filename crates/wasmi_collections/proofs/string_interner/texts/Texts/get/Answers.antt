@@ -1,11 +1,12 @@
-use Rattle.std.proofs.Common.{string_bytes}
+use Rattle.std.proofs.Common.{length, string_bytes, arith, ap}
 use Rattle.wasmi_collections.proofs.Texts.{part_at, text_at}
 use Rattle.wasmi_collections.proofs.string_interner.texts.Texts.get.Goals as goal
 
-pub range-requires-clause-start_le_end : goal.range-requires-clause-start_le_end
-range-requires-clause-start_le_end g c =
+pub overflow_add-part : goal.overflow_add-part
+overflow_add-part g c =
     let texts = c.self.inside in
-    rw (c.index-part.ensures) (part_at (string_bytes texts.joined) texts.parts.items c.args.position c.index-part.result.now c.self.invariant (rw (← c.self.view_is) at c.requires)).ends
+    let end = (part_at (string_bytes texts.joined) texts.parts.items c.args.position c.index-part.result.now c.self.invariant (rw (← c.self.view_is) at c.requires)).end in
+    rw (c.index-part.ensures) (omega (arith, end.0, ap length c.as_str.ensures.value, c.as_str.type_inv.0))
 
 pub range-requires-clause-start_boundary : goal.range-requires-clause-start_boundary
 range-requires-clause-start_boundary g c =
