@@ -1,177 +1,200 @@
--- Facts on entries in blocks.
-use Rattle.std.proofs.Common.{◌≡◌, ℕ, zero, suc, ◌+◌, ◌-◌, ◌*◌, ◌<◌, ◌≤◌, List, [], ◌∷◌, ◌++◌, length, min, get_or, slice_set, refl, sym, ap, ◌∙◌, arith}
-use Rattle.std.specs.List.{AllZip, insert}
-use Rattle.std.proofs.lemmas.List.{append_assoc, append-nil, length-append, length-set, get_or_append_left, get_or-append_right}
+-- Facts on entries in blocks of one width.
+use Rattle.std.proofs.Common.{◌≡◌, ℕ, zero, suc, ◌+◌, ◌-◌, ◌*◌, ◌/◌, ◌%◌, ◌<◌, ◌≤◌, List, [], ◌∷◌, ◌++◌, length, take, get_or, slice_set, not, ◌==◌, nat_lt, refl, sym, ap, ◌∙◌, arith, inl, inr}
+use Rattle.std.specs.List.{All, flat_map, insert}
+use Rattle.std.proofs.lemmas.Bool.{cases_lt}
+use Rattle.std.proofs.Math.Nat.{suc-mul}
+use Rattle.std.proofs.lemmas.Nat.{div-add-mod', pow_pos}
+use Rattle.std.proofs.lemmas.List.{append_assoc, append-nil, length-append, length-set, get_or_append_left, get_or-append_right, take_more}
 use Rattle.std.proofs.lemmas.List.Edits.{insert-append_left, insert-append_right, length-insert}
+use Rattle.std.proofs.lemmas.Grind.{common_steps, flat_map-append}
 use Rattle.wasmi_collections.specs.declared.string_interner.entry.Entry.{Entry}
-use Rattle.wasmi_collections.specs.IndexBlocks.{BlockState, IsBlocks, entries_in, places_in, room_in, width}
+use Rattle.wasmi_collections.specs.IndexBlocks.{BlockState, IsFull, IsBlocks, IsWidth, entries_in, room_in}
+
+pub width_pos : (w : ℕ) → IsWidth w → 0 < w
+width_pos w is = omega (arith, is.2, pow_pos is.0)
+
+-- a rank is so many widths and a place
+pub divided : (w rank b p : ℕ) → b ≡ rank / w → p ≡ rank % w → rank ≡ b * w + p
+divided w rank b p block place = sym (div-add-mod' rank w) ∙ (λ i. sym block i * w + sym place i)
 
 -- the block and the place of a rank
-pub placed : (blocks : List (BlockState)) (b p rank : ℕ) → IsBlocks blocks → p < width → rank ≡ b * width + p → rank < length (entries_in blocks)
+pub placed : (w : ℕ) (blocks : List BlockState) (b p rank : ℕ) → IsBlocks w blocks → p < w → rank ≡ b * w + p → rank < length (entries_in blocks)
     → (b < length blocks) × ((d : BlockState) → (p < length (get_or blocks b d).entries) × ((x : Entry) → get_or (entries_in blocks) rank x ≡ get_or (get_or blocks b d).entries p x))
-placed [] b p rank is small at below = absurd (omega (arith, below))
-placed (q ∷ []) zero p rank is small at below =
+placed w [] b p rank is small at below = absurd (omega (arith, below))
+placed w (q ∷ []) zero p rank is small at below =
     let here : rank ≡ p = omega (arith, at) in
     (omega arith, λ d. (omega (arith, below, here, length-append q.entries []), λ x. ap (λ xs. get_or xs rank x) (append-nil q.entries) ∙ ap (λ k. get_or q.entries k x) here))
-placed (q ∷ []) (suc b) p rank is small at below = absurd (omega (arith, below, at, is, length-append q.entries []))
-placed (q ∷ r ∷ rest) zero p rank is small at below =
+placed w (q ∷ []) (suc b) p rank is small at below = absurd (omega (arith, below, at, suc-mul b w, is.1, length-append q.entries []))
+placed w (q ∷ r ∷ rest) zero p rank is small at below =
     let here : rank ≡ p = omega (arith, at) in
-    let within : rank < length q.entries = omega (arith, is.0, small, here) in
+    let within : rank < length q.entries = omega (arith, is.0.full, small, here) in
     (omega arith, λ d. (omega (arith, within, here), λ x. get_or_append_left q.entries (entries_in (r ∷ rest)) x rank within ∙ ap (λ k. get_or q.entries k x) here))
-placed (q ∷ r ∷ rest) (suc b) p rank is small at below =
-    let past : width ≤ rank = omega (arith, at) in
-    let next = placed (r ∷ rest) b p (rank - width) is.1 small (omega (arith, at)) (omega (arith, below, past, is.0, length-append q.entries (entries_in (r ∷ rest)))) in
-    (omega (arith, next.0), λ d. ((next.1 d).0, λ x. get_or-append_right q.entries (entries_in (r ∷ rest)) width rank x is.0 past ∙ (next.1 d).1 x))
+placed w (q ∷ r ∷ rest) (suc b) p rank is small at below =
+    let past : w ≤ rank = omega (arith, at, suc-mul b w) in
+    let next = placed w (r ∷ rest) b p (rank - w) is.1 small (omega (arith, at, suc-mul b w)) (omega (arith, below, past, is.0.full, length-append q.entries (entries_in (r ∷ rest)))) in
+    (omega (arith, next.0), λ d. ((next.1 d).0, λ x. get_or-append_right q.entries (entries_in (r ∷ rest)) w rank x is.0.full past ∙ (next.1 d).1 x))
 
 -- how many there are, by the last block
-pub counted : (blocks : List (BlockState)) (b : ℕ) (d : BlockState) → IsBlocks blocks → b + 1 ≡ length blocks
-    → (length (entries_in blocks) ≡ b * width + length (get_or blocks b d).entries)
-    × (room_in blocks ≡ min width ((get_or blocks b d).capacity) - length (get_or blocks b d).entries)
-    × (places_in blocks ≡ width - length (get_or blocks b d).entries)
-counted [] b d is last = absurd (omega (arith, last))
-counted (q ∷ []) zero d is last = (omega (arith, length-append q.entries []), refl, refl)
-counted (q ∷ []) (suc b) d is last = absurd (omega (arith, last))
-counted (q ∷ r ∷ rest) zero d is last = absurd (omega (arith, last))
-counted (q ∷ r ∷ rest) (suc b) d is last =
-    let next = counted (r ∷ rest) b d is.1 (omega (arith, last)) in
-    (omega (arith, next.0, is.0, length-append q.entries (entries_in (r ∷ rest))), next.1, next.2)
+pub counted : (w : ℕ) (blocks : List BlockState) (b : ℕ) (d : BlockState) → IsBlocks w blocks → b + 1 ≡ length blocks
+    → (length (entries_in blocks) ≡ b * w + length (get_or blocks b d).entries)
+    × (room_in blocks ≡ w - length (get_or blocks b d).entries)
+    × ((get_or blocks b d).width ≡ w)
+    × (length (get_or blocks b d).entries ≤ w)
+counted w [] b d is last = absurd (omega (arith, last))
+counted w (q ∷ []) zero d is last = (omega (arith, length-append q.entries []), omega (arith, is.0), is.0, is.1)
+counted w (q ∷ []) (suc b) d is last = absurd (omega (arith, last))
+counted w (q ∷ r ∷ rest) zero d is last = absurd (omega (arith, last))
+counted w (q ∷ r ∷ rest) (suc b) d is last =
+    let next = counted w (r ∷ rest) b d is.1 (omega (arith, last)) in
+    (omega (arith, next.0, suc-mul b w, is.0.full, length-append q.entries (entries_in (r ∷ rest))), next.1, next.2, next.3)
 
 -- where there is room, there is a block, and the last isn't full
-pub has_room : (blocks : List (BlockState)) → IsBlocks blocks → 0 < room_in blocks → (0 < length blocks) × (length (entries_in blocks) < length blocks * width)
-has_room [] is room = absurd (omega (arith, room))
-has_room (q ∷ []) is room = (omega arith, omega (arith, room, length-append q.entries []))
-has_room (q ∷ r ∷ rest) is room =
-    let next = has_room (r ∷ rest) is.1 room in
-    (omega arith, omega (arith, next.1, is.0, length-append q.entries (entries_in (r ∷ rest))))
+pub has_room : (w : ℕ) (blocks : List BlockState) → IsBlocks w blocks → 0 < room_in blocks → (0 < length blocks) × (length (entries_in blocks) < length blocks * w) × (0 < w)
+has_room w [] is room = absurd (omega (arith, room))
+has_room w (q ∷ []) is room = (omega arith, omega (arith, room, is.0, suc-mul 0 w, length-append q.entries []), omega (arith, room, is.0))
+has_room w (q ∷ r ∷ rest) is room =
+    let next = has_room w (r ∷ rest) is.1 room in
+    (omega arith, omega (arith, next.1, suc-mul (length (r ∷ rest)) w, is.0.full, length-append q.entries (entries_in (r ∷ rest))), next.2)
 
-pub some_place : (blocks : List (BlockState)) → 0 < places_in blocks → 0 < length blocks
-some_place [] place = absurd (omega (arith, place))
-some_place (q ∷ rest) place = omega arith
-
-pub no_place : (blocks : List (BlockState)) → length blocks ≡ 0 → places_in blocks ≡ 0
-no_place [] none = refl
-no_place (q ∷ rest) none = absurd (omega (arith, none))
+pub no_room : (blocks : List BlockState) → length blocks ≡ 0 → room_in blocks ≡ 0
+no_room [] none = refl
+no_room (q ∷ rest) none = absurd (omega (arith, none))
 
 -- a full block may stand before others
-after : (q : BlockState) (blocks : List (BlockState)) → length q.entries ≡ width → IsBlocks blocks → 0 < length blocks → IsBlocks (q ∷ blocks)
-after q [] full is some = absurd (omega (arith, some))
-after q (r ∷ rest) full is some = (full, is)
+after : (w : ℕ) (q : BlockState) (blocks : List BlockState) → IsFull w q → IsBlocks w blocks → 0 < length blocks → IsBlocks w (q ∷ blocks)
+after w q [] full is some = absurd (omega (arith, some))
+after w q (r ∷ rest) full is some = (full, is)
 
-room_after : (q : BlockState) (blocks : List (BlockState)) → 0 < length blocks → room_in (q ∷ blocks) ≡ room_in blocks
+room_after : (q : BlockState) (blocks : List BlockState) → 0 < length blocks → room_in (q ∷ blocks) ≡ room_in blocks
 room_after q [] some = absurd (omega (arith, some))
 room_after q (r ∷ rest) some = refl
 
 -- a block that isn't the last is full
-pub full : (blocks : List (BlockState)) (b : ℕ) (d : BlockState) → IsBlocks blocks → b + 1 < length blocks
-    → (length (get_or blocks b d).entries ≡ width) × (suc b * width ≤ length (entries_in blocks))
-full [] b d is before = absurd (omega (arith, before))
-full (q ∷ []) b d is before = absurd (omega (arith, before))
-full (q ∷ r ∷ rest) zero d is before = (is.0, omega (arith, is.0, length-append q.entries (entries_in (r ∷ rest))))
-full (q ∷ r ∷ rest) (suc b) d is before =
-    let next = full (r ∷ rest) b d is.1 (omega (arith, before)) in
-    (next.0, omega (arith, next.1, is.0, length-append q.entries (entries_in (r ∷ rest))))
+pub full : (w : ℕ) (blocks : List BlockState) (b : ℕ) (d : BlockState) → IsBlocks w blocks → b + 1 < length blocks
+    → IsFull w (get_or blocks b d) × (suc b * w ≤ length (entries_in blocks))
+full w [] b d is before = absurd (omega (arith, before))
+full w (q ∷ []) b d is before = absurd (omega (arith, before))
+full w (q ∷ r ∷ rest) zero d is before = (is.0, omega (arith, is.0.full, suc-mul 0 w, length-append q.entries (entries_in (r ∷ rest))))
+full w (q ∷ r ∷ rest) (suc b) d is before =
+    let next = full w (r ∷ rest) b d is.1 (omega (arith, before)) in
+    (next.0, omega (arith, next.1, suc-mul (suc b) w, is.0.full, length-append q.entries (entries_in (r ∷ rest))))
+
+-- a block that isn't full has room
+pub not_full : (len w : ℕ) → len ≤ w → not (len == w) ≡ nat_lt 0 (w - len)
+not_full len w small = grind (arith, common_steps)
+
+-- each is as wide
+pub as_wide : (w : ℕ) (blocks : List BlockState) (b : ℕ) (d : BlockState) → IsBlocks w blocks → b < length blocks → (get_or blocks b d).width ≡ w
+as_wide w blocks b d is within = elim (cases_lt (b + 1) (length blocks)) [
+  | inl before ↦ (full w blocks b d is before).0.width
+  | inr last ↦ (counted w blocks b d is (omega (arith, last, within))).2
+]
 
 -- an entry goes into a full block, and the last one out of it belongs to the front of the next
-pub pushed_out : (blocks : List (BlockState)) (b p rank : ℕ) (x out : Entry) (d new : BlockState) → IsBlocks blocks → b + 1 < length blocks → p < width → rank ≡ b * width + p
-    → new.entries ++ out ∷ [] ≡ insert (get_or blocks b d).entries p x
-    → IsBlocks (slice_set blocks b new) × (room_in (slice_set blocks b new) ≡ room_in blocks)
-    × (insert (entries_in (slice_set blocks b new)) (suc b * width) out ≡ insert (entries_in blocks) rank x)
-    × (length (entries_in (slice_set blocks b new)) ≡ length (entries_in blocks))
-pushed_out [] b p rank x out d new is before small at goes = absurd (omega (arith, before))
-pushed_out (q ∷ []) b p rank x out d new is before small at goes = absurd (omega (arith, before))
-pushed_out (q ∷ r ∷ rest) zero p rank x out d new is before small at goes =
+pub pushed_out : (w : ℕ) (blocks : List BlockState) (b p rank : ℕ) (x out : Entry) (d new : BlockState) → IsBlocks w blocks → b + 1 < length blocks → p < w → rank ≡ b * w + p
+    → new.width ≡ (get_or blocks b d).width → new.entries ++ out ∷ [] ≡ insert (get_or blocks b d).entries p x
+    → IsBlocks w (slice_set blocks b new) × (room_in (slice_set blocks b new) ≡ room_in blocks)
+    × (insert (entries_in (slice_set blocks b new)) (suc b * w) out ≡ insert (entries_in blocks) rank x)
+pushed_out w [] b p rank x out d new is before small at wide goes = absurd (omega (arith, before))
+pushed_out w (q ∷ []) b p rank x out d new is before small at wide goes = absurd (omega (arith, before))
+pushed_out w (q ∷ r ∷ rest) zero p rank x out d new is before small at wide goes =
     let others = entries_in (r ∷ rest) in
     let here : p ≡ rank = omega (arith, at) in
-    let within : p ≤ length q.entries = omega (arith, is.0, small) in
-    let longer : length new.entries + 1 ≡ length q.entries + 1 =
-    omega (arith, length-append new.entries (out ∷ []), ap length goes, length-insert q.entries p x within) in
-    let long : length new.entries ≡ width = omega (arith, longer, is.0) in
-    let front : suc zero * width - width ≡ 0 = omega arith in (
-      (long, is.1),
+    let within : p ≤ length q.entries = omega (arith, is.0.full, small) in
+    let long : length new.entries ≡ w =
+    omega (arith, length-append new.entries (out ∷ []), ap length goes, length-insert q.entries p x within, is.0.full) in
+    let front : suc zero * w - w ≡ 0 = omega (arith, suc-mul 0 w) in
+    let first : w ≤ suc zero * w = omega (arith, suc-mul 0 w) in (
+      (record { width = wide ∙ is.0.width; full = long }, is.1),
       refl,
-      (insert-append_right new.entries others width (suc zero * width) out long (omega arith)
+      (insert-append_right new.entries others w (suc zero * w) out long first
           ∙ (ap (λ k. new.entries ++ insert others k out) front
           ∙ (sym (append_assoc new.entries (out ∷ []) others)
           ∙ (ap (λ xs. xs ++ others) goes
           ∙ (sym (insert-append_left q.entries others p x within)
           ∙ ap (λ k. insert (q.entries ++ others) k x) here))))),
-      omega (arith, longer, length-append new.entries others, length-append q.entries others),
     )
-pushed_out (q ∷ r ∷ rest) (suc b) p rank x out d new is before small at goes =
-    let past : width ≤ rank = omega (arith, at) in
-    let next = pushed_out (r ∷ rest) b p (rank - width) x out d new is.1 (omega (arith, before)) small (omega (arith, at)) goes in
+pushed_out w (q ∷ r ∷ rest) (suc b) p rank x out d new is before small at wide goes =
+    let past : w ≤ rank = omega (arith, at, suc-mul b w) in
+    let next = pushed_out w (r ∷ rest) b p (rank - w) x out d new is.1 (omega (arith, before)) small (omega (arith, at, suc-mul b w)) wide goes in
     let others = entries_in (slice_set (r ∷ rest) b new) in
-    let one_less : suc (suc b) * width - width ≡ suc b * width = omega arith in (
-      after q (slice_set (r ∷ rest) b new) is.0 next.0 (omega (arith, length-set (r ∷ rest) b new)),
+    let one_less : suc (suc b) * w - w ≡ suc b * w = omega (arith, suc-mul (suc b) w) in
+    let behind : w ≤ suc (suc b) * w = omega (arith, suc-mul (suc b) w) in (
+      after w q (slice_set (r ∷ rest) b new) is.0 next.0 (omega (arith, length-set (r ∷ rest) b new)),
       room_after q (slice_set (r ∷ rest) b new) (omega (arith, length-set (r ∷ rest) b new)) ∙ next.1,
-      (insert-append_right q.entries others width (suc (suc b) * width) out is.0 (omega arith)
+      (insert-append_right q.entries others w (suc (suc b) * w) out is.0.full behind
           ∙ (ap (λ k. q.entries ++ insert others k out) one_less
           ∙ (ap (λ xs. q.entries ++ xs) next.2
-          ∙ sym (insert-append_right q.entries (entries_in (r ∷ rest)) width rank x is.0 past)))),
-      omega (arith, next.3, length-append q.entries others, length-append q.entries (entries_in (r ∷ rest))),
+          ∙ sym (insert-append_right q.entries (entries_in (r ∷ rest)) w rank x is.0.full past)))),
     )
 
 -- where there is room, the last block takes one more
-pub fits_last : (blocks : List (BlockState)) (b : ℕ) (d last : BlockState) → IsBlocks blocks → b + 1 ≡ length blocks → 0 < room_in blocks → last ≡ get_or blocks b d
-    → (length (entries_in blocks) ≡ b * width + length last.entries) × (length last.entries < width) × (length last.entries < last.capacity)
-fits_last blocks b d last is at_end room same =
-    let many = counted blocks b d is at_end in
-    rw same (many.0, omega (arith, many.1, room), omega (arith, many.1, room))
+pub fits_last : (w : ℕ) (blocks : List BlockState) (b : ℕ) (d last : BlockState) → IsBlocks w blocks → b + 1 ≡ length blocks → 0 < room_in blocks → last ≡ get_or blocks b d
+    → (length (entries_in blocks) ≡ b * w + length last.entries) × (length last.entries < w) × (last.width ≡ w)
+fits_last w blocks b d last is at_end room same =
+    let many = counted w blocks b d is at_end in
+    rw same (many.0, omega (arith, many.1, room), many.2)
 
 -- an entry goes into the last block
-pub put_last : (blocks : List (BlockState)) (b p rank : ℕ) (x : Entry) (d new : BlockState) → IsBlocks blocks → b + 1 ≡ length blocks → rank ≡ b * width + p
-    → p ≤ length (get_or blocks b d).entries → length (get_or blocks b d).entries < width → new.entries ≡ insert (get_or blocks b d).entries p x
-    → IsBlocks (slice_set blocks b new) × (entries_in (slice_set blocks b new) ≡ insert (entries_in blocks) rank x)
-put_last [] b p rank x d new is last at within room goes = absurd (omega (arith, last))
-put_last (q ∷ []) zero p rank x d new is last at within room goes =
+pub put_last : (w : ℕ) (blocks : List BlockState) (b p rank : ℕ) (x : Entry) (d new : BlockState) → IsBlocks w blocks → b + 1 ≡ length blocks → rank ≡ b * w + p
+    → p ≤ length (get_or blocks b d).entries → length (get_or blocks b d).entries < w → new.width ≡ (get_or blocks b d).width → new.entries ≡ insert (get_or blocks b d).entries p x
+    → IsBlocks w (slice_set blocks b new) × (entries_in (slice_set blocks b new) ≡ insert (entries_in blocks) rank x)
+put_last w [] b p rank x d new is last at within room wide goes = absurd (omega (arith, last))
+put_last w (q ∷ []) zero p rank x d new is last at within room wide goes =
     let here : p ≡ rank = omega (arith, at) in (
-      omega (arith, room, ap length goes, length-insert q.entries p x within),
+      (wide ∙ is.0, omega (arith, room, ap length goes, length-insert q.entries p x within)),
       append-nil new.entries ∙ (goes ∙ (ap (λ k. insert q.entries k x) here ∙ ap (λ xs. insert xs rank x) (sym (append-nil q.entries)))),
     )
-put_last (q ∷ []) (suc b) p rank x d new is last at within room goes = absurd (omega (arith, last))
-put_last (q ∷ r ∷ rest) zero p rank x d new is last at within room goes = absurd (omega (arith, last))
-put_last (q ∷ r ∷ rest) (suc b) p rank x d new is last at within room goes =
-    let past : width ≤ rank = omega (arith, at) in
-    let next = put_last (r ∷ rest) b p (rank - width) x d new is.1 (omega (arith, last)) (omega (arith, at)) within room goes in (
-      after q (slice_set (r ∷ rest) b new) is.0 next.0 (omega (arith, length-set (r ∷ rest) b new)),
-      ap (λ xs. q.entries ++ xs) next.1 ∙ sym (insert-append_right q.entries (entries_in (r ∷ rest)) width rank x is.0 past),
+put_last w (q ∷ []) (suc b) p rank x d new is last at within room wide goes = absurd (omega (arith, last))
+put_last w (q ∷ r ∷ rest) zero p rank x d new is last at within room wide goes = absurd (omega (arith, last))
+put_last w (q ∷ r ∷ rest) (suc b) p rank x d new is last at within room wide goes =
+    let past : w ≤ rank = omega (arith, at, suc-mul b w) in
+    let next = put_last w (r ∷ rest) b p (rank - w) x d new is.1 (omega (arith, last)) (omega (arith, at, suc-mul b w)) within room wide goes in (
+      after w q (slice_set (r ∷ rest) b new) is.0 next.0 (omega (arith, length-set (r ∷ rest) b new)),
+      ap (λ xs. q.entries ++ xs) next.1 ∙ sym (insert-append_right q.entries (entries_in (r ∷ rest)) w rank x is.0.full past),
     )
 
--- the last block gets room
-pub roomier : (blocks : List (BlockState)) (b : ℕ) (d new : BlockState) → IsBlocks blocks → b + 1 ≡ length blocks
-    → new.entries ≡ (get_or blocks b d).entries
-    → IsBlocks (slice_set blocks b new) × (entries_in (slice_set blocks b new) ≡ entries_in blocks) × (room_in (slice_set blocks b new) ≡ min width new.capacity - length new.entries)
-roomier [] b d new is last same = absurd (omega (arith, last))
-roomier (q ∷ []) zero d new is last same = (rw same is, ap (λ xs. xs ++ []) same, refl)
-roomier (q ∷ []) (suc b) d new is last same = absurd (omega (arith, last))
-roomier (q ∷ r ∷ rest) zero d new is last same = absurd (omega (arith, last))
-roomier (q ∷ r ∷ rest) (suc b) d new is last same =
-    let next = roomier (r ∷ rest) b d new is.1 (omega (arith, last)) same in (
-      after q (slice_set (r ∷ rest) b new) is.0 next.0 (omega (arith, length-set (r ∷ rest) b new)),
-      ap (λ xs. q.entries ++ xs) next.1,
-      room_after q (slice_set (r ∷ rest) b new) (omega (arith, length-set (r ∷ rest) b new)) ∙ next.2,
-    )
+-- where there is no room, all are full
+pub all_full : (w : ℕ) (blocks : List BlockState) → IsBlocks w blocks → room_in blocks ≡ 0 → All (IsFull w) blocks
+all_full w blocks is none k d within = elim (cases_lt (k + 1) (length blocks)) [
+  | inl before ↦ (full w blocks k d is before).0
+  | inr last ↦ let many = counted w blocks k d is (omega (arith, last, within)) in record { width = many.2; full = omega (arith, many.1, many.3, none) }
+]
 
--- a block is opened where the last is full
-pub opened : (blocks : List (BlockState)) (new : BlockState) → IsBlocks blocks → new.entries ≡ [] → places_in blocks ≡ 0
-    → IsBlocks (blocks ++ new ∷ []) × (entries_in (blocks ++ new ∷ []) ≡ entries_in blocks) × (0 < places_in (blocks ++ new ∷ []))
-opened [] new is empty full = (rw empty (omega arith), rw empty refl, omega (arith, ap length empty))
-opened (q ∷ []) new is empty full =
-    ((omega (arith, is, full), rw empty (omega arith)), ap (λ xs. q.entries ++ xs) (rw empty refl), omega (arith, ap length empty))
-opened (q ∷ r ∷ rest) new is empty full =
-    let next = opened (r ∷ rest) new is.1 empty full in
+-- and full ones are such blocks
+pub of_full : (w : ℕ) (blocks : List BlockState) → All (IsFull w) blocks → IsBlocks w blocks × (room_in blocks ≡ 0)
+of_full w [] all = (tt, refl)
+of_full w (q ∷ []) all =
+    let first = all 0 q (omega arith) in
+    ((first.width, omega (arith, first.full)), omega (arith, first.width, first.full))
+of_full w (q ∷ r ∷ rest) all =
+    let next = of_full w (r ∷ rest) (λ k d within. all (suc k) d (omega (arith, within))) in
+    ((all 0 q (omega arith), next.0), next.1)
+
+-- a block is opened where all are full
+pub opened : (w : ℕ) (blocks : List BlockState) (new : BlockState) → 0 < w → IsBlocks w blocks → room_in blocks ≡ 0 → new.entries ≡ [] → new.width ≡ w
+    → IsBlocks w (blocks ++ new ∷ []) × (entries_in (blocks ++ new ∷ []) ≡ entries_in blocks) × (0 < room_in (blocks ++ new ∷ []))
+opened w [] new some is none empty wide = ((wide, omega (arith, ap length empty)), rw empty refl, omega (arith, ap length empty, wide, some))
+opened w (q ∷ []) new some is none empty wide =
+    ((record { width = is.0; full = omega (arith, is.0, is.1, none) }, (wide, omega (arith, ap length empty))), ap (λ xs. q.entries ++ xs) (rw empty refl), omega (arith, ap length empty, wide, some))
+opened w (q ∷ r ∷ rest) new some is none empty wide =
+    let next = opened w (r ∷ rest) new some is.1 none empty wide in
     ((is.0, next.0), ap (λ xs. q.entries ++ xs) next.1, next.2)
 
--- clones of blocks have what these have
-pub cloned : (blocks clones : List (BlockState)) → AllZip (λ block clone. clone.entries ≡ block.entries) blocks clones → IsBlocks blocks
-    → IsBlocks clones × (entries_in clones ≡ entries_in blocks)
-cloned [] [] same is = (tt, refl)
-cloned [] (w ∷ ws) same is = absurd same
-cloned (q ∷ qs) [] same is = absurd same
-cloned (q ∷ []) (w ∷ []) same is =
-    let items = same.0 in (rw items is, ap (λ xs. xs ++ []) items)
-cloned (q ∷ []) (w ∷ v ∷ ws) same is = absurd same.1
-cloned (q ∷ r ∷ rest) (w ∷ []) same is = absurd same.1
-cloned (q ∷ r ∷ rest) (w ∷ v ∷ ws) same is =
-    let items = same.0 in let next = cloned (r ∷ rest) (v ∷ ws) same.1 is.1 in
-    ((ap length items ∙ is.0, next.0), λ i. items i ++ next.1 i)
+-- two more blocks of a list have what they have, one behind the other
+pub two_more : (blocks : List BlockState) (n : ℕ) (d e : BlockState) → n + 1 < length blocks
+    → entries_in (take (n + 2) blocks) ≡ entries_in (take n blocks) ++ ((get_or blocks n d).entries ++ (get_or blocks (n + 1) e).entries)
+two_more blocks n d e within =
+    let f : BlockState → List Entry = λ block. block.entries in
+    let two : n + 2 ≡ n + 1 + 1 = omega arith in
+    ap (λ k. entries_in (take k blocks)) two
+    ∙ (ap (flat_map f) (take_more blocks (n + 1) e (omega (arith, within)))
+    ∙ (flat_map-append f (take (n + 1) blocks) (get_or blocks (n + 1) e ∷ [])
+    ∙ ((λ i. (ap (flat_map f) (take_more blocks n d (omega (arith, within))) ∙ flat_map-append f (take n blocks) (get_or blocks n d ∷ [])) i ++ append-nil (f (get_or blocks (n + 1) e)) i)
+    ∙ ((λ i. (entries_in (take n blocks) ++ append-nil (f (get_or blocks n d)) i) ++ f (get_or blocks (n + 1) e))
+    ∙ append_assoc (entries_in (take n blocks)) (f (get_or blocks n d)) (f (get_or blocks (n + 1) e))))))
+
+-- a full block is a list of full ones
+pub full_one : (w : ℕ) (block : BlockState) → IsFull w block → All (IsFull w) (block ∷ [])
+full_one w block is zero d within = is
+full_one w block is (suc k) d within = absurd (omega (arith, within))

@@ -1,11 +1,13 @@
 -- Facts on a ring, and on the first entries of one.
-use Rattle.std.proofs.Common.{◌≡◌, ℕ, zero, suc, ◌+◌, ◌-◌, ◌<◌, ◌≤◌, List, [], ◌∷◌, ◌++◌, length, take, drop, get_or, set, refl, sym, ap, subst, ◌∙◌, arith}
+use Rattle.std.proofs.Common.{◌≡◌, ℕ, zero, suc, ◌+◌, ◌-◌, ◌%◌, ◌<◌, ◌≤◌, List, [], ◌∷◌, ◌++◌, length, take, drop, get_or, set, refl, sym, ap, subst, ◌∙◌, arith, inl, inr}
+use Rattle.std.proofs.lemmas.Bool.{cases_lt}
+use Rattle.std.proofs.Math.Nat.{mod-eq_of_lt, mod-eq-sub-mod}
 use Rattle.std.specs.List.{insert, remove}
-use Rattle.std.proofs.lemmas.List.{append_assoc, append-nil, drop-set-add, drop-set-lt, get_or-drop, get_or-take, length-append, length-drop, length-take-le, set-append_left, set-append_right, take-append-drop, take-append-le, take-set-le, take_all}
-use Rattle.std.proofs.lemmas.List.Edits.{insert-append_left, insert-append_right, length-insert, length-remove, remove-append_right}
-use Rattle.std.proofs.Math.Seq.{take-suc, take-append_seam, take-set-lt, drop-append_seam}
+use Rattle.std.proofs.lemmas.List.{append_assoc, append-nil, drop_all, drop-set, drop-set-add, drop-set-lt, get_or_append_left, get_or-append_right, get_or-drop, get_or-take, length-append, length-drop, length-take-le, set-append_left, set-append_right, take-append-drop, take-append-le, take-set, take-set-le, take_all}
+use Rattle.std.proofs.lemmas.List.Edits.{insert-append_left, insert-append_right, insert_end, length-insert, length-remove, remove-append_right}
+use Rattle.std.proofs.Math.Seq.{take-suc, take-suc-set, take-append_seam, take-set-lt, drop-append_seam}
 use Rattle.wasmi_collections.specs.declared.string_interner.entry.Entry.{Entry}
-use Rattle.wasmi_collections.specs.IndexBlocks.{IsRing, from_first, width}
+use Rattle.wasmi_collections.specs.IndexBlocks.{BlockState, from_first, with_entries}
 
 -- two lists in a row, read from where the second begins
 seam : (xs ys : List Entry) (n : ℕ) → length xs ≡ n → from_first (xs ++ ys) n ≡ ys ++ xs
@@ -149,10 +151,40 @@ pub length-from_first : (ring : List Entry) (first : ℕ) → length (from_first
 length-from_first ring first =
     omega (arith, length-append (drop first ring) (take first ring), length-append (take first ring) (drop first ring), ap length (take-append-drop first ring))
 
--- one that isn't full begins at 0
-pub at_front : (ring : List Entry) (first : ℕ) → IsRing ring first → length (from_first ring first) < width → first ≡ 0
-at_front ring zero is short = refl
-at_front ring (suc first) is short = absurd (omega (arith, is.turned (omega arith), short, length-from_first ring (suc first)))
+-- where one of them stands
+pub read_at : (ring : List Entry) (first place : ℕ) (d : Entry) → first < length ring → place < length ring
+    → get_or ring ((first + place) % length ring) d ≡ get_or (from_first ring first) place d
+read_at ring first place d start within =
+    let width = length ring in
+    let long : length (drop first ring) ≡ width - first = omega (arith, length-drop first ring) in
+    elim (cases_lt (first + place) width) [
+      | inl less ↦
+          ap (λ k. get_or ring k d) (mod-eq_of_lt less)
+          ∙ (sym (get_or-drop first ring place d) ∙ sym (get_or_append_left (drop first ring) (take first ring) d place (omega (arith, long, less))))
+      | inr more ↦
+          let past : first + place - width < width = omega (arith, within, start) in
+          let at : place - (width - first) ≡ first + place - width = omega (arith, more, start) in
+          ap (λ k. get_or ring k d) (mod-eq-sub-mod more ∙ mod-eq_of_lt past)
+          ∙ (ap (λ k. get_or ring k d) (sym at)
+          ∙ (sym (get_or-take first ring (place - (width - first)) d (omega (arith, more, within, start)))
+          ∙ sym (get_or-append_right (drop first ring) (take first ring) (width - first) place d long (omega (arith, more)))))
+    ]
+
+-- it ends where it begins, and one that begins at 0 also behind its last slot
+pub same_end : (ring : List Entry) (first : ℕ) → first ≡ 0 → from_first ring (length ring) ≡ from_first ring first
+same_end ring first zero_first =
+    (λ i. drop_all (length ring) ring (omega arith) i ++ take_all (length ring) ring (omega arith) i)
+    ∙ (sym (append-nil ring) ∙ ap (from_first ring) (sym zero_first))
+
+-- one goes in before the first, and the last out
+pub turned : (ring : List Entry) (f : ℕ) (x out : Entry) → f < length ring → out ≡ get_or ring f out
+    → from_first (set ring f x) f ++ out ∷ [] ≡ x ∷ from_first ring (suc f)
+turned ring f x out within taken =
+    let next : f + 1 ≡ suc f = omega arith in
+    (λ i. (drop-set ring f x within i ++ take-set ring f x i) ++ out ∷ [])
+    ∙ ap (λ ys. x ∷ ys) (append_assoc (drop (f + 1) ring) (take f ring) (out ∷ [])
+    ∙ (ap (λ ys. drop (f + 1) ring ++ ys) (ap (λ y. take f ring ++ y ∷ []) taken ∙ sym (take-suc ring f out within))
+    ∙ ap (λ k. drop k ring ++ take (suc f) ring) next))
 
 -- one is written in the upper part, and in the lower
 pub set_upper : (ring : List Entry) (f p : ℕ) (x : Entry) → f + p < length ring → from_first (set ring (f + p) x) f ≡ set (from_first ring f) p x
@@ -182,3 +214,19 @@ take-insert_out entries now n p x out within before is =
     sym (take-append-le (n + 1) now (out ∷ []) as_many)
     ∙ (ap (take (n + 1)) (is ∙ (ap (λ ys. insert ys p x) (sym whole) ∙ insert-append_left first others p x (omega (arith, before, long))))
     ∙ (ap (λ k. take k (insert first p x ++ others)) (sym more) ∙ take-append_seam (insert first p x) others))
+
+-- one is written behind them
+pub set_behind : (entries : List Entry) (n : ℕ) (x : Entry) → n < length entries → take (n + 1) (set entries n x) ≡ insert (take n entries) n x
+set_behind entries n x within =
+    let long : length (take n entries) ≡ n = length-take-le n entries (omega (arith, within)) in
+    let next : n + 1 ≡ suc n = omega arith in
+    ap (λ k. take k (set entries n x)) next
+    ∙ (take-suc-set entries n x within
+    ∙ (sym (insert_end (take n entries) x) ∙ ap (λ k. insert (take n entries) k x) long))
+
+-- a block of them with one more
+pub put_in : (block : BlockState) (ring now : List Entry) (n p : ℕ) (x : Entry) → record { entries = take n ring; width = length ring } ≡ block
+    → take (n + 1) now ≡ insert (take n ring) p x → length now ≡ length ring
+    → record { entries = take (n + 1) now; width = length now } ≡ with_entries block (insert block.entries p x)
+put_in block ring now n p x seen goes long =
+    (λ i. record { entries = goes i; width = long i }) ∙ ap (λ (b : BlockState). with_entries b (insert b.entries p x)) seen

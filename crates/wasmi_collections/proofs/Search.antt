@@ -1,5 +1,5 @@
 -- Facts on lists that can be searched by halves.
-use Rattle.std.proofs.Common.{◌≡◌, ℕ, zero, suc, ◌+◌, ◌<◌, ◌≤◌, ◌⊎◌, Bool, true, false, List, [], ◌∷◌, ◌++◌, length, replicate, Some, slice_get, refl, ap, sym, subst, inl, inr, arith}
+use Rattle.std.proofs.Common.{◌≡◌, ℕ, zero, suc, ◌+◌, ◌<◌, ◌≤◌, ◌⊎◌, Bool, true, false, List, [], ◌∷◌, ◌++◌, length, replicate, None, Some, slice_get, refl, ap, sym, subst, inl, inr, arith}
 use Rattle.std.proofs.lemmas.Bool.{cases_lt}
 use Rattle.std.proofs.lemmas.Option.{same_Some}
 use Rattle.std.specs.declared.cmp.Ordering.{Ordering}
@@ -102,11 +102,11 @@ narrowed_to_none (suc low) (x ∷ xs) h before after =
     let rest = narrowed_to_none low xs (omega arith) (λ i less. before (suc i) (omega arith)) (λ i more within. after (suc i) (omega arith) (omega arith)) in
     (rest.0, rw first (ap (λ (l : List Ordering). Less ∷ l) rest.1))
 
--- with no width, no places are left
-pub nothing_left : (low len : ℕ) → IsOneRun low len 0 → len ≡ 0
+-- where there are no blocks, no places are left
+pub nothing_left : (low len : ℕ) → IsOneRun low len None → len ≡ 0
 nothing_left low len run = elim run [
   | inl none ↦ none
-  | inr some ↦ absurd (omega (arith, some.0))
+  | inr some ↦ absurd some
 ]
 
 -- where none are left, all before are `Less` and all behind are `Greater`

@@ -1,51 +1,51 @@
 -- Entries by rank in blocks of one width: how the index of an interner keeps them.
-use Rattle.std.specs.Prelude.{ℕ, ◌≡◌, ◌-◌, ◌≤◌, ◌<◌, List, [], ◌∷◌, ◌++◌, length, take, drop, min, ⊤}
-use Rattle.std.specs.List.{flat_map}
+use Rattle.std.specs.Prelude.{ℕ, ◌≡◌, ◌+◌, ◌-◌, ◌^◌, ◌≤◌, ◌<◌, List, [], ◌∷◌, ◌++◌, length, take, drop, ⊤}
+use Rattle.std.specs.List.{All, flat_map}
 use Rattle.wasmi_collections.specs.declared.string_interner.entry.Entry.{Entry}
 
--- how many entries a full block has
-abbrev pub width : ℕ
-width = 1024
+-- a width is a power of two
+abbrev pub IsWidth : ℕ → Type 0
+IsWidth width = (power : ℕ) × (power ≤ 20) × (width ≡ 2 ^ power)
 
--- the entries of a block, and how many it has memory for
+-- the entries of a block, and how many a full one has
 pub record BlockState : Type 0 where
   pub entries : List Entry
-  pub capacity : ℕ
+  pub width : ℕ
+
+-- a block with other entries
+abbrev pub with_entries : BlockState → List Entry → BlockState
+with_entries block new = record { entries = new; width = block.width }
 
 -- a ring, from the place on where the first stands, and round
 abbrev pub from_first : List Entry → ℕ → List Entry
 from_first ring first = drop first ring ++ take first ring
 
--- the first stands somewhere in a full ring, and in another at the front
+-- a ring has as many entries as a width, and the first of them stands at one of its places
 pub record IsRing (ring : List Entry) (first : ℕ) : Type 0 where
-  pub small : length ring ≤ width
-  pub within : first < width
-  pub turned : 0 < first → length ring ≡ width
+  pub width : IsWidth (length ring)
+  pub within : first < length ring
 
--- the first entries of a ring are a block's, and the others stand for none. A ring that isn't full has no others
-pub record IsBlock (ring : List Entry) (len : ℕ) : Type 0 where
-  pub small : length ring ≤ width
-  pub within : len ≤ length ring
-  pub grows : length ring < width → len ≡ length ring
+-- a block of a width that is full
+pub record IsFull (wide : ℕ) (block : BlockState) : Type 0 where
+  pub width : block.width ≡ wide
+  pub full : length block.entries ≡ wide
 
--- all blocks are full but the last
-abbrev pub IsBlocks : List BlockState → Type 0
-IsBlocks [] = ⊤
-IsBlocks (block ∷ []) = length block.entries ≤ width
-IsBlocks (block ∷ next ∷ blocks) = (length block.entries ≡ width) × IsBlocks (next ∷ blocks)
+-- blocks of a width, all full but the last
+abbrev pub IsBlocks : ℕ → List BlockState → Type 0
+IsBlocks wide [] = ⊤
+IsBlocks wide (block ∷ []) = (block.width ≡ wide) × (length block.entries ≤ wide)
+IsBlocks wide (block ∷ next ∷ blocks) = IsFull wide block × IsBlocks wide (next ∷ blocks)
+
+-- full blocks, of which two have as many entries as a width is
+abbrev pub AreHalves : ℕ → List BlockState → Type 0
+AreHalves wide blocks = (half : ℕ) × (half + half ≡ wide) × All (IsFull half) blocks
 
 -- what they have, in order
 abbrev pub entries_in : List BlockState → List Entry
 entries_in blocks = flat_map (λ block. block.entries) blocks
 
 -- how many more may go into the last
-abbrev pub places_in : List BlockState → ℕ
-places_in [] = 0
-places_in (block ∷ []) = width - length block.entries
-places_in (block ∷ next ∷ blocks) = places_in (next ∷ blocks)
-
--- and for how many of them it has memory
 abbrev pub room_in : List BlockState → ℕ
 room_in [] = 0
-room_in (block ∷ []) = min width block.capacity - length block.entries
+room_in (block ∷ []) = block.width - length block.entries
 room_in (block ∷ next ∷ blocks) = room_in (next ∷ blocks)

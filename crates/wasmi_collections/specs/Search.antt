@@ -27,9 +27,14 @@ pub record IsNarrowed (orders : List Ordering) (low high : ℕ) : Type 0 where
   pub before : (i : ℕ) → i < low → slice_get orders i ≡ Some Less
   pub after : (i : ℕ) → high ≤ i → i < length orders → slice_get orders i ≡ Some Greater
 
--- these places are none, or lie between two multiples of a width
-abbrev pub IsOneRun : ℕ → ℕ → ℕ → Type 0
-IsOneRun low len width = (len ≡ 0) ⊎ ((0 < width) × (low / width ≡ (low + len - 1) / width))
+-- two places lie in one block of a width, if there is one
+abbrev pub IsOneBlock : ℕ → ℕ → Option ℕ → Type 0
+IsOneBlock low last None = ⊥
+IsOneBlock low last (Some width) = low / width ≡ last / width
+
+-- these places are none, or lie in one block
+abbrev pub IsOneRun : ℕ → ℕ → Option ℕ → Type 0
+IsOneRun low len width = (len ≡ 0) ⊎ IsOneBlock low (low + len - 1) width
 
 -- where a search goes on after it looked at an item of this order: at `next` where it is `Less`, at `low` where
 -- it is `Greater`, and nowhere where it is `Equal`

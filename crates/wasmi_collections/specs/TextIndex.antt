@@ -7,10 +7,11 @@ use Rattle.wasmi_collections.specs.LenOrder.{len_cmp}
 use Rattle.wasmi_collections.specs.TextKey.{IsKeyOf}
 use Rattle.wasmi_collections.specs.declared.string_interner.entry.Entry.{Entry}
 
--- the entries by rank, and for how many more there is room
+-- the entries by rank, for how many more there is room, and how many lie together
 pub record Ranked : Type 0 where
   pub entries : List Entry
   pub room : ℕ
+  pub width : ℕ
 
 -- the symbols of entries
 abbrev pub symbols_of : List Entry → List ℕ

@@ -230,7 +230,7 @@ impl<A: Allocator> StringInterner<A> {
     /// For a text that is there nothing is copied or allocated, and it isn't refused. For a new one it
     /// fails with `NotEnoughKeys` if there are 2^32 texts, and then with `OutOfSystemMemory` if there is
     /// no memory for it, or the clone of the allocator fails. After an error the interner is as before.
-    /// A binary search, and for a new text also a step for each 1,024 texts.
+    /// A binary search, and for a new text also some √n steps at n texts, amortized.
     #[inline]
     pub fn get_or_intern(&mut self, text: &str) -> Result<Sym, ArenaError>
     where

@@ -196,7 +196,7 @@ fn scattered(rt: &impl Abort, alloc: Global, number: u32) -> String {
     format!(in alloc; "{}", number.wrapping_mul(7919) % 3001).or_abort(rt)
 }
 
-// The index has three blocks then. The number 3,001 has twelve binary digits.
+// The blocks of the index were joined five times then. The number 3,001 has twelve binary digits.
 #[test]
 fn three_thousand_texts_are_found(rt: HostRuntime) {
     let mut interner = StringInterner::new(rt.alloc());
@@ -263,42 +263,43 @@ fn a_refused_text_changes_nothing(rt: HostRuntime) {
         }
         assert_equal!(rt; log.amiss(), 0);
     }
-    // Four for the bytes of the texts as they grow, three for the list of where they lie, three for the first
+    // Four for the bytes of the texts as they grow, three for the list of where they lie, one for the first
     // block of the index, and one for the list of blocks.
-    assert_equal!(rt; refusals, 11);
+    assert_equal!(rt; refusals, 9);
 }
 
-// An interner whose index has one block, which is full.
-fn with_a_full_block<'l>(
+// An interner the blocks of whose index are full, and as many as are joined.
+fn with_full_blocks<'l>(
     rt: &impl Abort,
     handle: Logged<'l>,
     alloc: Global,
 ) -> StringInterner<Logged<'l>> {
     let mut interner = StringInterner::new(handle);
-    for number in 0..1024 {
+    for number in 0..512 {
         let text = scattered(rt, alloc, number);
         let _symbol = interner.get_or_intern(text.as_str()).or_abort(rt);
     }
     interner
 }
 
-// One text more asks for a block of the index, and for a larger list of where texts lie.
+// One text more asks for two blocks in the place of four and for their list, for a larger one with a third, and
+// for a larger list of where texts lie.
 #[test]
-fn a_refused_block_of_the_index_is_opened_later(rt: HostRuntime) {
+fn refused_blocks_of_the_index_are_joined_later(rt: HostRuntime) {
     let mut refusals = 0u64;
-    for nth in 1..6 {
+    for nth in 1..9 {
         let log = Log::new();
         {
             let handle = Logged::new(rt.alloc(), &log);
-            let mut interner = with_a_full_block(&rt, handle, rt.alloc());
+            let mut interner = with_full_blocks(&rt, handle, rt.alloc());
             log.refuse_once(nth);
             if interner.get_or_intern("memory").is_err() {
-                assert_equal!(rt; (interner.get("memory"), interner.len()), (None, 1024));
+                assert_equal!(rt; (interner.get("memory"), interner.len()), (None, 512));
                 refusals = refusals.wrapping_add(1);
             }
             let symbol = interner.get_or_intern("memory").or_abort(&rt);
-            assert_equal!(rt; symbol.into_u32(), 1024);
-            for number in 0..1024 {
+            assert_equal!(rt; symbol.into_u32(), 512);
+            for number in 0..512 {
                 let text = scattered(&rt, rt.alloc(), number);
                 let found = interner.get(text.as_str());
                 assert_equal!(rt; found, Some(Sym::from_u32(number)), "at {nth}");
@@ -306,7 +307,7 @@ fn a_refused_block_of_the_index_is_opened_later(rt: HostRuntime) {
         }
         assert_equal!(rt; log.amiss(), 0);
     }
-    assert_equal!(rt; refusals, 2);
+    assert_equal!(rt; refusals, 6);
 }
 
 // An interner of the names. One that is refused is interned again.

@@ -2,14 +2,13 @@
 ghost use Rattle.std.specs.Prelude.{◌≡◌, ℕ, ◌+◌, ◌-◌, ◌/◌, ◌%◌, ◌<◌, ◌≤◌, ◌^◌, [], ◌∷◌, ◌++◌, length, IfOk, IfErr, None, Some, slice_get};
 ghost use Rattle.std.specs.List.{All, insert};
 ghost use Rattle.wasmi_collections.specs.BinaryDigits.{digits};
-ghost use Rattle.wasmi_collections.specs.IndexBlocks.{width};
 ghost use Rattle.wasmi_collections.specs.Interner.{symbol_of, AreDistinctTexts};
 ghost use Rattle.wasmi_collections.specs.Search.{IsFound, IsNarrowed};
 ghost use Rattle.wasmi_collections.specs.TextIndex.{AreEntriesOf, IsEntryOf, orders_by_rank};
 ghost use Rattle.wasmi_collections.specs.TextKey.{IsKeyOf};
 ghost use Rattle.wasmi_collections.specs.declared.string_interner.entry.Entry.{Entry};
 
-use super::index::{Block, Index, WIDTH};
+use super::index::{Block, Index};
 use super::probe::{Narrow, Rest, search_rest};
 use super::sought::Sought;
 use super::{Steps, Sym};
@@ -44,12 +43,14 @@ impl<A: Allocator> Narrow for IndexLooks<'_, A> {
 struct BlockLooks<'a, A: Allocator> {
     index: &'a Index<A>,
     block: &'a Block<A>,
-    number: usize,
+    // One of these ranks.
+    rank: usize,
     sought: &'a Sought<'a, A>,
     steps: Steps,
     ghost entries: { All (IsEntryOf sought.now.texts.now) index.now.entries },
-    ghost part: { (rank : ℕ) → rank / width ≡ number → rank < length index.now.entries
-        → slice_get block.now.entries (rank % width) ≡ slice_get index.now.entries rank },
+    ghost width: { block.now.width ≡ index.now.width },
+    ghost part: { (other : ℕ) → other / index.now.width ≡ rank / index.now.width → other < length index.now.entries
+        → slice_get block.now.entries (other % index.now.width) ≡ slice_get index.now.entries other },
 }
 
 impl<A: Allocator> Narrow for BlockLooks<'_, A> {
@@ -57,11 +58,12 @@ impl<A: Allocator> Narrow for BlockLooks<'_, A> {
 
     ghost looks = { λ looks. looks.steps };
 
-    ghost reads = { λ looks place. (place / width ≡ looks.number) × (place < length looks.index.now.entries) };
+    ghost reads = { λ looks place. (place / looks.index.now.width ≡ looks.rank / looks.index.now.width)
+        × (place < length looks.index.now.entries) };
 
     fn narrow(&mut self, at: usize, low: usize, next: usize) -> Option<usize> {
         self.steps.tick();
-        self.sought.compared(self.block.at(at % WIDTH), low, next)
+        self.sought.compared(self.block.at(at), low, next)
     }
 }
 
@@ -113,7 +115,7 @@ fn find_rank<A: Allocator>(
         low: 0,
         len: sought.texts.len(),
     };
-    let found = search_rest(rest, WIDTH, &mut looks);
+    let found = search_rest(rest, Some(index.width()), &mut looks);
     *steps = looks.steps;
     match found {
         Ok(rank) => Ok(rank),
@@ -138,7 +140,7 @@ fn find_in_block<A: Allocator>(
     requires rest { IsNarrowed (orders_by_rank sought.now.text.now sought.now.texts.now index.now.entries) rest.low (rest.low + rest.len) }
     requires some { 0 < rest.len }
     requires fits { rest.low + rest.len < 2 ^ 64 }
-    requires run { rest.low / width ≡ (rest.low + rest.len - 1) / width }
+    requires run { rest.low / index.now.width ≡ (rest.low + rest.len - 1) / index.now.width }
     requires countable { steps.old ≤ 2 ^ 63 + 64 }
     ensures found { IsFound (orders_by_rank sought.now.text.now sought.now.texts.now index.now.entries) result }
     ensures few_steps { steps.new ≤ steps.old + digits rest.len }
@@ -148,11 +150,11 @@ fn find_in_block<A: Allocator>(
     let mut looks = BlockLooks {
         index,
         block: index.block(rest.low),
-        number: rest.low / WIDTH,
+        rank: rest.low,
         sought,
         steps: mem::replace(steps, Steps::new()),
     };
-    let found = search_rest(rest, 0, &mut looks);
+    let found = search_rest(rest, None, &mut looks);
     *steps = looks.steps;
     match found {
         Ok(rank) => Ok(rank),

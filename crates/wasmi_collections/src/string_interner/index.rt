@@ -1,41 +1,53 @@
 //! The index of an interner.
 ghost use Rattle.std.specs.Prelude.{◌≡◌, ℕ, ◌/◌, ◌%◌, ◌<◌, ◌≤◌, [], length, IfOk, OnOk, IsOkUnless, Some, slice_get};
 ghost use Rattle.std.specs.List.{insert};
-ghost use Rattle.wasmi_collections.specs.IndexBlocks.{width};
 
 mod block;
 mod blocks;
 mod ring;
+mod width;
 
 use super::entry::Entry;
 pub(super) use block::Block;
-pub(super) use ring::WIDTH;
-use std::alloc::Allocator;
+use std::alloc::{AllocError, Allocator};
 use std::marker::Model;
 use wasmi_arena::ArenaError;
+pub(super) use width::Width;
 
 // Entries by rank: a list into which an entry can be put at any place.
 //
-// They lie in blocks, each a ring. All but the last are full, so a rank tells its block and its place
-// there. What a full block has too many goes on to the next, so an entry that is put in moves some of one
-// block, and one entry of each block behind it.
+// They lie in blocks of one width, each a ring. All but the last are full, so a rank tells its block and its
+// place there. What a full block has too many goes on to the next, so an entry that is put in moves some of
+// one block, and one entry of each block behind it. Both are few, since blocks that have become many are
+// joined by twos.
 //
 // No other code knows how it is kept.
 #[derive(Drop)]
 pub(super) struct Index<A: Allocator> {
     blocks: Vec<Block<A>, A>,
+    width: Width,
 }
+
+// Up to this width a block stands alone.
+const ALONE: usize = 256;
+
+// Blocks are joined when they are as many as this part of their width.
+const PART: usize = 16;
 
 impl<A: Allocator> Model for Index<A> {
     ghost use Rattle.std.specs.Prelude.{vec_items};
-    ghost use Rattle.wasmi_collections.specs.IndexBlocks.{IsBlocks, entries_in, room_in};
+    ghost use Rattle.wasmi_collections.specs.IndexBlocks.{IsBlocks, IsWidth, entries_in, room_in};
     ghost use Rattle.wasmi_collections.specs.TextIndex.{Ranked};
 
     ghost Value = { Ranked };
 
-    ghost view = { λ index. record { entries = entries_in (vec_items index.blocks); room = room_in (vec_items index.blocks) } };
+    ghost view = { λ index. record {
+      entries = entries_in (vec_items index.blocks);
+      room = room_in (vec_items index.blocks);
+      width = index.width;
+    } };
 
-    ghost invariant = { λ index. IsBlocks (vec_items index.blocks) };
+    ghost invariant = { λ index. IsWidth index.width × IsBlocks index.width (vec_items index.blocks) };
 }
 
 impl<A: Allocator> Index<A> {
@@ -45,6 +57,7 @@ impl<A: Allocator> Index<A> {
     {
         Index {
             blocks: Vec::new(alloc),
+            width: Width::least(),
         }
     }
 
@@ -53,6 +66,15 @@ impl<A: Allocator> Index<A> {
         ensures { self.new.entries ≡ [] }
     {
         self.blocks.clear();
+        self.width = Width::least();
+    }
+
+    // The width of its blocks.
+    #[inline]
+    pub(super) fn width(&self) -> &Width
+        ensures { result.now ≡ self.now.width }
+    {
+        &self.width
     }
 
     // The entry of a rank.
@@ -60,19 +82,21 @@ impl<A: Allocator> Index<A> {
         requires { rank < length self.now.entries }
         ensures { slice_get self.now.entries rank ≡ Some result }
     {
-        self.block(rank).at(rank % WIDTH)
+        self.block(rank).at(rank)
     }
 
     // The block of a rank.
     pub(super) fn block(&self, rank: usize) -> &Block<A>
         requires { rank < length self.now.entries }
-        ensures { (other : ℕ) → other / width ≡ rank / width → other < length self.now.entries
-            → slice_get result.now.entries (other % width) ≡ slice_get self.now.entries other }
+        ensures width { result.now.width ≡ self.now.width }
+        ensures entries { (other : ℕ) → other / self.now.width ≡ rank / self.now.width → other < length self.now.entries
+            → slice_get result.now.entries (other % self.now.width) ≡ slice_get self.now.entries other }
     {
-        &self.blocks[rank / WIDTH]
+        &self.blocks[self.width.block_of(rank)]
     }
 
-    // Makes room for one more entry.
+    // Makes room for one more entry. Where all blocks are full, a narrow one that stands alone is widened, or one
+    // more is opened, behind the others, which are joined by twos if they are many.
     pub(super) fn reserve(&mut self) -> Result<(), ArenaError>
     where
         A: Clone,
@@ -80,7 +104,48 @@ impl<A: Allocator> Index<A> {
         ensures ok { OnOk result (0 < self.new.room) }
         ensures errors { IsOkUnless result ArenaError.OutOfSystemMemory }
     {
-        blocks::reserve(&mut self.blocks)?;
+        if blocks::has_room(&self.blocks, &self.width) {
+            return Ok(());
+        }
+        self.widen()?;
+        if !blocks::has_room(&self.blocks, &self.width) {
+            self.join()?;
+            blocks::open(&mut self.blocks, &self.width)?;
+        }
+        Ok(())
+    }
+
+    // Widens the only block, if it is narrow. It is full.
+    fn widen(&mut self) -> Result<(), AllocError>
+        requires { self.old.room ≡ 0 }
+        ensures { self.new.entries ≡ self.old.entries }
+    {
+        if self.blocks.len() != 1 || ALONE <= self.width.get() {
+            return Ok(());
+        }
+        if let Some(next) = self.width.next() {
+            blocks::widen(&mut self.blocks, &next)?;
+            self.width = next;
+        }
+        Ok(())
+    }
+
+    // Joins the blocks by twos, if they are many. All are full.
+    fn join(&mut self) -> Result<(), AllocError>
+    where
+        A: Clone,
+        requires { self.old.room ≡ 0 }
+        ensures entries { self.new.entries ≡ self.old.entries }
+        ensures room { self.new.room ≡ 0 }
+    {
+        let len = self.blocks.len();
+        if len == 0 || len % 2 == 1 || len < self.width.get() / PART {
+            return Ok(());
+        }
+        if let Some(next) = self.width.next() {
+            self.blocks = blocks::joined(&self.blocks, &next)?;
+            self.width = next;
+        }
         Ok(())
     }
 
@@ -90,7 +155,7 @@ impl<A: Allocator> Index<A> {
         requires room { 0 < self.old.room }
         ensures { self.new.entries ≡ insert self.old.entries rank entry }
     {
-        blocks::insert(&mut self.blocks, rank, entry);
+        blocks::insert(&mut self.blocks, &self.width, rank, entry);
     }
 
     // The same entries, over clones of the allocator.
@@ -102,6 +167,7 @@ impl<A: Allocator> Index<A> {
     {
         Ok(Index {
             blocks: self.blocks.clone()?,
+            width: self.width.copy(),
         })
     }
 }

@@ -1,10 +1,11 @@
 //! A binary search.
-ghost use Rattle.std.specs.Prelude.{◌≡◌, ℕ, ◌+◌, ◌-◌, ◌<◌, ◌≤◌, ◌^◌, List, length, IfOk, IfErr, Some, slice_get};
+ghost use Rattle.std.specs.Prelude.{◌≡◌, ℕ, ◌+◌, ◌-◌, ◌<◌, ◌≤◌, ◌^◌, List, length, IfOk, IfErr, Some, option_copied, slice_get, true};
 ghost use Rattle.std.specs.declared.cmp.Ordering.{Ordering};
 ghost use Rattle.std.specs.declared.cmp.Ordering.TheVariants.{Equal};
 ghost use Rattle.wasmi_collections.specs.BinaryDigits.{digits};
-ghost use Rattle.wasmi_collections.specs.Search.{IsSearchable, IsFound, IsNarrowed, IsOneRun, GoesOn};
+ghost use Rattle.wasmi_collections.specs.Search.{IsSearchable, IsFound, IsNarrowed, IsOneBlock, IsOneRun, GoesOn};
 
+use super::index::Width;
 use std::cmp::Ordering;
 
 /// A list that [`search`] looks into: it tells how the item at a place compares with what is searched.
@@ -39,7 +40,7 @@ pub fn search<P: Probe>(len: usize, probe: &mut P) -> Result<usize, usize>
     ensures looked { 0 < len → P.looks probe.old < P.looks probe.new }
     ensures many_looks { IfErr result (λ _. P.looks probe.old + digits (len + 1) ≤ P.looks probe.new + 1) }
 {
-    match search_rest(Rest { low: 0, len }, 0, probe) {
+    match search_rest(Rest { low: 0, len }, None, probe) {
         Ok(place) => Ok(place),
         Err(rest) => Err(rest.low),
     }
@@ -92,11 +93,15 @@ impl<P: Probe> Narrow for P {
     }
 }
 
-// Searches in the rest of a list, until it is found, or what is left lies between two multiples of `width`, or
-// is nothing. After the first look so many items are left as are one less than a power of two, whatever
+// Searches in the rest of a list, until it is found, or what is left lies in one block of a width, if there is
+// one, or is nothing. After the first look so many items are left as are one less than a power of two, whatever
 // the look told, and half of them after each other one: a search that finds nothing looks as often whatever
 // it sees.
-pub(super) fn search_rest<N: Narrow>(rest: Rest, width: usize, list: &mut N) -> Result<usize, Rest>
+pub(super) fn search_rest<N: Narrow>(
+    rest: Rest,
+    width: Option<&Width>,
+    list: &mut N,
+) -> Result<usize, Rest>
     requires in_order { IsSearchable (N.orders list.old) }
     requires rest { IsNarrowed (N.orders list.old) rest.low (rest.low + rest.len) }
     requires fits { rest.low + rest.len < 2 ^ 64 }
@@ -104,7 +109,7 @@ pub(super) fn search_rest<N: Narrow>(rest: Rest, width: usize, list: &mut N) -> 
     requires countable { N.looks list.old ≤ 2 ^ 63 + 64 }
     ensures found { IfOk result (λ place. slice_get (N.orders list.old) place ≡ Some Equal) }
     ensures left { IfErr result (λ left. IsNarrowed (N.orders list.old) left.low (left.low + left.len)) }
-    ensures run { IfErr result (λ left. IsOneRun left.low left.len width) }
+    ensures run { IfErr result (λ left. IsOneRun left.low left.len (option_copied width.entry)) }
     ensures kept { N.orders list.new ≡ N.orders list.old }
     ensures few_looks { N.looks list.new ≤ N.looks list.old + digits rest.len }
     ensures fewer_looks { IfErr result (λ left. N.looks list.new + digits left.len ≤ N.looks list.old + digits rest.len) }
@@ -116,7 +121,10 @@ pub(super) fn search_rest<N: Narrow>(rest: Rest, width: usize, list: &mut N) -> 
 {
     let mut low = rest.low;
     let mut len = rest.len;
-    while 0 < len && (width == 0 || low / width != (low + len - 1) / width) {
+    while 0 < len {
+        if is_one_block(width, low, low + len - 1) {
+            return Err(Rest { low, len });
+        }
         let half = half_of(len);
         let at = low + half;
         match list.narrow(at, low, low + (len - half)) {
@@ -126,6 +134,17 @@ pub(super) fn search_rest<N: Narrow>(rest: Rest, width: usize, list: &mut N) -> 
         len = half;
     }
     Err(Rest { low, len })
+}
+
+// Whether two places lie in one block of a width, if there is one.
+#[inline]
+fn is_one_block(width: Option<&Width>, low: usize, last: usize) -> bool
+    ensures { result ≡ true → IsOneBlock low last (option_copied width.entry) }
+{
+    match width {
+        Some(width) => width.block_of(low) == width.block_of(last),
+        None => false,
+    }
 }
 
 // The greatest number that is less than another one, and one less than a power of two.

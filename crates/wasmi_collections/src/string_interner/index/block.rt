@@ -1,15 +1,16 @@
 //! A block of the index of an interner.
-ghost use Rattle.std.specs.Prelude.{◌≡◌, ◌++◌, ◌+◌, ◌<◌, ◌≤◌, [], ◌∷◌, length, take, OnOk, slice_index_or};
+ghost use Rattle.std.specs.Prelude.{◌≡◌, ◌++◌, ◌+◌, ◌==◌, ◌%◌, ◌<◌, ◌≤◌, [], ◌∷◌, length, IfOk, OnErr, OnOk, slice_index_or};
 ghost use Rattle.std.specs.List.{insert};
-ghost use Rattle.wasmi_collections.specs.IndexBlocks.{IsBlock, width};
+ghost use Rattle.wasmi_collections.specs.IndexBlocks.{BlockState, with_entries};
 
-use super::ring::{Ring, WIDTH};
+use super::ring::Ring;
+use super::width::Width;
 use crate::string_interner::entry::Entry;
 use std::alloc::{AllocError, Allocator};
 use std::marker::Model;
 
-// The first entries of a ring. What a full ring has behind them stands for none, so that an entry goes to the
-// front as to the end, and moves no other.
+// The first entries of a ring. What it has behind them stands for none, so that an entry goes to the front as
+// to the end, and moves no other.
 #[derive(Drop)]
 pub(in crate::string_interner) struct Block<A: Allocator> {
     ring: Ring<A>,
@@ -17,109 +18,111 @@ pub(in crate::string_interner) struct Block<A: Allocator> {
 }
 
 impl<A: Allocator> Model for Block<A> {
-    ghost use Rattle.std.specs.Prelude.{take};
-    ghost use Rattle.wasmi_collections.specs.IndexBlocks.{BlockState, IsBlock};
+    ghost use Rattle.std.specs.Prelude.{◌≤◌, length, take};
+    ghost use Rattle.wasmi_collections.specs.IndexBlocks.{BlockState};
 
     ghost Value = { BlockState };
 
-    ghost view = { λ block. record { entries = take block.len block.ring.entries; capacity = block.ring.capacity } };
+    ghost view = { λ block. record { entries = take block.len block.ring; width = length block.ring } };
 
-    ghost invariant = { λ block. IsBlock block.ring.entries block.len };
+    ghost invariant = { λ block. block.len ≤ length block.ring };
 }
 
 impl<A: Allocator> Block<A> {
     // A block without entries.
-    pub(super) fn new(alloc: A) -> Self
-        ensures { result.entries ≡ [] }
+    pub(super) fn new(alloc: A, width: &Width) -> Result<Self, AllocError>
+        ensures { IfOk result (λ block. (block.entries ≡ []) × (block.width ≡ width.now)) }
     {
-        Block {
-            ring: Ring::new(alloc),
+        Ok(Block {
+            ring: Ring::new(alloc, width)?,
             len: 0,
-        }
+        })
     }
 
-    // How many it has.
-    pub(super) fn len(&self) -> usize
-        ensures { result ≡ length self.now.entries }
+    // The entries of two full blocks of one width in a block of the next width.
+    pub(super) fn joined(
+        alloc: A,
+        one: &Block<A>,
+        other: &Block<A>,
+        width: &Width,
+    ) -> Result<Self, AllocError>
+        requires one { length one.now.entries ≡ one.now.width }
+        requires other { length other.now.entries ≡ other.now.width }
+        requires width { one.now.width + other.now.width ≡ width.now }
+        ensures { IfOk result (λ block. (block.entries ≡ one.now.entries ++ other.now.entries) × (block.width ≡ width.now)) }
     {
-        self.len
+        Ok(Block {
+            ring: Ring::joined(alloc, &one.ring, &other.ring, width)?,
+            len: width.get(),
+        })
     }
 
-    // The entry at a place.
-    pub(in crate::string_interner) fn at(&self, place: usize) -> Entry
-        requires { place < length self.now.entries }
-        ensures { result ≡ slice_index_or self.now.entries place result }
-    {
-        self.ring.at(place)
-    }
-
-    // Makes room for one more entry, or at once for all.
-    pub(super) fn reserve(&mut self, all: bool) -> Result<(), AllocError>
-        requires { length self.old.entries < width }
+    // Makes room for as many entries more as it has. Without memory for them, it is as before.
+    pub(super) fn widen(&mut self, width: &Width) -> Result<(), AllocError>
+        requires full { length self.old.entries ≡ self.old.width }
+        requires width { self.old.width + self.old.width ≡ width.now }
         ensures entries { self.new.entries ≡ self.old.entries }
-        ensures ok { OnOk result (length self.new.entries < self.new.capacity) }
+        ensures ok { OnOk result (self.new.width ≡ width.now) }
+        ensures err { OnErr result (self.new.width ≡ self.old.width) }
     {
-        if self.ring.len() == WIDTH {
-            return Ok(());
-        }
-        if all {
-            self.ring.fill()
-        } else {
-            self.ring.reserve()
-        }
+        self.ring.widen(width)
+    }
+
+    // Whether there is room for no more entry.
+    pub(super) fn is_full(&self) -> bool
+        ensures { result ≡ (length self.now.entries == self.now.width) }
+    {
+        self.len == self.ring.len()
+    }
+
+    // The entry of a rank, whose place is what is left of it by the width.
+    pub(in crate::string_interner) fn at(&self, rank: usize) -> Entry
+        requires { rank % self.now.width < length self.now.entries }
+        ensures { result ≡ slice_index_or self.now.entries (rank % self.now.width) result }
+    {
+        self.ring.at(rank)
     }
 
     // Puts an entry at a place. There is room.
     pub(super) fn put(&mut self, place: usize, entry: Entry)
         requires within { place ≤ length self.old.entries }
-        requires free { length self.old.entries < width }
-        requires room { length self.old.entries < self.old.capacity }
-        ensures { self.new.entries ≡ insert self.old.entries place entry }
+        requires free { length self.old.entries < self.old.width }
+        ensures { self.new ≡ with_entries self.old (insert self.old.entries place entry) }
     {
-        put_among(&mut self.ring, self.len, place, entry);
+        // proof: a ring has no more entries than a number can tell.
+        let _ = self.ring.len();
+        if place == self.len {
+            self.ring.set(place, entry);
+        } else if place == 0 {
+            let _filler = self.ring.turn(entry);
+        } else {
+            let _filler = self.ring.push_out(place, entry);
+        }
         self.len += 1;
     }
 
     // Puts an entry before the first, and takes the last out. The block is full.
     pub(super) fn turn(&mut self, entry: Entry) -> Entry
-        requires { length self.old.entries ≡ width }
-        ensures { self.new.entries ++ result ∷ [] ≡ entry ∷ self.old.entries }
+        requires { length self.old.entries ≡ self.old.width }
+        ensures entries { self.new.entries ++ result ∷ [] ≡ entry ∷ self.old.entries }
+        ensures width { self.new.width ≡ self.old.width }
     {
         self.ring.turn(entry)
     }
 
     // Puts an entry at a place, and takes the last out. The block is full.
     pub(super) fn push_out(&mut self, place: usize, entry: Entry) -> Entry
-        requires full { length self.old.entries ≡ width }
-        requires within { place < width }
-        ensures { self.new.entries ++ result ∷ [] ≡ insert self.old.entries place entry }
+        requires full { length self.old.entries ≡ self.old.width }
+        requires within { place < self.old.width }
+        ensures entries { self.new.entries ++ result ∷ [] ≡ insert self.old.entries place entry }
+        ensures width { self.new.width ≡ self.old.width }
     {
         self.ring.push_out(place, entry)
     }
 }
 
-// Puts an entry among the first ones of a ring, of which there are `len`.
-fn put_among<A: Allocator>(ring: &mut Ring<A>, len: usize, place: usize, entry: Entry)
-    requires within { place ≤ len }
-    requires block { IsBlock ring.old.entries len }
-    requires free { len < width }
-    requires room { len < ring.old.capacity }
-    ensures entries { take (len + 1) ring.new.entries ≡ insert (take len ring.old.entries) place entry }
-    ensures block { IsBlock ring.new.entries (len + 1) }
-{
-    if ring.len() < WIDTH {
-        ring.put(place, entry);
-    } else if place == len {
-        ring.set(place, entry);
-    } else if place == 0 {
-        let _filler = ring.turn(entry);
-    } else {
-        let _filler = ring.push_out(place, entry);
-    }
-}
-
 impl<A: Allocator + Clone> Clone for Block<A> {
-    ghost is_clone = { λ block copy. copy.entries ≡ block.entries };
+    ghost is_clone = { λ block copy. copy ≡ block };
 
     ghost is_infallible = { λ _. ⊥ };
 

@@ -1,91 +1,102 @@
 //! Entries of the index of an interner in a ring.
-ghost use Rattle.std.specs.Prelude.{◌≡◌, ◌++◌, ◌<◌, ◌≤◌, ◌-◌, List, [], ◌∷◌, length, OnOk, OnErr, slice_index_or, slice_set, vec_items};
+ghost use Rattle.std.specs.Prelude.{◌≡◌, ◌++◌, ◌+◌, ◌<◌, ◌≤◌, ◌-◌, ◌%◌, List, [], ◌∷◌, length, IfOk, OnOk, OnErr, slice_index_or, slice_set, vec_items};
 ghost use Rattle.std.specs.List.{insert, remove};
-ghost use Rattle.wasmi_collections.specs.IndexBlocks.{from_first, width};
+ghost use Rattle.wasmi_collections.specs.IndexBlocks.{from_first};
 ghost use Rattle.wasmi_collections.specs.declared.string_interner.entry.Entry.{Entry};
 
+use super::width::{Width, left_of};
 use crate::string_interner::entry::Entry;
 use std::alloc::{AllocError, Allocator};
 use std::marker::Model;
 use std::mem;
 
-// How many entries a full ring has, and so a full block.
-pub(in crate::string_interner) const WIDTH: usize = 1024;
-
-// Entries in a ring.
+// As many entries as a width, in a ring.
 #[derive(Drop)]
 pub(super) struct Ring<A: Allocator> {
     slots: Vec<Entry, A>,
-    // Where the first stands: at 0, where the ring isn't full.
+    // Where the first stands.
     first: usize,
 }
 
 impl<A: Allocator> Model for Ring<A> {
-    ghost use Rattle.std.specs.Prelude.{vec_items, vec_capacity};
-    ghost use Rattle.wasmi_collections.specs.IndexBlocks.{BlockState, IsRing, from_first};
+    ghost use Rattle.std.specs.Prelude.{List, vec_items};
+    ghost use Rattle.wasmi_collections.specs.IndexBlocks.{IsRing, from_first};
+    ghost use Rattle.wasmi_collections.specs.declared.string_interner.entry.Entry.{Entry};
 
-    ghost Value = { BlockState };
+    ghost Value = { List Entry };
 
-    ghost view = { λ ring. record { entries = from_first (vec_items ring.slots) ring.first; capacity = vec_capacity ring.slots } };
+    ghost view = { λ ring. from_first (vec_items ring.slots) ring.first };
 
     ghost invariant = { λ ring. IsRing (vec_items ring.slots) ring.first };
 }
 
 impl<A: Allocator> Ring<A> {
-    // A ring without entries.
-    pub(super) fn new(alloc: A) -> Self
-        ensures { result.entries ≡ [] }
+    // A ring of entries that stand for none.
+    pub(super) fn new(alloc: A, width: &Width) -> Result<Self, AllocError>
+        ensures { IfOk result (λ ring. length ring ≡ width.now) }
     {
-        Ring {
-            slots: Vec::new(alloc),
-            first: 0,
-        }
+        let mut slots = Vec::new(alloc);
+        slots.resize(width.get(), Entry::filler())?;
+        Ok(Ring { slots, first: 0 })
+    }
+
+    // The entries of two rings, one behind the other.
+    pub(super) fn joined(
+        alloc: A,
+        one: &Ring<A>,
+        other: &Ring<A>,
+        width: &Width,
+    ) -> Result<Self, AllocError>
+        requires { length one.now + length other.now ≡ width.now }
+        ensures { IfOk result (λ ring. ring ≡ one.now ++ other.now) }
+    {
+        let mut slots = Vec::with_capacity(alloc, width.get())?;
+        one.copy_to(&mut slots)?;
+        other.copy_to(&mut slots)?;
+        Ok(Ring { slots, first: 0 })
+    }
+
+    // Widens it by entries that stand for none. Without memory for them, it is as before.
+    pub(super) fn widen(&mut self, width: &Width) -> Result<(), AllocError>
+        requires { length self.old + length self.old ≡ width.now }
+        ensures ok { OnOk result ((fillers : List Entry) × (self.new ≡ self.old ++ fillers)) }
+        ensures len { OnOk result (length self.new ≡ width.now) }
+        ensures err { OnErr result (self.new ≡ self.old) }
+    {
+        self.slots.rotate_left(self.first);
+        self.first = 0;
+        self.slots.resize(width.get(), Entry::filler())?;
+        Ok(())
+    }
+
+    // Copies all of them behind others.
+    fn copy_to(&self, others: &mut Vec<Entry, A>) -> Result<(), AllocError>
+        ensures { OnOk result (vec_items others.new ≡ vec_items others.old ++ self.now) }
+    {
+        others.extend_from_slice(&self.slots[self.first..])?;
+        others.extend_from_slice(&self.slots[..self.first])
     }
 
     // How many it has.
     pub(super) fn len(&self) -> usize
-        ensures value { result ≡ length self.now.entries }
-        ensures small { result ≤ width }
-        ensures room { result ≤ self.now.capacity }
+        ensures { result ≡ length self.now }
     {
         self.slots.len()
     }
 
-    // The entry at a place.
-    pub(super) fn at(&self, place: usize) -> Entry
-        requires { place < length self.now.entries }
-        ensures { result ≡ slice_index_or self.now.entries place result }
+    // The entry of a rank, whose place is what is left of it by the width.
+    pub(super) fn at(&self, rank: usize) -> Entry
+        ensures { result ≡ slice_index_or self.now (rank % length self.now) result }
     {
-        self.slots[(self.first + place) % WIDTH]
+        self.slots[left_of(self.first, rank, self.slots.len())]
     }
 
-    // Makes room for one more entry.
-    pub(super) fn reserve(&mut self) -> Result<(), AllocError>
-        ensures entries { self.new.entries ≡ self.old.entries }
-        ensures ok { OnOk result (length self.new.entries < self.new.capacity) }
-    {
-        self.slots.reserve(1)
-    }
-
-    // Fills it, behind what it has, with entries that stand for none.
-    pub(super) fn fill(&mut self) -> Result<(), AllocError>
-        requires { length self.old.entries < width }
-        ensures ok { OnOk result ((fillers : List Entry) × (self.new.entries ≡ self.old.entries ++ fillers)
-            × (length self.new.entries ≡ width)) }
-        ensures room { OnOk result (width ≤ self.new.capacity) }
-        ensures err { OnErr result (self.new.entries ≡ self.old.entries) }
-    {
-        self.slots.resize(WIDTH, Entry::filler())?;
-        Ok(())
-    }
-
-    // Puts an entry at a place, for the one that stands there. The ring is full.
+    // Puts an entry at a place, for the one that stands there.
     pub(super) fn set(&mut self, place: usize, entry: Entry)
-        requires full { length self.old.entries ≡ width }
-        requires within { place < width }
-        ensures { self.new.entries ≡ slice_set self.old.entries place entry }
+        requires { place < length self.old }
+        ensures { self.new ≡ slice_set self.old place entry }
     {
-        let behind = WIDTH - self.first;
+        let behind = self.slots.len() - self.first;
         if place < behind {
             self.slots[self.first + place] = entry;
         } else {
@@ -93,45 +104,42 @@ impl<A: Allocator> Ring<A> {
         }
     }
 
-    // Puts an entry at a place. There is room.
-    pub(super) fn put(&mut self, place: usize, entry: Entry)
-        requires within { place ≤ length self.old.entries }
-        requires free { length self.old.entries < width }
-        requires room { length self.old.entries < self.old.capacity }
-        ensures { self.new.entries ≡ insert self.old.entries place entry }
-    {
-        let _put = self.slots.insert(place, entry);
-    }
-
-    // Puts an entry before the first, and takes the last out. The ring is full.
+    // Puts an entry before the first, and takes the last out.
     pub(super) fn turn(&mut self, entry: Entry) -> Entry
-        requires { length self.old.entries ≡ width }
-        ensures { self.new.entries ++ result ∷ [] ≡ entry ∷ self.old.entries }
+        ensures { self.new ++ result ∷ [] ≡ entry ∷ self.old }
     {
-        let last = (self.first + WIDTH - 1) % WIDTH;
-        self.first = last;
-        mem::replace(&mut self.slots[last], entry)
+        let end = end_of(self.first, self.slots.len());
+        self.first = end - 1;
+        mem::replace(&mut self.slots[end - 1], entry)
     }
 
-    // Puts an entry at a place, and takes the last out. The ring is full. Of the entries before the place and
-    // those behind it the fewer move.
+    // Puts an entry at a place, and takes the last out. Of the entries before the place and those behind it the
+    // fewer move.
     pub(super) fn push_out(&mut self, place: usize, entry: Entry) -> Entry
-        requires full { length self.old.entries ≡ width }
-        requires within { place < width }
-        ensures { self.new.entries ++ result ∷ [] ≡ insert self.old.entries place entry }
+        requires { place < length self.old }
+        ensures { self.new ++ result ∷ [] ≡ insert self.old place entry }
     {
-        // A full ring that begins at 0 begins behind its last slot as well.
-        let first = if self.first == 0 { WIDTH } else { self.first };
-        if place < WIDTH / 2 {
-            self.first = first - 1;
-            move_down(&mut self.slots, first, place, entry)
+        let end = end_of(self.first, self.slots.len());
+        if place < self.slots.len() / 2 {
+            self.first = end - 1;
+            move_down(&mut self.slots, end, place, entry)
         } else {
-            move_up(&mut self.slots, first, place, entry)
+            move_up(&mut self.slots, end, place, entry)
         }
     }
 }
 
-// Puts an entry at a place of a full ring, and takes the last out. The entries before the place move down, so the first
+// Where the last entry of a ring ends. One that begins at 0 begins behind its last slot as well.
+fn end_of(first: usize, len: usize) -> usize
+    requires { first < len }
+    ensures some { 0 < result }
+    ensures within { result ≤ len }
+    ensures same { (slots : List Entry) → length slots ≡ len → from_first slots result ≡ from_first slots first }
+{
+    if first == 0 { len } else { first }
+}
+
+// Puts an entry at a place of a ring, and takes the last out. The entries before the place move down, so the first
 // stands a slot further down.
 fn move_down<A: Allocator>(
     ring: &mut Vec<Entry, A>,
@@ -139,43 +147,43 @@ fn move_down<A: Allocator>(
     place: usize,
     entry: Entry,
 ) -> Entry
-    requires full { length (vec_items ring.old) ≡ width }
-    requires first { (0 < first) × (first ≤ width) }
-    requires within { place < width }
+    requires first { (0 < first) × (first ≤ length (vec_items ring.old)) }
+    requires within { place < length (vec_items ring.old) }
     ensures items { from_first (vec_items ring.new) (first - 1) ++ result ∷ []
         ≡ insert (from_first (vec_items ring.old) first) place entry }
     ensures len { length (vec_items ring.new) ≡ length (vec_items ring.old) }
 {
+    let len = ring.len();
     let last = first - 1;
-    let behind = WIDTH - first;
+    let behind = len - first;
     if place <= behind {
         exchange(ring, last, last + place, entry)
     } else {
         let carried = exchange(ring, 0, place - behind - 1, entry);
-        exchange(ring, last, WIDTH - 1, carried)
+        exchange(ring, last, len - 1, carried)
     }
 }
 
-// Puts an entry at a place of a full ring, and takes the last out. The entries behind the place move up.
+// Puts an entry at a place of a ring, and takes the last out. The entries behind the place move up.
 fn move_up<A: Allocator>(
     ring: &mut Vec<Entry, A>,
     first: usize,
     place: usize,
     entry: Entry,
 ) -> Entry
-    requires full { length (vec_items ring.old) ≡ width }
-    requires first { (0 < first) × (first ≤ width) }
-    requires within { place < width }
+    requires first { (0 < first) × (first ≤ length (vec_items ring.old)) }
+    requires within { place < length (vec_items ring.old) }
     ensures items { from_first (vec_items ring.new) first ++ result ∷ []
         ≡ insert (from_first (vec_items ring.old) first) place entry }
     ensures len { length (vec_items ring.new) ≡ length (vec_items ring.old) }
 {
+    let len = ring.len();
     let last = first - 1;
-    let behind = WIDTH - first;
+    let behind = len - first;
     if behind <= place {
         exchange(ring, last, place - behind, entry)
     } else {
-        let carried = exchange(ring, WIDTH - 1, first + place, entry);
+        let carried = exchange(ring, len - 1, first + place, entry);
         exchange(ring, last, 0, carried)
     }
 }
@@ -200,7 +208,7 @@ fn exchange<A: Allocator>(ring: &mut Vec<Entry, A>, from: usize, to: usize, entr
 impl<A: Allocator + Clone> Clone for Ring<A> {
     ghost use Rattle.std.specs.Prelude.{◌≡◌};
 
-    ghost is_clone = { λ ring copy. copy.entries ≡ ring.entries };
+    ghost is_clone = { λ ring copy. copy ≡ ring };
 
     ghost is_infallible = { λ _. ⊥ };
 

@@ -9,9 +9,9 @@ search_rest-found-requires-clause-in_order g c = IsSearchable-texts c.args.sough
 
 pub returns-in-Err-clause-found : goal.returns-in-Err-clause-found
 returns-in-Err-clause-found g c =
-    none_left _ c.in-Err.rest.low c.in-Err.rest.len c.in-Err.ensures.left (nothing_left _ _ c.in-Err.ensures.run)
+    none_left _ c.in-Err.rest.low c.in-Err.rest.len c.in-Err.ensures.left (nothing_left c.in-Err.rest.low c.in-Err.rest.len c.in-Err.ensures.run)
 
 pub returns-in-Err-clause-many_steps : goal.returns-in-Err-clause-many_steps
 returns-in-Err-clause-many_steps g c =
-    let none = nothing_left _ _ c.in-Err.ensures.run in
+    let none = nothing_left c.in-Err.rest.low c.in-Err.rest.len c.in-Err.ensures.run in
     omega (arith, c.in-Err.ensures.many_looks, c.replace.ensures.value, digits_least (c.in-Err.rest.len + 1) 1 (omega (arith, none)))

@@ -1,50 +1,75 @@
-use Rattle.std.proofs.Common.{suc, ◌≡◌, ◌<◌, ◌+◌, ◌-◌, ◌*◌, ◌/◌, ◌%◌, ◌∙◌, sym, ap, arith, length, slice_set, vec_items}
+use Rattle.std.proofs.Common.{suc, ◌≡◌, ◌<◌, ◌+◌, ◌-◌, ◌*◌, ◌/◌, ◌%◌, ◌∙◌, refl, sym, ap, arith, length, slice_set, vec_items}
 use Rattle.std.specs.List.{insert}
 use Rattle.std.proofs.lemmas.List.{length-set}
-use Rattle.wasmi_collections.specs.IndexBlocks.{entries_in, width}
-use Rattle.wasmi_collections.proofs.IndexBlocks.{has_room, fits_last, full, pushed_out, put_last}
+use Rattle.std.proofs.lemmas.Nat.{div_below, mod_below}
+use Rattle.wasmi_collections.specs.IndexBlocks.{entries_in}
+use Rattle.wasmi_collections.proofs.IndexBlocks.{divided, has_room, fits_last, full, pushed_out, put_last}
 use Rattle.wasmi_collections.proofs.string_interner.index.blocks.insert.Goals as goal
 
 -- ---- where the rank is in the last block
 
 pub put-requires : goal.put-requires
 put-requires g c =
-    let blocks = vec_items c.args.blocks.now in let last = c.len-last.result - 1 in let block = c.index_mut.result.now in
-    let is_last : last + 1 ≡ length blocks = omega (arith, has_room blocks c.requires.blocks c.requires.room, c.len-last.ensures, c.args.blocks.now.ok) in
-    let fits = fits_last blocks last block block c.requires.blocks is_last c.requires.room c.index_mut.ensures.value in
-    record { within = omega (arith, fits.0, c.requires.within, c.if-block-last.true); free = fits.1; room = fits.2 }
+    let blocks = vec_items c.args.blocks.now in let w = c.args.width.now in let last = c.len-last.result - 1 in let block = c.index_mut.result.now in
+    let some = has_room w blocks c.requires.blocks c.requires.room in
+    let is_last : last + 1 ≡ length blocks = omega (arith, some.0, c.len-last.ensures, c.args.blocks.now.ok) in
+    let at = divided w c.args.rank last c.place_of-place.result (sym c.if-block-last.true ∙ c.block_of-block.ensures) c.place_of-place.ensures in
+    let fits = fits_last w blocks last block block c.requires.blocks is_last c.requires.room c.index_mut.ensures.value in
+    record { within = omega (arith, fits.0, at, c.requires.within); free = omega (arith, fits.1, fits.2) }
 
 pub returns-then-block-last : goal.returns-then-block-last
 returns-then-block-last g c =
-    let blocks = vec_items c.args.blocks.now in let last = c.len-last.result - 1 in let block = c.index_mut.result.now in let place = c.args.rank % width in
-    let is_last : last + 1 ≡ length blocks = omega (arith, has_room blocks c.requires.blocks c.requires.room, c.len-last.ensures, c.args.blocks.now.ok) in
-    let at : c.args.rank ≡ last * width + place = omega (arith, c.if-block-last.true) in
-    let fits = fits_last blocks last block block c.requires.blocks is_last c.requires.room c.index_mut.ensures.value in
+    let blocks = vec_items c.args.blocks.now in let w = c.args.width.now in let last = c.len-last.result - 1 in let block = c.index_mut.result.now in let place = c.place_of-place.result in
+    let some = has_room w blocks c.requires.blocks c.requires.room in
+    let is_last : last + 1 ≡ length blocks = omega (arith, some.0, c.len-last.ensures, c.args.blocks.now.ok) in
+    let at = divided w c.args.rank last place (sym c.if-block-last.true ∙ c.block_of-block.ensures) c.place_of-place.ensures in
+    let fits = fits_last w blocks last block block c.requires.blocks is_last c.requires.room c.index_mut.ensures.value in
     let long = ap (λ b. length b.entries) c.index_mut.ensures.value in
-    let next = put_last blocks last place c.args.rank c.args.entry block c.put.new.self c.requires.blocks is_last at (omega (arith, long, at, fits.0, c.requires.within)) (omega (arith, long, fits.1))
-    (◌∙◌ {b = insert block.entries place c.args.entry} c.put.ensures (ap (λ b. insert b.entries place c.args.entry) c.index_mut.ensures.value)) in
+    let next = put_last w blocks last place c.args.rank c.args.entry block c.put.new.self c.requires.blocks is_last at (omega (arith, long, at, fits.0, c.requires.within)) (omega (arith, long, fits.1))
+    (ap (λ b. b.width) (c.put.ensures) ∙ ap (λ b. b.width) c.index_mut.ensures.value)
+    (ap (λ b. b.entries) c.put.ensures ∙ ap (λ b. insert b.entries place c.args.entry) c.index_mut.ensures.value) in
     record { blocks = next.0; entries = next.1 }
 
 -- ---- where it is in another
 
 pub index_mut-requires-2 : goal.index_mut-requires-2
 index_mut-requires-2 g c =
-    omega (arith, has_room (vec_items c.args.blocks.now) c.requires.blocks c.requires.room, c.requires.within, c.if-block-last.false, c.len-last.ensures, c.args.blocks.now.ok)
+    let blocks = vec_items c.args.blocks.now in let w = c.args.width.now in
+    let some = has_room w blocks c.requires.blocks c.requires.room in
+    omega (arith, div_below c.args.rank w (length blocks) some.2 (omega (arith, some.1, c.requires.within)), c.block_of-block.ensures, c.args.blocks.now.ok)
 
-pub push_out-carried-requires-clause-full : goal.push_out-carried-requires-clause-full
-push_out-carried-requires-clause-full g c =
-    let blocks = vec_items c.args.blocks.now in
-    let before : c.args.rank / width + 1 < length blocks = omega (arith, has_room blocks c.requires.blocks c.requires.room, c.requires.within, c.if-block-last.false, c.len-last.ensures, c.args.blocks.now.ok) in
-    ap (λ b. length b.entries) c.index_mut-2.ensures.value ∙ (full blocks (c.args.rank / width) c.index_mut-2.result.now c.requires.blocks before).0
+pub push_out-carried-requires : goal.push_out-carried-requires
+push_out-carried-requires g c =
+    let blocks = vec_items c.args.blocks.now in let w = c.args.width.now in let block = c.index_mut-2.result.now in
+    let some = has_room w blocks c.requires.blocks c.requires.room in
+    let before : c.block_of-block.result + 1 < length blocks = omega (arith, div_below c.args.rank w (length blocks) some.2 (omega (arith, some.1, c.requires.within)), c.block_of-block.ensures, c.if-block-last.false, c.len-last.ensures, c.args.blocks.now.ok) in
+    let all = full w blocks c.block_of-block.result block c.requires.blocks before in
+    let same = c.index_mut-2.ensures.value in
+    record {
+      full = ap (λ b. length b.entries) same ∙ (all.0.full ∙ (sym all.0.width ∙ ap (λ b. b.width) (sym same)));
+      within = omega (arith, c.place_of-place.ensures, mod_below c.args.rank w some.2, all.0.width, ap (λ b. b.width) same);
+    }
+
+pub overflow_add-block : goal.overflow_add-block
+overflow_add-block g c =
+    let blocks = vec_items c.args.blocks.now in let w = c.args.width.now in
+    let some = has_room w blocks c.requires.blocks c.requires.room in
+    omega (arith, div_below c.args.rank w (length blocks) some.2 (omega (arith, some.1, c.requires.within)), c.block_of-block.ensures, c.args.blocks.now.ok, c.len-last.ensures, c.len-last.type_inv)
 
 pub loop-block-init : goal.loop-block-init
 loop-block-init g c =
-    let blocks = vec_items c.args.blocks.now in let rank = c.args.rank in let block = rank / width in let place = rank % width in
+    let blocks = vec_items c.args.blocks.now in let w = c.args.width.now in let rank = c.args.rank in
+    let block = c.block_of-block.result in let place = c.place_of-place.result in
     let out = c.push_out-carried.result in let new = c.push_out-carried.new.self in
-    let before : block + 1 < length blocks = omega (arith, has_room blocks c.requires.blocks c.requires.room, c.requires.within, c.if-block-last.false, c.len-last.ensures, c.args.blocks.now.ok) in
-    let goes = ◌∙◌ {b = insert c.index_mut-2.result.now.entries place c.args.entry} c.push_out-carried.ensures (ap (λ b. insert b.entries place c.args.entry) c.index_mut-2.ensures.value) in
-    let next = pushed_out blocks block place rank c.args.entry out c.index_mut-2.result.now new c.requires.blocks before (omega arith) (omega arith) goes in
-    let on : (block + 1) * width ≡ suc block * width = omega arith in
+    let some = has_room w blocks c.requires.blocks c.requires.room in
+    let before : block + 1 < length blocks = omega (arith, div_below rank w (length blocks) some.2 (omega (arith, some.1, c.requires.within)), c.block_of-block.ensures, c.if-block-last.false, c.len-last.ensures, c.args.blocks.now.ok) in
+    let at = divided w rank block place c.block_of-block.ensures c.place_of-place.ensures in
+    let small : place < w = omega (arith, c.place_of-place.ensures, mod_below rank w some.2) in
+    let same = c.index_mut-2.ensures.value in
+    let wide = c.push_out-carried.ensures.width ∙ ap (λ b. b.width) same in
+    let goes = ◌∙◌ {b = insert c.index_mut-2.result.now.entries place c.args.entry} c.push_out-carried.ensures.entries (ap (λ b. insert b.entries place c.args.entry) same) in
+    let next = pushed_out w blocks block place rank c.args.entry out c.index_mut-2.result.now new c.requires.blocks before small at wide goes in
+    let on : (block + 1) * w ≡ suc block * w = ap (λ k. k * w) (let one : block + 1 ≡ suc block = omega arith in one) in
     record {
       blocks = next.0;
       last = omega (arith, before, c.len-last.ensures, c.args.blocks.now.ok, length-set blocks block new);
@@ -55,18 +80,21 @@ loop-block-init g c =
 
 pub turn-carried-requires : goal.turn-carried-requires
 turn-carried-requires g c =
-    let now = c.loop-block in let blocks = vec_items now.blocks in
-    ap (λ b. length b.entries) c.index_mut-in-loop-block.ensures.value
-    ∙ (full blocks now.block c.index_mut-in-loop-block.result.now now.invariant.blocks (omega (arith, now.invariant.last, c.loop-block-test.true))).0
+    let now = c.loop-block in let w = c.args.width.now in let same = c.index_mut-in-loop-block.ensures.value in
+    let all = full w (vec_items now.blocks) now.block c.index_mut-in-loop-block.result.now now.invariant.blocks (omega (arith, now.invariant.last, c.loop-block-test.true)) in
+    ap (λ b. length b.entries) same ∙ (all.0.full ∙ (sym all.0.width ∙ ap (λ b. b.width) (sym same)))
 
 pub loop-block-preserved : goal.loop-block-preserved
 loop-block-preserved g c =
-    let now = c.loop-block in let blocks = vec_items now.blocks in let block = now.block in
+    let now = c.loop-block in let blocks = vec_items now.blocks in let block = now.block in let w = c.args.width.now in
     let out = c.turn-carried.result in let new = c.turn-carried.new.self in
+    let some = has_room w blocks now.invariant.blocks now.invariant.room in
     let before : block + 1 < length blocks = omega (arith, now.invariant.last, c.loop-block-test.true) in
-    let goes = ◌∙◌ {b = insert c.index_mut-in-loop-block.result.now.entries 0 now.carried} c.turn-carried.ensures (ap (λ b. insert b.entries 0 now.carried) c.index_mut-in-loop-block.ensures.value) in
-    let next = pushed_out blocks block 0 (block * width) now.carried out c.index_mut-in-loop-block.result.now new now.invariant.blocks before (omega arith) (omega arith) goes in
-    let on : (block + 1) * width ≡ suc block * width = omega arith in
+    let same = c.index_mut-in-loop-block.ensures.value in
+    let wide = c.turn-carried.ensures.width ∙ ap (λ b. b.width) same in
+    let goes = ◌∙◌ {b = insert c.index_mut-in-loop-block.result.now.entries 0 now.carried} c.turn-carried.ensures.entries (ap (λ b. insert b.entries 0 now.carried) same) in
+    let next = pushed_out w blocks block 0 (block * w) now.carried out c.index_mut-in-loop-block.result.now new now.invariant.blocks before some.2 (omega arith) wide goes in
+    let on : (block + 1) * w ≡ suc block * w = ap (λ k. k * w) (let one : block + 1 ≡ suc block = omega arith in one) in
     record {
       blocks = next.0;
       last = omega (arith, now.invariant.last, length-set blocks block new);
@@ -78,18 +106,20 @@ loop-block-preserved g c =
 pub put-requires-2 : goal.put-requires-2
 put-requires-2 g c =
     let now = c.loop-block in let blocks = vec_items now.blocks in let last = c.len-last.result - 1 in let block = c.index_mut-3.result.now in
-    let fits = fits_last blocks last block block now.invariant.blocks now.invariant.last now.invariant.room c.index_mut-3.ensures.value in
-    record { within = omega arith; free = fits.1; room = fits.2 }
+    let fits = fits_last c.args.width.now blocks last block block now.invariant.blocks now.invariant.last now.invariant.room c.index_mut-3.ensures.value in
+    record { within = omega arith; free = omega (arith, fits.1, fits.2) }
 
 pub returns : goal.returns
 returns g c =
-    let now = c.loop-block in let blocks = vec_items now.blocks in let last = c.len-last.result - 1 in let block = c.index_mut-3.result.now in
+    let now = c.loop-block in let blocks = vec_items now.blocks in let w = c.args.width.now in let last = c.len-last.result - 1 in let block = c.index_mut-3.result.now in
     let here : now.block ≡ last = omega (arith, now.invariant.block, c.loop-block-test.false) in
-    let fits = fits_last blocks last block block now.invariant.blocks now.invariant.last now.invariant.room c.index_mut-3.ensures.value in
-    let long = ap (λ b. length b.entries) c.index_mut-3.ensures.value in
-    let next = put_last blocks last 0 (last * width) now.carried block c.put-2.new.self now.invariant.blocks now.invariant.last (omega arith) (omega arith) (omega (arith, long, fits.1))
-    (◌∙◌ {b = insert block.entries 0 now.carried} c.put-2.ensures (ap (λ b. insert b.entries 0 now.carried) c.index_mut-3.ensures.value)) in
+    let same = c.index_mut-3.ensures.value in
+    let fits = fits_last w blocks last block block now.invariant.blocks now.invariant.last now.invariant.room same in
+    let long = ap (λ b. length b.entries) same in
+    let next = put_last w blocks last 0 (last * w) now.carried block c.put-2.new.self now.invariant.blocks now.invariant.last (omega arith) (omega arith) (omega (arith, long, fits.1))
+    (ap (λ b. b.width) c.put-2.ensures ∙ ap (λ b. b.width) same)
+    (ap (λ b. b.entries) c.put-2.ensures ∙ ap (λ b. insert b.entries 0 now.carried) same) in
     record {
       blocks = next.0;
-      entries = next.1 ∙ (ap (λ k. insert (entries_in blocks) (k * width) now.carried) (sym here) ∙ now.invariant.same);
+      entries = next.1 ∙ (ap (λ k. insert (entries_in blocks) (k * w) now.carried) (sym here) ∙ now.invariant.same);
     }

@@ -1,0 +1,13 @@
+use Rattle.std.proofs.Common.{◌≡◌, ◌<◌, ap, arith, vec_items}
+use Rattle.wasmi_collections.proofs.IndexBlocks.{opened}
+use Rattle.wasmi_collections.proofs.string_interner.index.blocks.open.Goals as goal
+
+pub returns-clause-blocks : goal.returns-clause-blocks
+returns-clause-blocks g c =
+    rw (c.push_reserved.ensures.items, c.reserve.ensures.items)
+    (opened c.args.width.now (vec_items c.args.blocks.now) c.in_ok-block.block c.requires.some c.requires.blocks c.requires.full c.in_ok-block.ensures.0 c.in_ok-block.ensures.1).0
+
+pub returns-clause-ok : goal.returns-clause-ok
+returns-clause-ok g c =
+    rw (c.push_reserved.ensures.items, c.reserve.ensures.items)
+    (opened c.args.width.now (vec_items c.args.blocks.now) c.in_ok-block.block c.requires.some c.requires.blocks c.requires.full c.in_ok-block.ensures.0 c.in_ok-block.ensures.1).2
