@@ -70,7 +70,7 @@ const fn row(
     }
 }
 
-// The same of texts. A new text is linear in their number, so there are fewer.
+// The same of texts, which take longest.
 const fn names(
     name: &'static str,
     round: Round,
@@ -80,7 +80,6 @@ const fn names(
 ) -> Row {
     Row {
         operations: 1 << 19,
-        most: 1 << 16,
         ..row(name, round, ours, theirs, plain)
     }
 }

@@ -148,9 +148,15 @@ fn timed(work: impl Fn() -> u64) -> (f64, u64) {
 ///
 /// If two sides differ in a checksum.
 pub fn time(row: &Row, n: u64) -> Times {
-    let rounds = row.operations / n;
+    // Where one round has more operations than a measurement, two turns have to do.
+    let (turns, most_turns) = if row.operations < n {
+        (2, 2)
+    } else {
+        (TURNS, MOST_TURNS)
+    };
+    let rounds = (row.operations / n).max(1);
     let [mut ours, mut theirs, mut plain, mut kit] = [Side::UNTIMED; 4];
-    for turn in 0..=MOST_TURNS {
+    for turn in 0..=most_turns {
         ours.turn(|n, rounds| (row.ours)(n, rounds), n, rounds);
         theirs.turn(row.theirs, n, rounds);
         plain.turn(row.plain, n, rounds);
@@ -165,7 +171,7 @@ pub fn time(row: &Row, n: u64) -> Times {
             for side in [&mut ours, &mut theirs, &mut plain, &mut kit] {
                 *side = Side::UNTIMED;
             }
-        } else if turn >= TURNS && [ours, theirs, plain, kit].iter().all(Side::agrees) {
+        } else if turn >= turns && [ours, theirs, plain, kit].iter().all(Side::agrees) {
             break;
         }
     }

@@ -191,12 +191,12 @@ fn a_run_replies_as_the_table_says(rt: HostRuntime) {
     assert_equal!(rt; interner.len(), 3);
 }
 
-// A text of its own for each number below 3,001, in no order.
+// A text of its own for each number below 20,011, in no order.
 fn scattered(rt: &impl Abort, alloc: Global, number: u32) -> String {
-    format!(in alloc; "{}", number.wrapping_mul(7919) % 3001).or_abort(rt)
+    format!(in alloc; "{}", number.wrapping_mul(7919) % 20011).or_abort(rt)
 }
 
-// The blocks of the index were joined five times then. The number 3,001 has twelve binary digits.
+// The index has six blocks then. The number 3,001 has twelve binary digits.
 #[test]
 fn three_thousand_texts_are_found(rt: HostRuntime) {
     let mut interner = StringInterner::new(rt.alloc());
@@ -212,7 +212,7 @@ fn three_thousand_texts_are_found(rt: HostRuntime) {
         assert_equal!(rt; symbol, Some(Sym::from_u32(number)));
         assert!(rt; steps.count() <= 12, "of {number}");
     }
-    assert!(rt; interner.get("3001").is_none());
+    assert!(rt; interner.get("20011").is_none());
     assert_equal!(rt; &interner.clone().or_abort(&rt), &interner);
 }
 
@@ -275,31 +275,31 @@ fn with_full_blocks<'l>(
     alloc: Global,
 ) -> StringInterner<Logged<'l>> {
     let mut interner = StringInterner::new(handle);
-    for number in 0..512 {
+    for number in 0..16384 {
         let text = scattered(rt, alloc, number);
         let _symbol = interner.get_or_intern(text.as_str()).or_abort(rt);
     }
     interner
 }
 
-// One text more asks for two blocks in the place of four and for their list, for a larger one with a third, and
-// for a larger list of where texts lie.
+// One text more asks for sixteen blocks in the place of 32 and for their list, for a longer one and one more
+// block, and for a longer list of where texts lie.
 #[test]
 fn refused_blocks_of_the_index_are_joined_later(rt: HostRuntime) {
     let mut refusals = 0u64;
-    for nth in 1..9 {
+    for nth in 1..24 {
         let log = Log::new();
         {
             let handle = Logged::new(rt.alloc(), &log);
             let mut interner = with_full_blocks(&rt, handle, rt.alloc());
             log.refuse_once(nth);
             if interner.get_or_intern("memory").is_err() {
-                assert_equal!(rt; (interner.get("memory"), interner.len()), (None, 512));
+                assert_equal!(rt; (interner.get("memory"), interner.len()), (None, 16384));
                 refusals = refusals.wrapping_add(1);
             }
             let symbol = interner.get_or_intern("memory").or_abort(&rt);
-            assert_equal!(rt; symbol.into_u32(), 512);
-            for number in 0..512 {
+            assert_equal!(rt; symbol.into_u32(), 16384);
+            for number in 0..16384 {
                 let text = scattered(&rt, rt.alloc(), number);
                 let found = interner.get(text.as_str());
                 assert_equal!(rt; found, Some(Sym::from_u32(number)), "at {nth}");
@@ -307,7 +307,7 @@ fn refused_blocks_of_the_index_are_joined_later(rt: HostRuntime) {
         }
         assert_equal!(rt; log.amiss(), 0);
     }
-    assert_equal!(rt; refusals, 6);
+    assert_equal!(rt; refusals, 20);
 }
 
 // An interner of the names. One that is refused is interned again.

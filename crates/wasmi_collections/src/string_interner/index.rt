@@ -29,7 +29,7 @@ pub(super) struct Index<A: Allocator> {
 }
 
 // Up to this width a block stands alone.
-const ALONE: usize = 256;
+const ALONE: usize = 512;
 
 // Blocks are joined when they are as many as this part of their width.
 const PART: usize = 16;

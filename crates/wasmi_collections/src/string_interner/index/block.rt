@@ -75,7 +75,7 @@ impl<A: Allocator> Block<A> {
         self.len == self.ring.len()
     }
 
-    // The entry of a rank, whose place is what is left of it by the width.
+    // The entry of a rank, whose place is its remainder by the width.
     pub(in crate::string_interner) fn at(&self, rank: usize) -> Entry
         requires { rank % self.now.width < length self.now.entries }
         ensures { result ≡ slice_index_or self.now.entries (rank % self.now.width) result }

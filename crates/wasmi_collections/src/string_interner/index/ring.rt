@@ -4,7 +4,7 @@ ghost use Rattle.std.specs.List.{insert, remove};
 ghost use Rattle.wasmi_collections.specs.IndexBlocks.{from_first};
 ghost use Rattle.wasmi_collections.specs.declared.string_interner.entry.Entry.{Entry};
 
-use super::width::{Width, left_of};
+use super::width::{Width, remainder};
 use crate::string_interner::entry::Entry;
 use std::alloc::{AllocError, Allocator};
 use std::marker::Model;
@@ -84,11 +84,11 @@ impl<A: Allocator> Ring<A> {
         self.slots.len()
     }
 
-    // The entry of a rank, whose place is what is left of it by the width.
+    // The entry of a rank, whose place is its remainder by the width.
     pub(super) fn at(&self, rank: usize) -> Entry
         ensures { result ≡ slice_index_or self.now (rank % length self.now) result }
     {
-        self.slots[left_of(self.first, rank, self.slots.len())]
+        self.slots[remainder(self.first, rank, self.slots.len())]
     }
 
     // Puts an entry at a place, for the one that stands there.

@@ -10,9 +10,10 @@ pub(in crate::string_interner) struct Width {
     power: u32,
 }
 
-// The power of the least width, and of the greatest.
+// The power of the least width.
 const LEAST: u32 = 4;
 
+// And of the greatest, which 2^32 entries don't outgrow.
 const GREATEST: u32 = 20;
 
 impl Model for Width {
@@ -74,13 +75,13 @@ impl Width {
     pub(super) fn place_of(&self, rank: usize) -> usize
         ensures { result ≡ rank % self.now }
     {
-        left_of(0, rank, self.get())
+        remainder(0, rank, self.get())
     }
 }
 
-// What the width leaves of a sum.
+// The remainder of a sum by a width.
 #[inline]
-pub(super) fn left_of(first: usize, rank: usize, width: usize) -> usize
+pub(super) fn remainder(first: usize, rank: usize, width: usize) -> usize
     requires { IsWidth width }
     ensures { result ≡ (first + rank) % width }
 {

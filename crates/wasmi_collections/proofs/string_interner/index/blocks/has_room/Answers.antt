@@ -1,4 +1,4 @@
-use Rattle.std.proofs.Common.{◌≡◌, ◌+◌, ◌-◌, ◌∙◌, not, ◌==◌, nat_lt, ap, arith, length, sym, vec_items}
+use Rattle.std.proofs.Common.{◌-◌, ◌∙◌, not, ◌==◌, nat_lt, ap, arith, length, sym, vec_items}
 use Rattle.wasmi_collections.proofs.IndexBlocks.{counted, not_full}
 use Rattle.wasmi_collections.proofs.string_interner.index.blocks.has_room.Goals as goal
 

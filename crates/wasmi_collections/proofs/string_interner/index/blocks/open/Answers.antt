@@ -1,4 +1,4 @@
-use Rattle.std.proofs.Common.{◌≡◌, ◌<◌, ap, arith, vec_items}
+use Rattle.std.proofs.Common.{vec_items}
 use Rattle.wasmi_collections.proofs.IndexBlocks.{opened}
 use Rattle.wasmi_collections.proofs.string_interner.index.blocks.open.Goals as goal
 

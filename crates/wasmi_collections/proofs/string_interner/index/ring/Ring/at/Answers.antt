@@ -12,7 +12,7 @@ returns g c =
     let long : c.len.result ≡ length ring = omega (arith, c.len.ensures, c.self.inside.slots.ok) in
     let seen : length (from_first ring first) ≡ length c.args.self.now = ap length c.self.view_is in
     c.index.ensures
-    ∙ (ap (λ k. slice_index_or ring k entry) (c.left_of.ensures ∙ (ap (λ k. (first + rank) % k) long ∙ sym (add-mod-mod first rank (length ring))))
+    ∙ (ap (λ k. slice_index_or ring k entry) (c.remainder.ensures ∙ (ap (λ k. (first + rank) % k) long ∙ sym (add-mod-mod first rank (length ring))))
     ∙ (read_at ring first (rank % length ring) entry c.self.invariant.within (mod_below rank (length ring) some)
     ∙ (ap (λ k. slice_index_or (from_first ring first) (rank % k) entry) (sym (length-from_first ring first) ∙ seen)
     ∙ ap (λ ys. slice_index_or ys (rank % length c.args.self.now) entry) c.self.view_is)))

@@ -1,4 +1,4 @@
-use Rattle.std.proofs.Common.{◌≡◌, ◌<◌, ◌∙◌, ap, arith, length, vec_items}
+use Rattle.std.proofs.Common.{◌≡◌, ◌∙◌, ap, arith, length, vec_items}
 use Rattle.std.proofs.lemmas.List.{length-append}
 use Rattle.std.proofs.lemmas.Nat.{pow_pos}
 use Rattle.wasmi_collections.proofs.string_interner.index.ring.Ring.joined.Goals as goal

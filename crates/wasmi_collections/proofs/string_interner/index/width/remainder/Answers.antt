@@ -1,6 +1,6 @@
-use Rattle.std.proofs.Common.{◌≡◌, ℕ, ◌+◌, ◌-◌, ◌*◌, ◌/◌, ◌%◌, ◌^◌, ◌≤◌, ◌∙◌, ap, arith}
+use Rattle.std.proofs.Common.{◌≡◌, ℕ, ◌+◌, ◌-◌, ◌/◌, ◌%◌, ◌^◌, ◌≤◌, ◌∙◌, ap, arith}
 use Rattle.std.proofs.lemmas.Nat.{and_mask, mod-mul-add, mod-pow-add, mod_below, pow_pos}
-use Rattle.wasmi_collections.proofs.string_interner.index.width.left_of.Goals as goal
+use Rattle.wasmi_collections.proofs.string_interner.index.width.remainder.Goals as goal
 
 -- what wraps at 2^64 is the same by a width
 wrapped : (n power : ℕ) → power ≤ 20 → n % 18446744073709551616 % 2 ^ power ≡ n % 2 ^ power
