@@ -80,6 +80,7 @@ const fn names(
 ) -> Row {
     Row {
         operations: 1 << 19,
+        most: 1 << 16,
         ..row(name, round, ours, theirs, plain)
     }
 }
@@ -176,7 +177,7 @@ pub const ROWS: &[Row] = &[
     Row { operations: 1 << 16, most: 1 << 12, ..row("`DedupArena` replace, items written to before", Round::Reads, ours::wasmi_bench_dedup_replace_written, dedup_replace_written, dedup_replace_written) },
     names("Ordered `Map` get by text, random", Round::Reads, ours::wasmi_bench_ordered_map_get_str, map_get_str::<OrderedNames>, map_get_str::<PlainTreeNames>),
     names("Hashed `Map` get by text, random", Round::Reads, ours::wasmi_bench_hashed_map_get_str, map_get_str::<PlainTableNames>, map_get_str::<PlainTableNames>),
-    names("`StringInterner` intern, new names", Round::Reads, ours::wasmi_bench_intern_new, intern_new::<RustInterner>, intern_new::<PlainInterner>),
-    names("`StringInterner` intern, names that are there", Round::Reads, ours::wasmi_bench_intern_again, intern_again::<RustInterner>, intern_again::<PlainInterner>),
+    Row { most: 1 << 20, ..names("`StringInterner` intern, new names", Round::Reads, ours::wasmi_bench_intern_new, intern_new::<RustInterner>, intern_new::<PlainInterner>) },
+    Row { most: 1 << 20, ..names("`StringInterner` intern, names that are there", Round::Reads, ours::wasmi_bench_intern_again, intern_again::<RustInterner>, intern_again::<PlainInterner>) },
     names("`StringInterner` resolve, random", Round::Reads, ours::wasmi_bench_resolve, resolve::<RustInterner>, resolve::<PlainInterner>),
 ];
