@@ -191,9 +191,9 @@ fn a_run_replies_as_the_table_says(rt: HostRuntime) {
     assert_equal!(rt; interner.len(), 3);
 }
 
-// A text of its own for each number below 20,011, in no order.
+// A text of its own for each number below 100,003, in no order.
 fn scattered(rt: &impl Abort, alloc: Global, number: u32) -> String {
-    format!(in alloc; "{}", number.wrapping_mul(7919) % 20011).or_abort(rt)
+    format!(in alloc; "{}", number.wrapping_mul(7919) % 100003).or_abort(rt)
 }
 
 // The index has six blocks then. The number 3,001 has twelve binary digits.
@@ -212,7 +212,7 @@ fn three_thousand_texts_are_found(rt: HostRuntime) {
         assert_equal!(rt; symbol, Some(Sym::from_u32(number)));
         assert!(rt; steps.count() <= 12, "of {number}");
     }
-    assert!(rt; interner.get("20011").is_none());
+    assert!(rt; interner.get("100003").is_none());
     assert_equal!(rt; &interner.clone().or_abort(&rt), &interner);
 }
 
@@ -268,22 +268,23 @@ fn a_refused_text_changes_nothing(rt: HostRuntime) {
     assert_equal!(rt; refusals, 9);
 }
 
-// An interner the blocks of whose index are full, and as many as are joined.
-fn with_full_blocks<'l>(
+// An interner of so many texts.
+fn with_texts<'l>(
     rt: &impl Abort,
     handle: Logged<'l>,
     alloc: Global,
+    texts: u32,
 ) -> StringInterner<Logged<'l>> {
     let mut interner = StringInterner::new(handle);
-    for number in 0..16384 {
+    for number in 0..texts {
         let text = scattered(rt, alloc, number);
         let _symbol = interner.get_or_intern(text.as_str()).or_abort(rt);
     }
     interner
 }
 
-// One text more asks for sixteen blocks in the place of 32 and for their list, for a longer one and one more
-// block, and for a longer list of where texts lie.
+// Behind 16,384 texts one more asks for sixteen blocks in the place of 32 and for their list, for a longer one and
+// one more block, and for a longer list of where texts lie.
 #[test]
 fn refused_blocks_of_the_index_are_joined_later(rt: HostRuntime) {
     let mut refusals = 0u64;
@@ -291,7 +292,7 @@ fn refused_blocks_of_the_index_are_joined_later(rt: HostRuntime) {
         let log = Log::new();
         {
             let handle = Logged::new(rt.alloc(), &log);
-            let mut interner = with_full_blocks(&rt, handle, rt.alloc());
+            let mut interner = with_texts(&rt, handle, rt.alloc(), 16384);
             log.refuse_once(nth);
             if interner.get_or_intern("memory").is_err() {
                 assert_equal!(rt; (interner.get("memory"), interner.len()), (None, 16384));
@@ -308,6 +309,39 @@ fn refused_blocks_of_the_index_are_joined_later(rt: HostRuntime) {
         assert_equal!(rt; log.amiss(), 0);
     }
     assert_equal!(rt; refusals, 20);
+}
+
+// Where all blocks of the index are full, the next text widens the only one, opens one more, or has them joined. So
+// many requests it makes, for so many bytes, and so many clones of the handle; and so many blocks of memory are held
+// then. Once all are cleared, the first text takes a block of sixteen entries.
+#[test]
+fn blocks_of_the_index_widen_in_turn(rt: HostRuntime) {
+    for (texts, asked, held) in [
+        (16, (2, 1024, 0), 4),
+        (512, (2, 24_576, 1), 5),
+        (16_384, (20, 805_120, 18), 20),
+        (65_536, (36, 3_183_104, 34), 36),
+    ] {
+        let log = Log::new();
+        {
+            let handle = Logged::new(rt.alloc(), &log);
+            let mut interner = with_texts(&rt, handle, rt.alloc(), texts);
+            let (requests, bytes, clones) = (log.requests(), log.bytes(), log.clones());
+            let _symbol = interner.get_or_intern("memory").or_abort(&rt);
+            let more = (
+                log.requests().wrapping_sub(requests),
+                log.bytes().wrapping_sub(bytes),
+                log.clones().wrapping_sub(clones),
+            );
+            let blocks = log.given().wrapping_sub(log.returned());
+            assert_equal!(rt; (more, blocks), (asked, held), "behind {texts}");
+            interner.clear();
+            let bytes = log.bytes();
+            let _symbol = interner.get_or_intern("memory").or_abort(&rt);
+            assert_equal!(rt; log.bytes().wrapping_sub(bytes), 256, "after {texts}");
+        }
+        assert_equal!(rt; log.amiss(), 0);
+    }
 }
 
 // An interner of the names. One that is refused is interned again.

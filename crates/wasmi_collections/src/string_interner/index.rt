@@ -21,17 +21,17 @@ pub(super) use width::Width;
 // one block, and one entry of each block behind it. Both are few, since blocks that have become many are
 // joined by twos.
 //
-// No other code knows how it is kept.
+// That there are blocks is known to the search alone.
 #[derive(Drop)]
 pub(super) struct Index<A: Allocator> {
     blocks: Vec<Block<A>, A>,
     width: Width,
 }
 
-// Up to this width a block stands alone.
+// A block that stands alone is widened up to this width.
 const ALONE: usize = 512;
 
-// Blocks are joined when they are as many as this part of their width.
+// Blocks are joined where they are a sixteenth of their width.
 const PART: usize = 16;
 
 impl<A: Allocator> Model for Index<A> {
@@ -61,7 +61,7 @@ impl<A: Allocator> Index<A> {
         }
     }
 
-    // Takes all entries out. The list of blocks is kept.
+    // Takes all entries out.
     pub(super) fn clear(&mut self)
         ensures { self.new.entries ≡ [] }
     {
@@ -130,7 +130,7 @@ impl<A: Allocator> Index<A> {
         Ok(())
     }
 
-    // Joins the blocks by twos, if they are many. All are full.
+    // Joins the blocks by twos, if they are many and their number is even. All are full.
     fn join(&mut self) -> Result<(), AllocError>
     where
         A: Clone,
@@ -139,7 +139,7 @@ impl<A: Allocator> Index<A> {
         ensures room { self.new.room ≡ 0 }
     {
         let len = self.blocks.len();
-        if len == 0 || len % 2 == 1 || len < self.width.get() / PART {
+        if len % 2 == 1 || len < self.width.get() / PART {
             return Ok(());
         }
         if let Some(next) = self.width.next() {

@@ -13,7 +13,7 @@ pub(in crate::string_interner) struct Width {
 // The power of the least width.
 const LEAST: u32 = 4;
 
-// And of the greatest, which 2^32 entries don't outgrow.
+// And of the greatest, which 2^32 entries don't reach.
 const GREATEST: u32 = 20;
 
 impl Model for Width {

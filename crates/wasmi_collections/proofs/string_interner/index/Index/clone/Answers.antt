@@ -1,6 +1,6 @@
-use Rattle.std.proofs.Common.{◌≡◌, ◌∙◌, ap, vec_items}
+use Rattle.std.proofs.Common.{◌∙◌, ap, vec_items}
 use Rattle.std.specs.List.{each_same}
-use Rattle.wasmi_collections.specs.IndexBlocks.{IsBlocks, IsWidth, entries_in}
+use Rattle.wasmi_collections.specs.IndexBlocks.{entries_in}
 use Rattle.wasmi_collections.specs.TextIndex.{Ranked}
 use Rattle.wasmi_collections.proofs.string_interner.index.Index.clone.Goals as goal
 
