@@ -1,14 +1,15 @@
 -- Facts on entries in blocks of one width.
-use Rattle.std.proofs.Common.{◌≡◌, ℕ, zero, suc, ◌+◌, ◌-◌, ◌*◌, ◌/◌, ◌%◌, ◌<◌, ◌≤◌, List, [], ◌∷◌, ◌++◌, length, take, get_or, slice_set, not, ◌==◌, nat_lt, refl, sym, ap, ◌∙◌, arith, inl, inr}
+use Rattle.std.proofs.Common.{◌≡◌, ℕ, zero, suc, ◌+◌, ◌-◌, ◌*◌, ◌/◌, ◌%◌, ◌^◌, ◌<◌, ◌≤◌, List, [], ◌∷◌, ◌++◌, length, take, get_or, slice_set, not, ◌==◌, nat_lt, refl, sym, ap, ◌∙◌, arith, inl, inr}
 use Rattle.std.specs.List.{All, flat_map, insert}
 use Rattle.std.proofs.lemmas.Bool.{cases_lt}
 use Rattle.std.proofs.Math.Nat.{suc-mul}
-use Rattle.std.proofs.lemmas.Nat.{div-add-mod', pow_pos}
+use Rattle.std.proofs.Math.Pow.{pow_mono}
+use Rattle.std.proofs.lemmas.Nat.{div-add-mod', pow-add, pow_pos}
 use Rattle.std.proofs.lemmas.List.{append_assoc, append-nil, length-append, length-set, get_or_append_left, get_or-append_right, take_more}
 use Rattle.std.proofs.lemmas.List.Edits.{insert-append_left, insert-append_right, length-insert}
 use Rattle.std.proofs.lemmas.Grind.{common_steps, flat_map-append}
 use Rattle.wasmi_collections.specs.declared.string_interner.entry.Entry.{Entry}
-use Rattle.wasmi_collections.specs.IndexBlocks.{BlockState, IsFull, IsBlocks, IsWidth, entries_in, room_in}
+use Rattle.wasmi_collections.specs.IndexBlocks.{AreFew, BlockState, IsFull, IsBlocks, IsWidth, entries_in, room_in}
 
 pub width_pos : (w : ℕ) → IsWidth w → 0 < w
 width_pos w is = omega (arith, is.2, pow_pos is.0)
@@ -198,3 +199,39 @@ two_more blocks n d e within =
 pub full_one : (w : ℕ) (block : BlockState) → IsFull w block → All (IsFull w) (block ∷ [])
 full_one w block is zero d within = is
 full_one w block is (suc k) d within = absurd (omega (arith, within))
+
+-- the only block, which is full, gets room for as many
+pub widened : (w half : ℕ) (blocks : List BlockState) (d new : BlockState) → length blocks ≡ 1 → half + half ≡ w → 0 < w → IsFull half (get_or blocks 0 d)
+    → new.entries ≡ (get_or blocks 0 d).entries → new.width ≡ w
+    → IsBlocks w (slice_set blocks 0 new) × (0 < room_in (slice_set blocks 0 new)) × (length (slice_set blocks 0 new) ≡ 1)
+widened w half [] d new alone twice some full same wide = absurd (omega (arith, alone))
+widened w half (q ∷ []) d new alone twice some full same wide =
+    let long : length new.entries ≡ half = ap length same ∙ full.full in
+    ((wide, omega (arith, long, twice)), omega (arith, wide, long, twice, some), refl)
+widened w half (q ∷ r ∷ rest) d new alone twice some full same wide = absurd (omega (arith, alone))
+
+pub width_least : (w : ℕ) → IsWidth w → 16 ≤ w
+width_least w is = let more : 2 ^ 4 ≤ 2 ^ is.0 = pow_mono {i = 4} {j = is.0} is.1.0 in omega (arith, more, is.2)
+
+-- where blocks are as many as they may be, and more than one, they can be joined by twos
+pub even_many : (w n : ℕ) → IsWidth w → AreFew w n → w < 2 ^ 20 → w / 16 ≤ n → (n ≡ 1 → ⊥) → n % 2 ≡ 0
+even_many w n is few less many apart = elim few [
+  | inl some ↦ elim (cases_lt is.0 5) [
+    | inl small ↦
+        let at : is.0 ≡ 4 = omega (arith, small, is.1.0) in
+        let wide : w ≡ 16 = is.2 ∙ ap (λ k. 2 ^ k) at in
+        absurd (apart (omega (arith, wide, some, many)))
+    | inr large ↦
+        let parts : is.0 ≡ is.0 - 5 + 5 = omega (arith, large) in
+        let wide : w ≡ 2 ^ (is.0 - 5) * 32 = is.2 ∙ (ap (λ k. 2 ^ k) parts ∙ pow-add 2 (is.0 - 5) 5) in
+        omega (arith, wide, some, many)
+  ]
+  | inr greatest ↦ absurd (omega (arith, less, greatest))
+]
+
+-- and then there may be one more
+pub few_joined : (w n m : ℕ) → IsWidth w → AreFew w n → w < 2 ^ 20 → m + m ≡ n → 16 * (m + 1) ≤ w + w
+few_joined w n m is few less half = elim few [
+  | inl some ↦ omega (arith, some, half, width_least w is)
+  | inr greatest ↦ absurd (omega (arith, less, greatest))
+]

@@ -1,11 +1,15 @@
 -- Entries by rank in blocks of one width: how the index of an interner keeps them.
-use Rattle.std.specs.Prelude.{ℕ, ◌≡◌, ◌+◌, ◌-◌, ◌^◌, ◌≤◌, ◌<◌, List, [], ◌∷◌, ◌++◌, length, take, drop, ⊤}
+use Rattle.std.specs.Prelude.{ℕ, ◌≡◌, ◌+◌, ◌-◌, ◌*◌, ◌^◌, ◌≤◌, ◌⊎◌, ◌<◌, List, [], ◌∷◌, ◌++◌, length, take, drop, ⊤}
 use Rattle.std.specs.List.{All, flat_map}
 use Rattle.wasmi_collections.specs.declared.string_interner.entry.Entry.{Entry}
 
 -- a width is a power of two
 abbrev pub IsWidth : ℕ → Type 0
-IsWidth width = (power : ℕ) × (power ≤ 20) × (width ≡ 2 ^ power)
+IsWidth width = (power : ℕ) × ((4 ≤ power) × (power ≤ 20)) × (width ≡ 2 ^ power)
+
+-- blocks are few for their width: a sixteenth of it at most, unless it is the greatest
+abbrev pub AreFew : ℕ → ℕ → Type 0
+AreFew wide blocks = (16 * blocks ≤ wide) ⊎ (wide ≡ 2 ^ 20)
 
 -- the entries of a block, and how many a full one has
 pub record BlockState : Type 0 where

@@ -7,11 +7,12 @@ use Rattle.wasmi_collections.specs.LenOrder.{len_cmp}
 use Rattle.wasmi_collections.specs.TextKey.{IsKeyOf}
 use Rattle.wasmi_collections.specs.declared.string_interner.entry.Entry.{Entry}
 
--- the entries by rank, for how many more there is room, and how many lie together
+-- the entries by rank, for how many more there is room, how many lie together, and in how many blocks
 pub record Ranked : Type 0 where
   pub entries : List Entry
   pub room : ℕ
   pub width : ℕ
+  pub blocks : ℕ
 
 -- the symbols of entries
 abbrev pub symbols_of : List Entry → List ℕ

@@ -1,6 +1,7 @@
 //! The index of an interner.
-ghost use Rattle.std.specs.Prelude.{◌≡◌, ℕ, ◌/◌, ◌%◌, ◌<◌, ◌≤◌, [], length, IfOk, OnOk, IsOkUnless, Some, slice_get};
+ghost use Rattle.std.specs.Prelude.{◌≡◌, ℕ, ◌+◌, ◌/◌, ◌%◌, ◌<◌, ◌≤◌, ◌⊎◌, [], length, IfOk, OnOk, IsOkUnless, Some, slice_get};
 ghost use Rattle.std.specs.List.{insert};
+ghost use Rattle.wasmi_collections.specs.IndexBlocks.{AreFew};
 
 mod block;
 mod blocks;
@@ -18,8 +19,8 @@ pub(super) use width::Width;
 //
 // They lie in blocks of one width, each a ring. All but the last are full, so a rank tells its block and its
 // place there. What a full block has too many goes on to the next, so an entry that is put in moves some of
-// one block, and one entry of each block behind it. Both are few, since blocks that have become many are
-// joined by twos.
+// one block, and one entry of each block behind it. Both are few: the width grows with the square root of
+// their number.
 //
 // That there are blocks is known to the search alone.
 #[derive(Drop)]
@@ -35,8 +36,8 @@ const ALONE: usize = 512;
 const PART: usize = 16;
 
 impl<A: Allocator> Model for Index<A> {
-    ghost use Rattle.std.specs.Prelude.{vec_items};
-    ghost use Rattle.wasmi_collections.specs.IndexBlocks.{IsBlocks, IsWidth, entries_in, room_in};
+    ghost use Rattle.std.specs.Prelude.{length, vec_items};
+    ghost use Rattle.wasmi_collections.specs.IndexBlocks.{AreFew, IsBlocks, IsWidth, entries_in, room_in};
     ghost use Rattle.wasmi_collections.specs.TextIndex.{Ranked};
 
     ghost Value = { Ranked };
@@ -45,9 +46,12 @@ impl<A: Allocator> Model for Index<A> {
       entries = entries_in (vec_items index.blocks);
       room = room_in (vec_items index.blocks);
       width = index.width;
+      blocks = length (vec_items index.blocks);
     } };
 
-    ghost invariant = { λ index. IsWidth index.width × IsBlocks index.width (vec_items index.blocks) };
+    ghost invariant = { λ index. IsWidth index.width
+        × AreFew index.width (length (vec_items index.blocks))
+        × IsBlocks index.width (vec_items index.blocks) };
 }
 
 impl<A: Allocator> Index<A> {
@@ -95,8 +99,7 @@ impl<A: Allocator> Index<A> {
         &self.blocks[self.width.block_of(rank)]
     }
 
-    // Makes room for one more entry. Where all blocks are full, a narrow one that stands alone is widened, or one
-    // more is opened, behind the others, which are joined by twos if they are many.
+    // Makes room for one more entry. Where all blocks are full, they are widened, or one more is opened.
     pub(super) fn reserve(&mut self) -> Result<(), ArenaError>
     where
         A: Clone,
@@ -109,41 +112,31 @@ impl<A: Allocator> Index<A> {
         }
         self.widen()?;
         if !blocks::has_room(&self.blocks, &self.width) {
-            self.join()?;
             blocks::open(&mut self.blocks, &self.width)?;
         }
         Ok(())
     }
 
-    // Widens the only block, if it is narrow. It is full.
+    // Doubles the width, if a narrow block stands alone, or the blocks are many for it. All are full. One that
+    // stands alone gets room, others are joined by twos.
     fn widen(&mut self) -> Result<(), AllocError>
-        requires { self.old.room ≡ 0 }
-        ensures { self.new.entries ≡ self.old.entries }
-    {
-        if self.blocks.len() != 1 || ALONE <= self.width.get() {
-            return Ok(());
-        }
-        if let Some(next) = self.width.next() {
-            blocks::widen(&mut self.blocks, &next)?;
-            self.width = next;
-        }
-        Ok(())
-    }
-
-    // Joins the blocks by twos, if they are many and their number is even. All are full.
-    fn join(&mut self) -> Result<(), AllocError>
     where
         A: Clone,
         requires { self.old.room ≡ 0 }
         ensures entries { self.new.entries ≡ self.old.entries }
-        ensures room { self.new.room ≡ 0 }
+        ensures ok { OnOk result ((0 < self.new.room) ⊎ AreFew self.new.width (self.new.blocks + 1)) }
     {
         let len = self.blocks.len();
-        if len % 2 == 1 || len < self.width.get() / PART {
+        let width = self.width.get();
+        if len < width / PART && (len != 1 || ALONE <= width) {
             return Ok(());
         }
         if let Some(next) = self.width.next() {
-            self.blocks = blocks::joined(&self.blocks, &next)?;
+            if len == 1 {
+                blocks::widen(&mut self.blocks, &next)?;
+            } else {
+                self.blocks = blocks::joined(&self.blocks, &next)?;
+            }
             self.width = next;
         }
         Ok(())

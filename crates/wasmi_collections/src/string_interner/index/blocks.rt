@@ -1,5 +1,5 @@
 //! Entries of the index of an interner by rank, in blocks of one width.
-ghost use Rattle.std.specs.Prelude.{◌≡◌, ◌%◌, ◌<◌, ◌≤◌, nat_lt, length, IfOk, OnErr, OnOk, vec_items};
+ghost use Rattle.std.specs.Prelude.{◌≡◌, ◌+◌, ◌%◌, ◌<◌, ◌≤◌, nat_lt, length, IfOk, OnErr, OnOk, vec_items};
 ghost use Rattle.std.specs.List.{insert as insert_at};
 ghost use Rattle.wasmi_collections.specs.IndexBlocks.{AreHalves, IsBlocks, entries_in, room_in};
 
@@ -27,7 +27,9 @@ pub(super) fn open<A: Allocator + Clone>(
     requires some { 0 < width.now }
     ensures blocks { IsBlocks width.now (vec_items blocks.new) }
     ensures entries { entries_in (vec_items blocks.new) ≡ entries_in (vec_items blocks.old) }
-    ensures ok { OnOk result (0 < room_in (vec_items blocks.new)) }
+    ensures ok { OnOk result ((0 < room_in (vec_items blocks.new))
+        × (length (vec_items blocks.new) ≡ length (vec_items blocks.old) + 1)) }
+    ensures err { OnErr result (length (vec_items blocks.new) ≡ length (vec_items blocks.old)) }
 {
     blocks.reserve(1)?;
     let alloc = blocks.allocator().clone()?;
@@ -43,8 +45,10 @@ pub(super) fn widen<A: Allocator>(
 ) -> Result<(), AllocError>
     requires halves { AreHalves width.now (vec_items blocks.old) }
     requires alone { length (vec_items blocks.old) ≡ 1 }
+    requires some { 0 < width.now }
     ensures entries { entries_in (vec_items blocks.new) ≡ entries_in (vec_items blocks.old) }
-    ensures ok { OnOk result (IsBlocks width.now (vec_items blocks.new)) }
+    ensures ok { OnOk result (IsBlocks width.now (vec_items blocks.new) × (0 < room_in (vec_items blocks.new))
+        × (length (vec_items blocks.new) ≡ 1)) }
     ensures err { OnErr result (vec_items blocks.new ≡ vec_items blocks.old) }
 {
     blocks[0].widen(width)
@@ -59,6 +63,7 @@ pub(super) fn joined<A: Allocator + Clone>(
     requires even { length (vec_items blocks.now) % 2 ≡ 0 }
     ensures { IfOk result (λ wider. IsBlocks width.now (vec_items wider)
         × (room_in (vec_items wider) ≡ 0)
+        × (length (vec_items wider) + length (vec_items wider) ≡ length (vec_items blocks.now))
         × (entries_in (vec_items wider) ≡ entries_in (vec_items blocks.now))) }
 {
     let alloc = blocks.allocator().clone()?;
@@ -87,6 +92,7 @@ pub(super) fn insert<A: Allocator>(
     ensures blocks { IsBlocks width.now (vec_items blocks.new) }
     ensures entries { entries_in (vec_items blocks.new)
         ≡ insert_at (entries_in (vec_items blocks.old)) rank entry }
+    ensures len { length (vec_items blocks.new) ≡ length (vec_items blocks.old) }
 {
     let last = blocks.len() - 1;
     let mut block = width.block_of(rank);

@@ -1,5 +1,5 @@
 //! The width of the blocks of an index.
-ghost use Rattle.std.specs.Prelude.{◌≡◌, ◌+◌, ◌/◌, ◌%◌, IfSome};
+ghost use Rattle.std.specs.Prelude.{◌≡◌, ◌+◌, ◌/◌, ◌%◌, ◌<◌, ◌^◌, IfSome, None};
 ghost use Rattle.wasmi_collections.specs.IndexBlocks.{IsWidth};
 
 use std::marker::Model;
@@ -23,7 +23,7 @@ impl Model for Width {
 
     ghost view = { λ width. 2 ^ width.power };
 
-    ghost invariant = { λ width. width.power ≤ 20 };
+    ghost invariant = { λ width. (4 ≤ width.power) × (width.power ≤ 20) };
 }
 
 impl Width {
@@ -43,7 +43,8 @@ impl Width {
 
     // Twice this width, unless it is the greatest.
     pub(super) fn next(&self) -> Option<Self>
-        ensures { IfSome result (λ next. next ≡ self.now + self.now) }
+        ensures next { IfSome result (λ next. (next ≡ self.now + self.now) × (self.now < 2 ^ 20)) }
+        ensures greatest { result ≡ None → self.now ≡ 2 ^ 20 }
     {
         if self.power < GREATEST {
             Some(Width {

@@ -28,7 +28,7 @@ returns-then-block-last g c =
     let next = put_last w blocks last place c.args.rank c.args.entry block c.put.new.self c.requires.blocks is_last at (omega (arith, long, at, fits.0, c.requires.within)) (omega (arith, long, fits.1))
     (ap (λ b. b.width) (c.put.ensures) ∙ ap (λ b. b.width) c.index_mut.ensures.value)
     (ap (λ b. b.entries) c.put.ensures ∙ ap (λ b. insert b.entries place c.args.entry) c.index_mut.ensures.value) in
-    record { blocks = next.0; entries = next.1 }
+    record { blocks = next.0; entries = next.1; len = length-set blocks last c.put.new.self }
 
 -- ---- where it is in another
 
@@ -122,4 +122,5 @@ returns g c =
     record {
       blocks = next.0;
       entries = next.1 ∙ (ap (λ k. insert (entries_in blocks) (k * w) now.carried) (sym here) ∙ now.invariant.same);
+      len = omega (arith, (has_room w (vec_items c.args.blocks.now) c.requires.blocks c.requires.room).0, length-set blocks last c.put-2.new.self, now.invariant.last, c.len-last.ensures, c.args.blocks.now.ok, c.len-last.type_inv);
     }

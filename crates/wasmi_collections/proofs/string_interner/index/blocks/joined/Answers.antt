@@ -67,4 +67,4 @@ returns g c =
     let blocks = vec_items c.args.blocks.now in let now = c.loop-next in
     let all = of_full c.args.width.now (vec_items now.wider) now.invariant.full in
     let end : length blocks ≤ now.next = omega (arith, now.invariant.within, c.loop-next-test.false, c.len-in-loop-next.ensures, c.args.blocks.now.ok) in
-    (all.0, all.1, now.invariant.same ∙ ap entries_in (take_all now.next blocks end))
+    (all.0, all.1, omega (arith, now.invariant.twos, now.invariant.within, end), now.invariant.same ∙ ap entries_in (take_all now.next blocks end))

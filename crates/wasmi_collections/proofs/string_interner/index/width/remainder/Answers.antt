@@ -15,4 +15,4 @@ wrapped n power few =
 pub returns : goal.returns
 returns c =
     let sum = c.args.first + c.args.rank in
-    rw (c.requires.2) (and_mask (sum % 18446744073709551616) c.requires.0 ∙ wrapped sum c.requires.0 c.requires.1)
+    rw (c.requires.2) (and_mask (sum % 18446744073709551616) c.requires.0 ∙ wrapped sum c.requires.0 c.requires.1.1)
