@@ -1,10 +1,10 @@
 -- Facts on lists that can be searched by halves.
-use Rattle.std.proofs.Common.{◌≡◌, ℕ, zero, suc, ◌+◌, ◌<◌, ◌≤◌, ◌⊎◌, Bool, true, false, List, [], ◌∷◌, ◌++◌, length, replicate, None, Some, slice_get, refl, ap, sym, subst, inl, inr, arith}
+use Rattle.std.proofs.Common.{◌≡◌, ℕ, zero, suc, ◌+◌, ◌<◌, ◌≤◌, ◌⊎◌, Bool, true, false, List, [], ◌∷◌, ◌++◌, length, replicate, Option, None, Some, slice_get, refl, ap, sym, subst, inl, inr, arith}
 use Rattle.std.proofs.lemmas.Bool.{cases_lt}
 use Rattle.std.proofs.lemmas.Option.{same_Some}
 use Rattle.std.specs.declared.cmp.Ordering.{Ordering}
 use Rattle.std.specs.declared.cmp.Ordering.TheVariants.{Less, Greater}
-use Rattle.wasmi_collections.specs.Search.{sorted_orders, IsSearchable, IsNarrowed, IsOneRun}
+use Rattle.wasmi_collections.specs.Search.{sorted_orders, IsSearchable, IsNarrowed, IsOneRun, IsSide}
 
 slice_get-replicate : {A : Type 0} → (n i : ℕ) (x : A) → i < length (replicate n x) → slice_get (replicate n x) i ≡ Some x
 slice_get-replicate zero i x h = absurd (omega arith)
@@ -60,6 +60,11 @@ not_narrowed orders = record {
   before = λ i less. absurd (omega arith);
   after = λ i more within. absurd (omega arith);
 }
+
+-- the side of an item tells its order
+pub order_of_side : (order : Option Ordering) (lesser : Bool) → IsSide order (Some lesser) → ((lesser ≡ true) × (order ≡ Some Less)) ⊎ ((lesser ≡ false) × (order ≡ Some Greater))
+order_of_side order true is = inl (refl, is)
+order_of_side order false is = inr (refl, is)
 
 pub narrowed_low :
     (orders : List Ordering) (low high middle next end : ℕ) → IsSearchable orders → IsNarrowed orders low high → middle < high

@@ -1,5 +1,5 @@
 -- Facts on an interner's texts and on the index of them.
-use Rattle.std.proofs.Common.{◌≡◌, ◌≢◌, ℕ, zero, suc, ◌+◌, ◌<◌, ◌≤◌, Bool, true, false, cond, List, [], ◌∷◌, ◌++◌, length, take, drop, replicate, get_or, Some, None, option_map, slice_get, ◌||◌, refl, sym, ap, subst, ◌∙◌, arith, Ordering, Less, Equal, Greater}
+use Rattle.std.proofs.Common.{◌≡◌, ◌≢◌, ℕ, zero, suc, ◌+◌, ◌%◌, ◌<◌, ◌≤◌, Bool, true, false, cond, List, [], ◌∷◌, ◌++◌, length, take, drop, replicate, get_or, Some, None, option_map, slice_get, ◌||◌, refl, sym, ap, subst, ◌∙◌, arith, Ordering, Less, Equal, Greater}
 use Rattle.std.specs.List.{All, AllByRecursion, Contains, IsDistinct, insert, list_any, position_from, range_with_len}
 use Rattle.std.specs.List.Sorted.{IsStrictlySortedBy}
 use Rattle.std.specs.Ordering.{ordering_reverse}
@@ -266,10 +266,29 @@ module _ (text : List ℕ) where
 pub symbol_at : (entries : List Entry) (rank : ℕ) (entry : Entry) → slice_get entries rank ≡ Some entry → slice_get (symbols_of entries) rank ≡ Some entry.symbol
 symbol_at entries rank entry at = slice_get-map (λ e. e.symbol) entries rank ∙ ap (option_map (λ e. e.symbol)) at
 
+-- what is read in a block is the entry of the rank
+pub block_entry : (block entries : List Entry) (width wide rank : ℕ) (entry : Entry) → rank < length entries → wide ≡ width
+    → slice_get block (rank % width) ≡ slice_get entries rank → entry ≡ get_or block (rank % wide) entry → slice_get entries rank ≡ Some entry
+block_entry block entries width wide rank entry within same_width same read =
+    let there = slice_get-get_or entries rank entry within in
+    there ∙ ap Some (sym (read ∙ (ap (λ k. get_or block (rank % k) entry) same_width ∙ get_or_from_slice_get block (rank % width) (get_or entries rank entry) entry (same ∙ there))))
+
 module _ (text : List ℕ) (texts : List (List ℕ)) (entries : List Entry) where
   -- the entry of a rank tells how the text there compares
   pub entry_order : (rank : ℕ) (entry : Entry) → slice_get entries rank ≡ Some entry → slice_get (orders_with text (texts_of texts (symbols_of entries))) rank ≡ Some (len_cmp (get_or texts entry.symbol []) text)
   entry_order rank entry at = order_at text texts (symbols_of entries) rank entry.symbol (symbol_at entries rank entry at)
+
+  -- and has the symbol of the text there
+  pub entry_text : (rank : ℕ) (entry : Entry) → slice_get entries rank ≡ Some entry → get_or (texts_of texts (symbols_of entries)) rank [] ≡ get_or texts entry.symbol []
+  entry_text rank entry at =
+      get_or_from_slice_get (texts_of texts (symbols_of entries)) rank (get_or texts entry.symbol []) [] (
+      slice_get-map (λ symbol. get_or texts symbol []) (symbols_of entries) rank ∙ ap (option_map (λ symbol. get_or texts symbol [])) (symbol_at entries rank entry at))
+
+  -- as the text there does
+  pub rank_order : (rank : ℕ) → rank < length entries → slice_get (orders_with text (texts_of texts (symbols_of entries))) rank ≡ Some (len_cmp (get_or (texts_of texts (symbols_of entries)) rank []) text)
+  rank_order rank within =
+      slice_get-map (λ other. len_cmp other text) (texts_of texts (symbols_of entries)) rank
+      ∙ ap (option_map (λ other. len_cmp other text)) (slice_get-get_or (texts_of texts (symbols_of entries)) rank [] (omega (arith, within, length-map (symbols_of entries) (λ symbol. get_or texts symbol []), length-map entries (λ e. e.symbol))))
 
   -- what holds of each entry holds of that of a rank
   pub entry_of_rank : All (IsEntryOf texts) entries → (rank : ℕ) (entry : Entry) → slice_get entries rank ≡ Some entry → IsEntryOf texts entry

@@ -1,5 +1,5 @@
 -- Facts on the keys of texts.
-use Rattle.std.proofs.Common.{◌≡◌, ℕ, zero, suc, ◌+◌, ◌*◌, ◌^◌, ◌<◌, ◌≤◌, ◌⊎◌, inl, inr, List, [], ◌∷◌, length, get_or, refl, sym, arith, true, false, not, nat_eq, nat_lt, ◌&&◌, ◌||◌, Less, Equal, Greater}
+use Rattle.std.proofs.Common.{◌≡◌, ℕ, zero, suc, ◌+◌, ◌*◌, ◌^◌, ◌<◌, ◌≤◌, ◌⊎◌, inl, inr, List, [], ◌∷◌, length, get_or, refl, ap, sym, arith, Bool, true, false, Some, not, nat_eq, nat_lt, ◌&&◌, ◌||◌, Less, Equal, Greater}
 use Rattle.std.specs.Cmp.{nat_cmp_is}
 use Rattle.std.specs.Cmp.Lexicographic.{slice_cmp}
 use Rattle.std.specs.Int.{w32, w64, from_be_bytes}
@@ -11,6 +11,7 @@ use borrow.Author.Count.{below_more}
 use Rattle.wasmi_collections.proofs.TextIndex.{turned}
 use Rattle.wasmi_collections.specs.LenOrder.{len_cmp}
 use Rattle.wasmi_collections.specs.LenOrderLaws.{len_cmp-Equal}
+use Rattle.wasmi_collections.specs.Search.{IsSide}
 use Rattle.wasmi_collections.specs.TextKey.{leading, key_of, IsKeyOf}
 
 less : (a b : ℕ) → a < b → nat_cmp a b ≡ Less
@@ -99,18 +100,24 @@ module _ (head tail : ℕ) (x : List ℕ) (of_x : IsKeyOf head tail x) (other_he
   when_greater above = turned y x (key_less y x of_y.bytes of_x.bytes above)
 
   -- the lesser key is of the lesser text
-  pub key_tells_less : true ≡ (nat_lt head other_head || (nat_eq head other_head && nat_lt tail other_tail)) → len_cmp x y ≡ Less
+  key_tells_less : true ≡ (nat_lt head other_head || (nat_eq head other_head && nat_lt tail other_tail)) → len_cmp x y ≡ Less
   key_tells_less is = when_less (grind (arith, nat_tests, is, of_x.upper, of_y.upper, of_x.lower, of_y.lower))
 
   -- and of two that differ the other is of the greater
-  pub key_tells_greater : true ≡ not (nat_eq tail other_tail && nat_eq head other_head) → false ≡ (nat_lt head other_head || (nat_eq head other_head && nat_lt tail other_tail))
+  key_tells_greater : true ≡ not (nat_eq tail other_tail && nat_eq head other_head) → false ≡ (nat_lt head other_head || (nat_eq head other_head && nat_lt tail other_tail))
       → len_cmp x y ≡ Greater
   key_tells_greater differ is = when_greater (grind (arith, nat_tests, differ, is, of_x.upper, of_y.upper, of_x.lower, of_y.lower))
 
+  -- so keys that differ tell which text is less
+  pub key_tells_side : (lesser : Bool) → lesser ≡ (nat_lt head other_head || (nat_eq head other_head && nat_lt tail other_tail)) → true ≡ not (nat_eq tail other_tail && nat_eq head other_head)
+      → IsSide (Some (len_cmp x y)) (Some lesser)
+  key_tells_side true is differ = ap Some (key_tells_less is)
+  key_tells_side false is differ = ap Some (key_tells_greater differ is)
+
   -- equal keys of at most eleven bytes are of one text
-  pub key_tells_equal : false ≡ not (nat_eq tail other_tail && nat_eq head other_head) → true ≡ nat_lt other_head (12 * 2 ^ 56) → len_cmp x y ≡ Equal
-  key_tells_equal is few =
-      let keys : key_of x ≡ key_of y = grind (arith, nat_tests, is, of_x.upper, of_y.upper, of_x.lower, of_y.lower) in
+  pub key_tells_equal : head ≡ other_head → tail ≡ other_tail → true ≡ nat_lt other_head (12 * 2 ^ 56) → len_cmp x y ≡ Equal
+  key_tells_equal same_head same_tail few =
+      let keys : key_of x ≡ key_of y = omega (arith, same_head, same_tail, of_x.upper, of_y.upper, of_x.lower, of_y.lower) in
       (len_cmp-Equal x y).1 (key_same x y of_x.bytes of_y.bytes keys (grind (arith, nat_tests, few, keys, of_y.upper)))
 
 module _ (text : List ℕ) where

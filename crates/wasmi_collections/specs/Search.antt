@@ -1,5 +1,5 @@
 -- A search in a list that is sorted, seen as how each item compares with what is searched.
-use Rattle.std.specs.Prelude.{◌≡◌, ℕ, ◌+◌, ◌-◌, ◌/◌, ◌<◌, ◌≤◌, ◌⊎◌, Bool, List, [], ◌∷◌, ◌++◌, length, replicate, Option, None, Some, Result, Ok, Err, if◌then◌else◌, slice_get}
+use Rattle.std.specs.Prelude.{◌≡◌, ℕ, ◌+◌, ◌-◌, ◌/◌, ◌<◌, ◌≤◌, ◌⊎◌, Bool, true, false, List, [], ◌∷◌, ◌++◌, length, replicate, Option, None, Some, Result, Ok, Err, if◌then◌else◌, slice_get}
 use Rattle.std.specs.declared.cmp.Ordering.{Ordering}
 use Rattle.std.specs.declared.cmp.Ordering.TheVariants.{Less, Equal, Greater}
 
@@ -36,8 +36,8 @@ IsOneBlock low last (Some width) = low / width ≡ last / width
 abbrev pub IsOneRun : ℕ → ℕ → Option ℕ → Type 0
 IsOneRun low len width = (len ≡ 0) ⊎ IsOneBlock low (low + len - 1) width
 
--- where a search goes on after it looked at an item of this order: at `next` where it is `Less`, at `low` where
--- it is `Greater`, and nowhere where it is `Equal`
-abbrev pub GoesOn : Option Ordering → ℕ → ℕ → Option ℕ → Type 0
-GoesOn order low next None = order ≡ Some Equal
-GoesOn order low next (Some place) = ((place ≡ next) × (order ≡ Some Less)) ⊎ ((place ≡ low) × (order ≡ Some Greater))
+-- whether an item of this order is `Less`, and nothing where it is `Equal`
+abbrev pub IsSide : Option Ordering → Option Bool → Type 0
+IsSide order None = order ≡ Some Equal
+IsSide order (Some true) = order ≡ Some Less
+IsSide order (Some false) = order ≡ Some Greater

@@ -22,6 +22,10 @@ symbols_of entries = map (λ entry. entry.symbol) entries
 abbrev pub texts_of : List (List ℕ) → List ℕ → List (List ℕ)
 texts_of texts symbols = map (λ symbol. slice_index_or texts symbol []) symbols
 
+-- the text of the entry of a rank
+abbrev pub text_by_rank : List (List ℕ) → List Entry → ℕ → List ℕ
+text_by_rank texts entries rank = slice_index_or (texts_of texts (symbols_of entries)) rank []
+
 -- an index has the symbol of each text once, and the texts of its symbols ascend
 pub record IsIndexOf (texts : List (List ℕ)) (symbols : List ℕ) : Type 0 where
   pub complete : IsPermutation (range_with_len 0 (length texts)) symbols

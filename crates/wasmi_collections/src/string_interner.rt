@@ -11,6 +11,7 @@ ghost use Rattle.wasmi_collections.specs.BinaryDigits.{digits};
 ghost use Rattle.wasmi_collections.specs.Interner.{symbol_of, with_symbols, AreDistinctTexts, Interning, InternsAll, InternsUntilRefused};
 ghost use Rattle.wasmi_collections.specs.LenOrderLaws.{texts_per};
 
+mod choice;
 mod entry;
 mod find;
 mod index;

@@ -3,13 +3,15 @@ ghost use Rattle.std.specs.Prelude.{◌≡◌, ℕ, ◌+◌, ◌-◌, ◌/◌, �
 ghost use Rattle.std.specs.List.{All, insert};
 ghost use Rattle.wasmi_collections.specs.BinaryDigits.{digits};
 ghost use Rattle.wasmi_collections.specs.Interner.{symbol_of, AreDistinctTexts};
-ghost use Rattle.wasmi_collections.specs.Search.{IsFound, IsNarrowed};
-ghost use Rattle.wasmi_collections.specs.TextIndex.{AreEntriesOf, IsEntryOf, orders_by_rank};
+ghost use Rattle.wasmi_collections.specs.Search.{IsFound, IsNarrowed, IsSide};
+ghost use Rattle.wasmi_collections.specs.TextIndex.{AreEntriesOf, IsEntryOf, orders_by_rank, text_by_rank};
 ghost use Rattle.wasmi_collections.specs.TextKey.{IsKeyOf};
 ghost use Rattle.wasmi_collections.specs.declared.string_interner.entry.Entry.{Entry};
 
+use super::choice::Choice;
 use super::index::{Block, Index};
-use super::probe::{Narrow, Rest, search_rest};
+use super::key::Key;
+use super::probe::{Narrow, Rest, half_of, search_rest};
 use super::sought::Sought;
 use super::{Steps, Sym};
 use std::alloc::Allocator;
@@ -32,38 +34,50 @@ impl<A: Allocator> Narrow for IndexLooks<'_, A> {
 
     ghost reads = { λ looks place. place < length looks.index.now.entries };
 
-    fn narrow(&mut self, at: usize, low: usize, next: usize) -> Option<usize> {
+    fn side(&mut self, at: usize) -> Option<Choice> {
         self.steps.tick();
-        self.sought.compared(self.index.at(at), low, next)
+        self.sought.side_of(self.index.at(at))
     }
 }
 
-// The same for the ranks of one block, which isn't looked for at each.
+// The texts of the ranks of one block, which isn't looked for at each.
 #[derive(Drop)]
-struct BlockLooks<'a, A: Allocator> {
+struct BlockTexts<'a, A: Allocator> {
     index: &'a Index<A>,
     block: &'a Block<A>,
     // One of these ranks.
     rank: usize,
     sought: &'a Sought<'a, A>,
-    steps: Steps,
     ghost entries: { All (IsEntryOf sought.now.texts.now) index.now.entries },
     ghost width: { block.now.width ≡ index.now.width },
     ghost part: { (other : ℕ) → other / index.now.width ≡ rank / index.now.width → other < length index.now.entries
         → slice_get block.now.entries (other % index.now.width) ≡ slice_get index.now.entries other },
 }
 
-impl<A: Allocator> Narrow for BlockLooks<'_, A> {
-    ghost orders = { λ looks. orders_by_rank looks.sought.now.text.now looks.sought.now.texts.now looks.index.now.entries };
+impl<A: Allocator> BlockTexts<'_, A> {
+    // The key of the text of a rank.
+    #[inline]
+    fn key(&self, rank: usize) -> Key
+        requires block { rank / self.now.index.now.width ≡ self.now.rank / self.now.index.now.width }
+        requires within { rank < length self.now.index.now.entries }
+        ensures { IsKeyOf result.head result.tail (text_by_rank self.now.sought.now.texts.now self.now.index.now.entries rank) }
+    {
+        self.block.at(rank).key()
+    }
 
-    ghost looks = { λ looks. looks.steps };
-
-    ghost reads = { λ looks place. (place / looks.index.now.width ≡ looks.rank / looks.index.now.width)
-        × (place < length looks.index.now.entries) };
-
-    fn narrow(&mut self, at: usize, low: usize, next: usize) -> Option<usize> {
-        self.steps.tick();
-        self.sought.compared(self.block.at(at), low, next)
+    // Whether the text of a rank, whose key is this, is less than the one that is searched, and nothing where it is
+    // equal.
+    #[inline]
+    fn side(&self, rank: usize, key: Key) -> Option<Choice>
+        requires block { rank / self.now.index.now.width ≡ self.now.rank / self.now.index.now.width }
+        requires within { rank < length self.now.index.now.entries }
+        requires key { IsKeyOf key.head key.tail (text_by_rank self.now.sought.now.texts.now self.now.index.now.entries rank) }
+        ensures { IsSide (slice_get (orders_by_rank self.now.sought.now.text.now self.now.sought.now.texts.now self.now.index.now.entries) rank) result }
+    {
+        if let Some(less) = self.sought.side_of_key(key) {
+            return Some(less);
+        }
+        self.sought.side_of_same(self.block.at(rank))
     }
 }
 
@@ -128,7 +142,8 @@ fn find_rank<A: Allocator>(
     }
 }
 
-// As `find_rank`, of what a search has left, which lies in one block.
+// As `find_rank`, of what a search has left, which lies in one block. Each look has the keys of both next ones
+// read before it compares, so that a compare waits for no memory.
 #[inline]
 fn find_in_block<A: Allocator>(
     index: &Index<A>,
@@ -147,17 +162,34 @@ fn find_in_block<A: Allocator>(
     ensures some_steps { steps.old < steps.new }
     ensures many_steps { IfErr result (λ _. steps.old + digits (rest.len + 1) ≤ steps.new + 1) }
 {
-    let mut looks = BlockLooks {
+    let block = BlockTexts {
         index,
         block: index.block(rest.low),
         rank: rest.low,
         sought,
-        steps: mem::replace(steps, Steps::new()),
     };
-    let found = search_rest(rest, None, &mut looks);
-    *steps = looks.steps;
-    match found {
-        Ok(rank) => Ok(rank),
-        Err(rest) => Err(rest.low),
+    let mut low = rest.low;
+    let mut half = half_of(rest.len);
+    let mut next = low + (rest.len - half);
+    let mut key = block.key(low + half);
+    while 0 < half {
+        let fewer = half / 2;
+        let lower = block.key(low + fewer);
+        let upper = block.key(next + fewer);
+        steps.tick();
+        match block.side(low + half, key) {
+            Some(less) => {
+                low = less.select_usize(next, low);
+                key = Key::select(&less, upper, lower);
+            }
+            None => return Ok(low + half),
+        }
+        next = low + (half - fewer);
+        half = fewer;
+    }
+    steps.tick();
+    match block.side(low, key) {
+        Some(less) => Err(less.select_usize(low + 1, low)),
+        None => Ok(low),
     }
 }

@@ -1,6 +1,8 @@
 //! The key of a text.
-ghost use Rattle.std.specs.Prelude.{◌≡◌, ◌==◌, ◌<◌, ◌*◌, ◌^◌, ◌&&◌, ◌||◌, not, nat_lt, ℕ, slice_index};
+ghost use Rattle.std.specs.Prelude.{◌≡◌, ◌==◌, ◌<◌, ◌*◌, ◌^◌, ◌&&◌, ◌||◌, cond, not, nat_lt, ℕ, slice_index};
 ghost use Rattle.wasmi_collections.specs.TextKey.{IsKeyOf};
+
+use super::choice::Choice;
 
 // How many bytes of a text its key has.
 const BYTES: usize = 11;
@@ -10,6 +12,9 @@ const LONG: usize = 255;
 
 // What a length of one adds to a head, where it stands above seven bytes.
 const ONE: u64 = 1 << 56;
+
+// What a head of one adds to a key as one number.
+const HEAD: u128 = 1 << 64;
 
 // The length of a text and its first bytes, as one number in two parts. Where the keys of two texts differ,
 // they compare as the texts do.
@@ -44,6 +49,18 @@ impl Key {
         }
     }
 
+    // The one key where a choice holds, and the other where not.
+    #[inline]
+    pub(super) fn select(choice: &Choice, one: Key, other: Key) -> Key
+        ensures head { result.head ≡ cond choice.now one.head other.head }
+        ensures tail { result.tail ≡ cond choice.now one.tail other.tail }
+    {
+        Key {
+            head: choice.select_u64(one.head, other.head),
+            tail: choice.select_u32(one.tail, other.tail),
+        }
+    }
+
     // Whether it is another key. What differs more often is compared first.
     #[inline]
     pub(super) fn differs(&self, other: &Key) -> bool
@@ -52,12 +69,13 @@ impl Key {
         self.tail != other.tail || self.head != other.head
     }
 
-    // Whether it is less than another one. `|` and `&`, since a branch would be foreseen half the time.
+    // Whether it is less than another one: both parts as one number, which two instructions compare.
     #[inline]
-    pub(super) fn is_less(&self, other: &Key) -> bool
+    pub(super) fn is_less(&self, other: &Key) -> Choice
         ensures { result ≡ (nat_lt self.now.head other.now.head || (self.now.head == other.now.head && nat_lt self.now.tail other.now.tail)) }
     {
-        (self.head < other.head) | ((self.head == other.head) & (self.tail < other.tail))
+        let own = self.head as u128 * HEAD + self.tail as u128;
+        Choice::new(own < other.head as u128 * HEAD + other.tail as u128)
     }
 
     // Whether all bytes of a text with this key are in it.

@@ -3,8 +3,9 @@ ghost use Rattle.std.specs.Prelude.{◌≡◌, ℕ, ◌+◌, ◌-◌, ◌<◌, �
 ghost use Rattle.std.specs.declared.cmp.Ordering.{Ordering};
 ghost use Rattle.std.specs.declared.cmp.Ordering.TheVariants.{Equal};
 ghost use Rattle.wasmi_collections.specs.BinaryDigits.{digits};
-ghost use Rattle.wasmi_collections.specs.Search.{IsSearchable, IsFound, IsNarrowed, IsOneBlock, IsOneRun, GoesOn};
+ghost use Rattle.wasmi_collections.specs.Search.{IsSearchable, IsFound, IsNarrowed, IsOneBlock, IsOneRun, IsSide};
 
+use super::choice::Choice;
 use super::index::Width;
 use std::cmp::Ordering;
 
@@ -54,8 +55,8 @@ pub(super) struct Rest {
     pub(super) len: usize,
 }
 
-// As a `Probe`, for a part of a list, and tells where the search goes on. A `match` on the answer of `look` is
-// a branch, which is foreseen half the time. Here the place goes on where the order is known, by a select.
+// As a `Probe`, for a part of a list. A `match` on the answer of `look` is a branch, which is foreseen half the
+// time; what this answers is a number to select by.
 pub(super) trait Narrow {
     // How each item of the list compares with what is searched.
     ghost orders: { Self → List Ordering };
@@ -66,12 +67,11 @@ pub(super) trait Narrow {
     // The places that can be looked at.
     ghost reads: { Self → ℕ → Type 0 };
 
-    // Compares the item at a place with what is searched: `next` where the item is less, `low` where it is
-    // greater, and nothing where it is equal.
-    fn narrow(&mut self, at: usize, low: usize, next: usize) -> Option<usize>
+    // Whether the item at a place is less than what is searched, and nothing where it is equal.
+    fn side(&mut self, at: usize) -> Option<Choice>
         requires within { reads self.old at }
         requires countable { looks self.old < 2 ^ 64 - 1 }
-        ensures goes_on { GoesOn (slice_get (orders self.old) at) low next result }
+        ensures side { IsSide (slice_get (orders self.old) at) result }
         ensures kept { orders self.new ≡ orders self.old }
         ensures readable { (place : ℕ) → reads self.old place → reads self.new place }
         ensures counted { looks self.new ≡ looks self.old + 1 };
@@ -84,11 +84,11 @@ impl<P: Probe> Narrow for P {
 
     ghost reads = { λ probe place. place < length (P.orders probe) };
 
-    fn narrow(&mut self, at: usize, low: usize, next: usize) -> Option<usize> {
+    fn side(&mut self, at: usize) -> Option<Choice> {
         match self.look(at) {
-            Ordering::Less => Some(next),
+            Ordering::Less => Some(Choice::new(true)),
             Ordering::Equal => None,
-            Ordering::Greater => Some(low),
+            Ordering::Greater => Some(Choice::new(false)),
         }
     }
 }
@@ -127,8 +127,8 @@ pub(super) fn search_rest<N: Narrow>(
         }
         let half = half_of(len);
         let at = low + half;
-        match list.narrow(at, low, low + (len - half)) {
-            Some(place) => low = place,
+        match list.side(at) {
+            Some(less) => low = less.select_usize(low + (len - half), low),
             None => return Ok(at),
         }
         len = half;
@@ -149,7 +149,7 @@ fn is_one_block(width: Option<&Width>, low: usize, last: usize) -> bool
 
 // The greatest number that is less than another one, and one less than a power of two.
 #[inline]
-fn half_of(len: usize) -> usize
+pub(super) fn half_of(len: usize) -> usize
     requires { 0 < len }
     ensures less { result < len }
     ensures half { len ≤ result + result + 1 }

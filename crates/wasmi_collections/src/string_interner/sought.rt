@@ -1,14 +1,15 @@
 //! A text that is searched.
-ghost use Rattle.std.specs.Prelude.{◌≡◌, [], Some, slice_index_or};
+ghost use Rattle.std.specs.Prelude.{◌≡◌, ℕ, ◌<◌, List, [], length, IfSome, None, Some, slice_index_or};
 ghost use Rattle.wasmi_collections.specs.LenOrder.{len_cmp};
-ghost use Rattle.wasmi_collections.specs.Search.{GoesOn};
+ghost use Rattle.wasmi_collections.specs.Search.{IsSide};
 ghost use Rattle.wasmi_collections.specs.TextIndex.{IsEntryOf};
 ghost use Rattle.wasmi_collections.specs.TextKey.{IsKeyOf};
 
-use super::LenOrder;
+use super::choice::Choice;
 use super::entry::Entry;
 use super::key::Key;
 use super::texts::Texts;
+use super::{LenOrder, Sym};
 use std::alloc::Allocator;
 use std::cmp::Ordering;
 
@@ -35,25 +36,56 @@ impl<'a, A: Allocator> Sought<'a, A> {
         }
     }
 
-    // Compares the text of an entry with this one: `next` where it is less, `low` where it is greater, and
-    // nothing where it is equal.
+    // Whether a text with this key is less than this text, if the key tells it.
     #[inline]
-    pub(super) fn compared(&self, entry: Entry, low: usize, next: usize) -> Option<usize>
-        requires { IsEntryOf self.now.texts.now entry }
-        ensures { GoesOn (Some (len_cmp (slice_index_or self.now.texts.now entry.symbol []) self.now.text.now)) low next result }
+    pub(super) fn side_of_key(&self, key: Key) -> Option<Choice>
+        ensures side { IfSome result (λ less. (other : List ℕ) → IsKeyOf key.head key.tail other → IsSide (Some (len_cmp other self.now.text.now)) (Some less)) }
+        ensures same { result ≡ None → (key.head ≡ self.now.key.head) × (key.tail ≡ self.now.key.tail) }
     {
-        let own = entry.key();
-        if own.differs(&self.key) {
-            return Some(if own.is_less(&self.key) { next } else { low });
+        if key.differs(&self.key) {
+            Some(key.is_less(&self.key))
+        } else {
+            None
         }
+    }
+
+    // Whether the text of an entry is less than this one, and nothing where it is equal.
+    #[inline]
+    pub(super) fn side_of(&self, entry: Entry) -> Option<Choice>
+        requires { IsEntryOf self.now.texts.now entry }
+        ensures { IsSide (Some (len_cmp (slice_index_or self.now.texts.now entry.symbol []) self.now.text.now)) result }
+    {
+        if let Some(less) = self.side_of_key(entry.key()) {
+            return Some(less);
+        }
+        self.side_of_same(entry)
+    }
+
+    // The same of an entry with the key of this text.
+    #[inline]
+    pub(super) fn side_of_same(&self, entry: Entry) -> Option<Choice>
+        requires entry { IsEntryOf self.now.texts.now entry }
+        requires same { (entry.head ≡ self.now.key.head) × (entry.tail ≡ self.now.key.tail) }
+        ensures { IsSide (Some (len_cmp (slice_index_or self.now.texts.now entry.symbol []) self.now.text.now)) result }
+    {
         if self.key.has_all() {
             return None;
         }
-        let other = self.texts.get(entry.symbol().into_usize());
-        match LenOrder::new(other).cmp(&LenOrder::new(self.text)) {
-            Ordering::Less => Some(next),
-            Ordering::Equal => None,
-            Ordering::Greater => Some(low),
-        }
+        side_of_text(self.texts, entry.symbol(), self.text)
+    }
+}
+
+// Whether the text of a symbol is less than another one, and nothing where it is equal. Inlined, each answer
+// would be a branch to what a search does next.
+#[inline(never)]
+fn side_of_text<A: Allocator>(texts: &Texts<A>, symbol: Sym, text: &str) -> Option<Choice>
+    requires { symbol < length texts.now }
+    ensures { IsSide (Some (len_cmp (slice_index_or texts.now symbol []) text.now)) result }
+{
+    let other = texts.get(symbol.into_usize());
+    match LenOrder::new(other).cmp(&LenOrder::new(text)) {
+        Ordering::Less => Some(Choice::new(true)),
+        Ordering::Equal => None,
+        Ordering::Greater => Some(Choice::new(false)),
     }
 }
