@@ -10,6 +10,8 @@ mod head_vec;
 #[cfg(test)]
 mod interner;
 #[cfg(test)]
+mod interner_memory;
+#[cfg(test)]
 mod or_abort;
 #[cfg(test)]
 mod places;
