@@ -83,7 +83,7 @@ fn with_texts<'l>(
 #[test]
 fn refused_blocks_of_the_index_are_joined_later(rt: HostRuntime) {
     let mut refusals = 0u64;
-    for nth in 1..24 {
+    for nth in 1..22 {
         let log = Log::new();
         {
             let handle = Logged::new(rt.alloc(), &log);
@@ -95,7 +95,11 @@ fn refused_blocks_of_the_index_are_joined_later(rt: HostRuntime) {
             }
             let symbol = interner.get_or_intern("memory").or_abort(&rt);
             assert_equal!(rt; symbol.into_u32(), 16384);
+            // Each of them once, and then each 64th.
             for number in 0..16384 {
+                if 1 < nth && number % 64 != 0 {
+                    continue;
+                }
                 let text = scattered(&rt, rt.alloc(), number);
                 let found = interner.get(text.as_str());
                 assert_equal!(rt; found, Some(Sym::from_u32(number)), "at {nth}");
