@@ -1,6 +1,7 @@
 -- Facts on the number of binary digits.
-use Rattle.std.proofs.Common.{◌≡◌, ℕ, zero, suc, ◌+◌, ◌/◌, ◌^◌, ◌<◌, ◌≤◌, refl, ap, arith, inl, inr}
+use Rattle.std.proofs.Common.{◌≡◌, ℕ, zero, suc, ◌+◌, ◌-◌, ◌*◌, ◌/◌, ◌^◌, ◌<◌, ◌≤◌, refl, ap, arith, inl, inr}
 use Rattle.std.proofs.lemmas.Bool.{cases_lt}
+use Rattle.std.proofs.lemmas.Nat.{mul-le, pow_pos}
 use Rattle.std.proofs.Math.Nat.{pow-succ'}
 use Rattle.std.proofs.Math.Pow.{pow_mono}
 use Rattle.wasmi_collections.specs.BinaryDigits.{digits_up_to, digits}
@@ -84,3 +85,34 @@ digits_from n d small from = elim (cases_lt d (digits n)) [
   | inl more ↦ more
   | inr less ↦ absurd (let large : 2 ^ digits n ≤ 2 ^ d = pow_mono {i = digits n} {j = d} less in omega (arith, digits_above n small))
 ]
+
+pub digits_mono : (m n : ℕ) → m ≤ n → digits m ≤ digits n
+unfolding digits
+digits_mono m n h = digits_up_to_mono 64 m n h
+
+-- a number has as many digits more than what is left of it as were shifted out
+pub digits_shifted : (p m n : ℕ) → 0 < m → m * 2 ^ p ≤ n → n < 2 ^ 64 → digits m + p ≤ digits n
+digits_shifted zero m n some below small = omega (arith, digits_mono m n (omega (arith, below)))
+digits_shifted (suc p) m n some below small =
+    let twice : m * 2 ^ suc p ≡ m * 2 ^ p + m * 2 ^ p = omega (arith, ap (λ k. m * k) (pow-succ' 2 p)) in
+    let half = digits_shifted p m (n / 2) some (omega (arith, below, twice)) (omega (arith, small)) in
+    omega (arith, half, digits_half (n / 2) n (omega (arith, below, twice, mul-le 1 1 m (2 ^ p) some (pow_pos p))) small (omega arith))
+
+-- and no more
+pub digits_unshifted : (p m n : ℕ) → n ≤ m * 2 ^ p → digits n ≤ digits m + p
+digits_unshifted zero m n below = omega (arith, digits_mono n m (omega (arith, below)))
+digits_unshifted (suc p) m n below =
+    let twice : m * 2 ^ suc p ≡ m * 2 ^ p + m * 2 ^ p = omega (arith, ap (λ k. m * k) (pow-succ' 2 p)) in
+    omega (arith, digits_double (m * 2 ^ p) n (omega (arith, below, twice)), digits_unshifted p m (m * 2 ^ p) (omega arith))
+
+-- the digits of a number of rows and those of a place in a row, of a power of two, are no more than those of all places
+pub few_in_rows : (p w m n : ℕ) → w ≡ 2 ^ p → 0 < m → m * w ≤ n → n < 2 ^ 64 → digits m + digits (w - 1) ≤ digits n
+few_in_rows p w m n is some below small =
+    let rows : m * 2 ^ p ≤ n = rw (← is) below in
+    omega (arith, digits_shifted p m n some rows small, digits_least (w - 1) p (omega (arith, is, pow_pos p)))
+
+-- and no fewer, where one more row is more
+pub many_in_rows : (p w m n : ℕ) → w ≡ 2 ^ p → w < 2 ^ 64 → n ≤ m * w + w → digits n + 1 ≤ digits (m + 1) + digits w
+many_in_rows p w m n is small above =
+    let rows : n ≤ (m + 1) * 2 ^ p = rw (← is) (omega (arith, above)) in
+    omega (arith, digits_unshifted p (m + 1) n rows, digits_from w p small (omega (arith, is)))

@@ -1,10 +1,11 @@
 -- Facts on entries in blocks of one width.
-use Rattle.std.proofs.Common.{◌≡◌, ℕ, zero, suc, ◌+◌, ◌-◌, ◌*◌, ◌/◌, ◌%◌, ◌^◌, ◌<◌, ◌≤◌, List, [], ◌∷◌, ◌++◌, length, take, get_or, slice_set, not, ◌==◌, nat_lt, refl, sym, ap, ◌∙◌, arith, inl, inr}
+use Rattle.std.proofs.Common.{◌≡◌, ℕ, zero, suc, ◌+◌, ◌-◌, ◌*◌, ◌/◌, ◌%◌, ◌^◌, ◌<◌, ◌≤◌, List, [], ◌∷◌, ◌++◌, length, take, get_or, slice_get, slice_set, Some, not, ◌==◌, nat_lt, refl, sym, ap, ◌∙◌, arith, inl, inr}
 use Rattle.std.specs.List.{All, flat_map, insert}
 use Rattle.std.proofs.lemmas.Bool.{cases_lt}
 use Rattle.std.proofs.Math.Nat.{suc-mul}
 use Rattle.std.proofs.Math.Pow.{pow_mono}
-use Rattle.std.proofs.lemmas.Nat.{div-add-mod', pow-add, pow_pos}
+use Rattle.std.proofs.lemmas.Nat.{div-add-mod', mod_below, pow-add, pow_pos}
+use Rattle.std.proofs.lemmas.Option.{slice_get-get_or, slice_get_past, slice_get_within}
 use Rattle.std.proofs.lemmas.List.{append_assoc, append-nil, length-append, length-set, get_or_append_left, get_or-append_right, take_more}
 use Rattle.std.proofs.lemmas.List.Edits.{insert-append_left, insert-append_right, length-insert}
 use Rattle.std.proofs.lemmas.Grind.{common_steps, flat_map-append}
@@ -14,9 +15,21 @@ use Rattle.wasmi_collections.specs.IndexBlocks.{AreFew, BlockState, IsFull, IsBl
 pub width_pos : (w : ℕ) → IsWidth w → 0 < w
 width_pos w is = omega (arith, is.2, pow_pos is.0)
 
+pub width_least : (w : ℕ) → IsWidth w → 16 ≤ w
+width_least w is = omega (arith, is.2, pow_mono {i = 4} {j = is.0} is.1.0)
+
+pub width_most : (w : ℕ) → IsWidth w → w ≤ 2 ^ 20
+width_most w is = omega (arith, is.2, pow_mono {i = is.0} {j = 20} is.1.1)
+
 -- a rank is so many widths and a place
 pub divided : (w rank b p : ℕ) → b ≡ rank / w → p ≡ rank % w → rank ≡ b * w + p
 divided w rank b p block place = sym (div-add-mod' rank w) ∙ (λ i. sym block i * w + sym place i)
+
+-- so many blocks are full, and what is left of the entries is no block
+pub full_blocks : (w n b : ℕ) → IsWidth w → b ≡ n / w → (b * w ≤ n) × (n < b * w + w)
+full_blocks w n b is blocks =
+    let at = divided w n b (n % w) blocks refl in
+    (omega (arith, at), omega (arith, at, mod_below n w (width_pos w is)))
 
 -- the block and the place of a rank
 pub placed : (w : ℕ) (blocks : List BlockState) (b p rank : ℕ) → IsBlocks w blocks → p < w → rank ≡ b * w + p → rank < length (entries_in blocks)
@@ -83,13 +96,6 @@ full w (q ∷ r ∷ rest) (suc b) d is before =
 -- a block that isn't full has room
 pub not_full : (len w : ℕ) → len ≤ w → not (len == w) ≡ nat_lt 0 (w - len)
 not_full len w small = grind (arith, common_steps)
-
--- each is as wide
-pub as_wide : (w : ℕ) (blocks : List BlockState) (b : ℕ) (d : BlockState) → IsBlocks w blocks → b < length blocks → (get_or blocks b d).width ≡ w
-as_wide w blocks b d is within = elim (cases_lt (b + 1) (length blocks)) [
-  | inl before ↦ (full w blocks b d is before).0.width
-  | inr last ↦ (counted w blocks b d is (omega (arith, last, within))).2
-]
 
 -- an entry goes into a full block, and the last one out of it belongs to the front of the next
 pub pushed_out : (w : ℕ) (blocks : List BlockState) (b p rank : ℕ) (x out : Entry) (d new : BlockState) → IsBlocks w blocks → b + 1 < length blocks → p < w → rank ≡ b * w + p
@@ -210,9 +216,6 @@ widened w half (q ∷ []) d new alone twice some full same wide =
     ((wide, omega (arith, long, twice)), omega (arith, wide, long, twice, some), refl)
 widened w half (q ∷ r ∷ rest) d new alone twice some full same wide = absurd (omega (arith, alone))
 
-pub width_least : (w : ℕ) → IsWidth w → 16 ≤ w
-width_least w is = let more : 2 ^ 4 ≤ 2 ^ is.0 = pow_mono {i = 4} {j = is.0} is.1.0 in omega (arith, more, is.2)
-
 -- where blocks are as many as they may be, and more than one, they can be joined by twos
 pub even_many : (w n : ℕ) → IsWidth w → AreFew w n → w < 2 ^ 20 → w / 16 ≤ n → (n ≡ 1 → ⊥) → n % 2 ≡ 0
 even_many w n is few less many apart = elim few [
@@ -235,3 +238,36 @@ few_joined w n m is few less half = elim few [
   | inl some ↦ omega (arith, some, half, width_least w is)
   | inr greatest ↦ absurd (omega (arith, less, greatest))
 ]
+
+-- a block has the entries of its ranks
+pub block_at : (w : ℕ) (blocks : List BlockState) (b p : ℕ) (d : BlockState) → IsBlocks w blocks → b < length blocks → p < w
+    → slice_get (get_or blocks b d).entries p ≡ slice_get (entries_in blocks) (b * w + p)
+block_at w blocks b p d is within small =
+    let entries = (get_or blocks b d).entries in
+    elim (cases_lt (b * w + p) (length (entries_in blocks))) [
+      | inl there ↦
+          let at = (placed w blocks b p (b * w + p) is small refl there).1 d in
+          let x : Entry = get_or entries p (record { head = 0; tail = 0; symbol = 0 }) in
+          slice_get-get_or entries p x at.0 ∙ (ap Some (sym (at.1 x)) ∙ sym (slice_get-get_or (entries_in blocks) (b * w + p) x there))
+      | inr past ↦
+          let last : b + 1 ≡ length blocks = elim (cases_lt (b + 1) (length blocks)) [
+            | inl before ↦ absurd (omega (arith, (full w blocks b d is before).1, past, small, suc-mul b w))
+            | inr end ↦ omega (arith, end, within)
+          ] in
+          slice_get_past entries p (omega (arith, (counted w blocks b d is last).0, past)) ∙ sym (slice_get_past (entries_in blocks) (b * w + p) past)
+    ]
+
+-- and no more of them than a width
+pub block_small : (w : ℕ) (blocks : List BlockState) (b : ℕ) (d : BlockState) → IsBlocks w blocks → b < length blocks → length (get_or blocks b d).entries ≤ w
+block_small w blocks b d is within = elim (cases_lt (b + 1) (length blocks)) [
+  | inl before ↦ omega (arith, (full w blocks b d is before).0.full)
+  | inr last ↦ (counted w blocks b d is (omega (arith, last, within))).3
+]
+
+-- entries that are those of a list from a rank on, as far as that reaches
+pub reaches : (entries others : List Entry) (start len : ℕ) → ((i : ℕ) → i < len → slice_get entries i ≡ slice_get others (start + i)) → start + len ≤ length others → len ≤ length entries
+reaches entries others start zero same within = omega arith
+reaches entries others start (suc len) same within =
+    let x : Entry = get_or others (start + len) (record { head = 0; tail = 0; symbol = 0 }) in
+    let there = slice_get_within entries len x (same len (omega arith) ∙ slice_get-get_or others (start + len) (record { head = 0; tail = 0; symbol = 0 }) (omega (arith, within))) in
+    omega (arith, there)

@@ -7,7 +7,7 @@ use Rattle.std.proofs.lemmas.List.{append_assoc, append-nil, drop_all, drop-set,
 use Rattle.std.proofs.lemmas.List.Edits.{insert-append_left, insert-append_right, insert_end, length-insert, length-remove, remove-append_right}
 use Rattle.std.proofs.Math.Seq.{take-suc, take-suc-set, take-append_seam, take-set-lt, drop-append_seam}
 use Rattle.wasmi_collections.specs.declared.string_interner.entry.Entry.{Entry}
-use Rattle.wasmi_collections.specs.IndexBlocks.{BlockState, from_first, with_entries}
+use Rattle.wasmi_collections.specs.IndexBlocks.{BlockState, IsLast, from_first, with_entries}
 
 -- two lists in a row, read from where the second begins
 seam : (xs ys : List Entry) (n : ℕ) → length xs ≡ n → from_first (xs ++ ys) n ≡ ys ++ xs
@@ -230,3 +230,8 @@ pub put_in : (block : BlockState) (ring now : List Entry) (n p : ℕ) (x : Entry
     → record { entries = take (n + 1) now; width = length now } ≡ with_entries block (insert block.entries p x)
 put_in block ring now n p x seen goes long =
     (λ i. record { entries = goes i; width = long i }) ∙ ap (λ (b : BlockState). with_entries b (insert b.entries p x)) seen
+
+-- what is read at the last of the first places is the last of these
+pub is_last : (ring : List Entry) (len : ℕ) (last : Entry) → 0 < len → len ≤ length ring → last ≡ get_or ring (len - 1) last → IsLast last (take len ring)
+is_last ring len last some within read =
+    read ∙ (sym (get_or-take len ring (len - 1) last (omega (arith, some))) ∙ ap (λ k. get_or (take len ring) (k - 1) last) (sym (length-take-le len ring within)))

@@ -1,5 +1,5 @@
 -- Facts on an interner's texts and on the index of them.
-use Rattle.std.proofs.Common.{◌≡◌, ◌≢◌, ℕ, zero, suc, ◌+◌, ◌%◌, ◌<◌, ◌≤◌, Bool, true, false, cond, List, [], ◌∷◌, ◌++◌, length, take, drop, replicate, get_or, Some, None, option_map, slice_get, ◌||◌, refl, sym, ap, subst, ◌∙◌, arith, Ordering, Less, Equal, Greater}
+use Rattle.std.proofs.Common.{◌≡◌, ◌≢◌, ℕ, zero, suc, ◌+◌, ◌<◌, ◌≤◌, Bool, true, false, cond, List, [], ◌∷◌, ◌++◌, length, take, drop, replicate, get_or, Option, Some, None, option_map, slice_get, ◌||◌, inl, inr, refl, sym, ap, subst, ◌∙◌, arith, Ordering, Less, Equal, Greater}
 use Rattle.std.specs.List.{All, AllByRecursion, Contains, IsDistinct, insert, list_any, position_from, range_with_len}
 use Rattle.std.specs.List.Sorted.{IsStrictlySortedBy}
 use Rattle.std.specs.Ordering.{ordering_reverse}
@@ -18,8 +18,9 @@ use Rattle.wasmi_collections.proofs.Dedup.{found_last}
 use Rattle.wasmi_collections.specs.Interner.{symbol_of, AreDistinctTexts}
 use Rattle.wasmi_collections.specs.LenOrder.{len_cmp}
 use Rattle.wasmi_collections.specs.LenOrderLaws.{len_cmp_total, len_cmp-Equal}
-use Rattle.wasmi_collections.specs.Search.{IsSearchable}
-use Rattle.wasmi_collections.specs.TextIndex.{AreEntriesOf, IsEntryOf, IsIndexOf, symbols_of, texts_of, orders_with}
+use Rattle.wasmi_collections.proofs.Search.{in_order, none_left, part_in_order, part_narrowed}
+use Rattle.wasmi_collections.specs.Search.{IsInOrder, IsNarrowed, IsSearchable}
+use Rattle.wasmi_collections.specs.TextIndex.{AreEntriesOf, IsEntryOf, IsIndexOf, order_of, symbols_of, texts_of, orders_with}
 use Rattle.wasmi_collections.specs.TextKey.{IsKeyOf}
 use Rattle.wasmi_collections.specs.declared.string_interner.entry.Entry.{Entry}
 
@@ -187,6 +188,11 @@ no_equal zero (suc greater) (suc i) at = no_equal zero greater i at
 no_equal (suc less) greater zero at = absurd (cc)
 no_equal (suc less) greater (suc i) at = no_equal less greater i at
 
+-- a symbol whose text is no other is that of the text
+pub same_text : (text : List ℕ) (texts : List (List ℕ)) (symbol : ℕ) → symbol < length texts → Some (len_cmp (get_or texts symbol []) text) ≡ Some Equal → slice_get texts symbol ≡ Some text
+same_text text texts symbol within same =
+    slice_get-get_or texts symbol [] within ∙ ap Some ((len_cmp-Equal (get_or texts symbol []) text).0 (same_Some _ Equal same))
+
 module _ (texts : List (List ℕ)) (symbols : List ℕ) (is : IsIndexOf texts symbols) where
   pub length-symbols : length symbols ≡ length texts
   length-symbols = length_permutation (range_with_len 0 (length texts)) symbols is.complete ∙ length-range_with_len 0 (length texts)
@@ -266,33 +272,62 @@ module _ (text : List ℕ) where
 pub symbol_at : (entries : List Entry) (rank : ℕ) (entry : Entry) → slice_get entries rank ≡ Some entry → slice_get (symbols_of entries) rank ≡ Some entry.symbol
 symbol_at entries rank entry at = slice_get-map (λ e. e.symbol) entries rank ∙ ap (option_map (λ e. e.symbol)) at
 
--- what is read in a block is the entry of the rank
-pub block_entry : (block entries : List Entry) (width wide rank : ℕ) (entry : Entry) → rank < length entries → wide ≡ width
-    → slice_get block (rank % width) ≡ slice_get entries rank → entry ≡ get_or block (rank % wide) entry → slice_get entries rank ≡ Some entry
-block_entry block entries width wide rank entry within same_width same read =
-    let there = slice_get-get_or entries rank entry within in
-    there ∙ ap Some (sym (read ∙ (ap (λ k. get_or block (rank % k) entry) same_width ∙ get_or_from_slice_get block (rank % width) (get_or entries rank entry) entry (same ∙ there))))
-
 module _ (text : List ℕ) (texts : List (List ℕ)) (entries : List Entry) where
   -- the entry of a rank tells how the text there compares
-  pub entry_order : (rank : ℕ) (entry : Entry) → slice_get entries rank ≡ Some entry → slice_get (orders_with text (texts_of texts (symbols_of entries))) rank ≡ Some (len_cmp (get_or texts entry.symbol []) text)
-  entry_order rank entry at = order_at text texts (symbols_of entries) rank entry.symbol (symbol_at entries rank entry at)
-
-  -- and has the symbol of the text there
-  pub entry_text : (rank : ℕ) (entry : Entry) → slice_get entries rank ≡ Some entry → get_or (texts_of texts (symbols_of entries)) rank [] ≡ get_or texts entry.symbol []
-  entry_text rank entry at =
-      get_or_from_slice_get (texts_of texts (symbols_of entries)) rank (get_or texts entry.symbol []) [] (
-      slice_get-map (λ symbol. get_or texts symbol []) (symbols_of entries) rank ∙ ap (option_map (λ symbol. get_or texts symbol [])) (symbol_at entries rank entry at))
-
-  -- as the text there does
-  pub rank_order : (rank : ℕ) → rank < length entries → slice_get (orders_with text (texts_of texts (symbols_of entries))) rank ≡ Some (len_cmp (get_or (texts_of texts (symbols_of entries)) rank []) text)
-  rank_order rank within =
+  pub order_by_rank : (rank : ℕ) → slice_get (orders_with text (texts_of texts (symbols_of entries))) rank ≡ order_of text texts (slice_get entries rank)
+  order_by_rank rank =
       slice_get-map (λ other. len_cmp other text) (texts_of texts (symbols_of entries)) rank
-      ∙ ap (option_map (λ other. len_cmp other text)) (slice_get-get_or (texts_of texts (symbols_of entries)) rank [] (omega (arith, within, length-map (symbols_of entries) (λ symbol. get_or texts symbol []), length-map entries (λ e. e.symbol))))
+      ∙ (ap (option_map (λ other. len_cmp other text)) (slice_get-map (λ symbol. get_or texts symbol []) (symbols_of entries) rank
+      ∙ ap (option_map (λ symbol. get_or texts symbol [])) (slice_get-map (λ e. e.symbol) entries rank))
+      ∙ at_once (slice_get entries rank))
+    where
+      at_once : (entry : Option Entry) → option_map (λ other. len_cmp other text) (option_map (λ symbol. get_or texts symbol []) (option_map (λ e. e.symbol) entry)) ≡ order_of text texts entry
+      at_once None = refl
+      at_once (Some entry) = refl
 
   -- what holds of each entry holds of that of a rank
   pub entry_of_rank : All (IsEntryOf texts) entries → (rank : ℕ) (entry : Entry) → slice_get entries rank ≡ Some entry → IsEntryOf texts entry
   entry_of_rank each rank entry at = subst (IsEntryOf texts) (get_or_from_slice_get entries rank entry entry at) (each rank entry (slice_get_within entries rank entry at))
+
+  pub length-entries : AreEntriesOf texts entries → length entries ≡ length texts
+  length-entries is = omega (arith, length-symbols texts (symbols_of entries) is.index, length-map entries (λ e. e.symbol))
+
+  -- the entries of an index are in order
+  pub entries_in_order : AreEntriesOf texts entries → IsInOrder (λ rank. order_of text texts (slice_get entries rank)) (length entries)
+  entries_in_order is i j before within =
+      elim (in_order (orders_with text (texts_of texts (symbols_of entries))) (IsSearchable-texts text (texts_of texts (symbols_of entries)) is.index.ascending) i j before
+      (omega (arith, within, length-orders text texts (symbols_of entries), length-map entries (λ e. e.symbol)))) [
+        | inl here ↦ inl (sym (order_by_rank i) ∙ here)
+        | inr there ↦ inr (sym (order_by_rank j) ∙ there)
+      ]
+
+  -- a text that belongs at a rank has all texts before it that are less
+  pub ranked : (rank : ℕ) → IsNarrowed (λ other. order_of text texts (slice_get entries other)) (length entries) rank rank
+      → (greater : ℕ) × (orders_with text (texts_of texts (symbols_of entries)) ≡ replicate rank Less ++ replicate greater Greater)
+  ranked rank there =
+      let long : length (orders_with text (texts_of texts (symbols_of entries))) ≡ length entries = omega (arith, length-orders text texts (symbols_of entries), length-map entries (λ e. e.symbol)) in
+      none_left (orders_with text (texts_of texts (symbols_of entries))) rank rank refl (record {
+        ends = omega arith;
+        within = omega (arith, long, there.within);
+        before = λ i less. order_by_rank i ∙ there.before i less;
+        after = λ i more within. order_by_rank i ∙ there.after i more (omega (arith, long, within));
+      })
+
+  -- so many entries from a rank on
+  module _ (start len : ℕ) (part : ℕ → Option Entry) (same : (i : ℕ) → i < len → part i ≡ slice_get entries (start + i)) (within : start + len ≤ length entries) where
+    pub part_entries : All (IsEntryOf texts) entries → (place : ℕ) (entry : Entry) → place < len → part place ≡ Some entry → IsEntryOf texts entry
+    part_entries each place entry below at = entry_of_rank each (start + place) entry (sym (same place below) ∙ at)
+
+    pub part_orders : AreEntriesOf texts entries → IsInOrder (λ place. order_of text texts (part place)) len
+    part_orders is =
+        part_in_order (λ rank. order_of text texts (slice_get entries rank)) (length entries) (entries_in_order is) start len (λ place. order_of text texts (part place))
+        (λ i below. ap (order_of text texts) (same i below)) within
+
+    pub part_ranked : AreEntriesOf texts entries → (place : ℕ) → IsNarrowed (λ rank. order_of text texts (slice_get entries rank)) (length entries) start (start + len)
+        → IsNarrowed (λ place. order_of text texts (part place)) len place place → IsNarrowed (λ rank. order_of text texts (slice_get entries rank)) (length entries) (start + place) (start + place)
+    part_ranked is place =
+        part_narrowed (λ rank. order_of text texts (slice_get entries rank)) (length entries) (entries_in_order is) start len (λ place. order_of text texts (part place))
+        (λ i below. ap (order_of text texts) (same i below)) within place
 
   longer : (e : Entry) → IsEntryOf texts e → IsEntryOf (texts ++ text ∷ []) e
   longer e is = record {

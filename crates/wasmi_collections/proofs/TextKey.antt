@@ -1,5 +1,5 @@
 -- Facts on the keys of texts.
-use Rattle.std.proofs.Common.{◌≡◌, ℕ, zero, suc, ◌+◌, ◌*◌, ◌^◌, ◌<◌, ◌≤◌, ◌⊎◌, inl, inr, List, [], ◌∷◌, length, get_or, refl, ap, sym, arith, Bool, true, false, Some, not, nat_eq, nat_lt, ◌&&◌, ◌||◌, Less, Equal, Greater}
+use Rattle.std.proofs.Common.{◌≡◌, ℕ, zero, suc, ◌+◌, ◌*◌, ◌/◌, ◌^◌, ◌<◌, ◌≤◌, ◌⊎◌, inl, inr, List, [], ◌∷◌, length, get_or, refl, ap, sym, arith, Bool, true, false, Some, not, nat_eq, nat_lt, ◌&&◌, ◌||◌, Less, Equal, Greater}
 use Rattle.std.specs.Cmp.{nat_cmp_is}
 use Rattle.std.specs.Cmp.Lexicographic.{slice_cmp}
 use Rattle.std.specs.Int.{w32, w64, from_be_bytes}
@@ -134,13 +134,14 @@ module _ (text : List ℕ) where
   large_key bytes large = record { bytes = bytes; upper = omega (arith, key_of-large large); lower = omega (arith, key_of-large large) }
 
   -- the key of another, from its first bytes
-  pub small_key : (first : List ℕ) (seven four : ℕ) → ((place : ℕ) → get_or text place 0 < 256) → length text < 255 → ((place : ℕ) → place < 11 → get_or first place 0 ≡ get_or text place 0)
-      → seven ≡ from_be_bytes w64 (0 ∷ get_or first 0 0 ∷ get_or first 1 0 ∷ get_or first 2 0 ∷ get_or first 3 0 ∷ get_or first 4 0 ∷ get_or first 5 0 ∷ get_or first 6 0 ∷ [])
+  pub small_key : (first : List ℕ) (eight four : ℕ) → ((place : ℕ) → get_or text place 0 < 256) → length text < 255 → ((place : ℕ) → place < 11 → get_or first place 0 ≡ get_or text place 0)
+      → eight ≡ from_be_bytes w64 (get_or first 0 0 ∷ get_or first 1 0 ∷ get_or first 2 0 ∷ get_or first 3 0 ∷ get_or first 4 0 ∷ get_or first 5 0 ∷ get_or first 6 0 ∷ get_or first 7 0 ∷ [])
       → four ≡ from_be_bytes w32 (get_or first 7 0 ∷ get_or first 8 0 ∷ get_or first 9 0 ∷ get_or first 10 0 ∷ [])
-      → IsKeyOf (length text * 2 ^ 56 + seven) four text
-  small_key first seven four bytes small same_first upper lower =
-      let sevens : seven ≡ leading 7 text =
-      omega (arith, upper, same_first 0 (omega arith), same_first 1 (omega arith), same_first 2 (omega arith), same_first 3 (omega arith), same_first 4 (omega arith), same_first 5 (omega arith), same_first 6 (omega arith)) in
+      → IsKeyOf (length text * 2 ^ 56 + eight / 256) four text
+  small_key first eight four bytes small same_first upper lower =
+      let eights : eight ≡ leading 7 text * 256 + get_or text 7 0 =
+      omega (arith, upper, same_first 0 (omega arith), same_first 1 (omega arith), same_first 2 (omega arith), same_first 3 (omega arith), same_first 4 (omega arith), same_first 5 (omega arith), same_first 6 (omega arith), same_first 7 (omega arith)) in
+      let sevens : eight / 256 ≡ leading 7 text = omega (arith, eights, bytes 7) in
       let fours : leading 7 text * 2 ^ 32 + four ≡ leading 11 text =
       omega (arith, lower, same_first 7 (omega arith), same_first 8 (omega arith), same_first 9 (omega arith), same_first 10 (omega arith)) in
       let below : four < 2 ^ 32 =

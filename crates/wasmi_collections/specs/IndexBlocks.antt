@@ -1,5 +1,5 @@
 -- Entries by rank in blocks of one width: how the index of an interner keeps them.
-use Rattle.std.specs.Prelude.{ℕ, ◌≡◌, ◌+◌, ◌-◌, ◌*◌, ◌^◌, ◌≤◌, ◌⊎◌, ◌<◌, List, [], ◌∷◌, ◌++◌, length, take, drop, ⊤}
+use Rattle.std.specs.Prelude.{ℕ, ◌≡◌, ◌+◌, ◌-◌, ◌*◌, ◌^◌, ◌≤◌, ◌⊎◌, ◌<◌, List, [], ◌∷◌, ◌++◌, length, take, drop, slice_index_or, ⊤}
 use Rattle.std.specs.List.{All, flat_map}
 use Rattle.wasmi_collections.specs.declared.string_interner.entry.Entry.{Entry}
 
@@ -19,6 +19,10 @@ pub record BlockState : Type 0 where
 -- a block with other entries
 abbrev pub with_entries : BlockState → List Entry → BlockState
 with_entries block new = record { entries = new; width = block.width }
+
+-- an entry is the last of these, if there are any
+abbrev pub IsLast : Entry → List Entry → Type 0
+IsLast last entries = last ≡ slice_index_or entries (length entries - 1) last
 
 -- a ring, from the place on where the first stands, and round
 abbrev pub from_first : List Entry → ℕ → List Entry

@@ -1,5 +1,5 @@
 -- A search in a list that is sorted, seen as how each item compares with what is searched.
-use Rattle.std.specs.Prelude.{◌≡◌, ℕ, ◌+◌, ◌-◌, ◌/◌, ◌<◌, ◌≤◌, ◌⊎◌, Bool, true, false, List, [], ◌∷◌, ◌++◌, length, replicate, Option, None, Some, Result, Ok, Err, if◌then◌else◌, slice_get}
+use Rattle.std.specs.Prelude.{◌≡◌, ℕ, ◌<◌, ◌≤◌, ◌⊎◌, Bool, true, false, List, [], ◌∷◌, ◌++◌, replicate, Option, None, Some, Result, Ok, Err, if◌then◌else◌, slice_get}
 use Rattle.std.specs.declared.cmp.Ordering.{Ordering}
 use Rattle.std.specs.declared.cmp.Ordering.TheVariants.{Less, Equal, Greater}
 
@@ -20,21 +20,16 @@ abbrev pub IsFound : List Ordering → Result ℕ ℕ → Type 0
 IsFound orders (Ok place) = slice_get orders place ≡ Some Equal
 IsFound orders (Err less) = (greater : ℕ) × (orders ≡ replicate less Less ++ replicate greater Greater)
 
--- what is searched stands or belongs from `low` on and before `high`, or at `high`
-pub record IsNarrowed (orders : List Ordering) (low high : ℕ) : Type 0 where
+-- of two of so many places, each with the order of its item, the earlier is `Less` or the later `Greater`
+abbrev pub IsInOrder : (ℕ → Option Ordering) → ℕ → Type 0
+IsInOrder order count = (i j : ℕ) → i < j → j < count → (order i ≡ Some Less) ⊎ (order j ≡ Some Greater)
+
+-- what is searched at so many places stands or belongs from `low` on and before `high`, or belongs at `high`
+pub record IsNarrowed (order : ℕ → Option Ordering) (count low high : ℕ) : Type 0 where
   pub ends : low ≤ high
-  pub within : high ≤ length orders
-  pub before : (i : ℕ) → i < low → slice_get orders i ≡ Some Less
-  pub after : (i : ℕ) → high ≤ i → i < length orders → slice_get orders i ≡ Some Greater
-
--- two places lie in one block of a width, if there is one
-abbrev pub IsOneBlock : ℕ → ℕ → Option ℕ → Type 0
-IsOneBlock low last None = ⊥
-IsOneBlock low last (Some width) = low / width ≡ last / width
-
--- these places are none, or lie in one block
-abbrev pub IsOneRun : ℕ → ℕ → Option ℕ → Type 0
-IsOneRun low len width = (len ≡ 0) ⊎ IsOneBlock low (low + len - 1) width
+  pub within : high ≤ count
+  pub before : (i : ℕ) → i < low → order i ≡ Some Less
+  pub after : (i : ℕ) → high ≤ i → i < count → order i ≡ Some Greater
 
 -- whether an item of this order is `Less`, and nothing where it is `Equal`
 abbrev pub IsSide : Option Ordering → Option Bool → Type 0

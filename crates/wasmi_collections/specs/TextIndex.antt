@@ -1,5 +1,5 @@
 -- The index of an interner: the symbols in the length order of their texts.
-use Rattle.std.specs.Prelude.{ℕ, ◌<◌, List, [], length, map, slice_index_or, IsPermutation}
+use Rattle.std.specs.Prelude.{ℕ, ◌≡◌, ◌<◌, List, [], length, map, Option, Some, option_map, slice_index_or, IsPermutation}
 use Rattle.std.specs.List.{All, range_with_len}
 use Rattle.std.specs.List.Sorted.{IsStrictlySortedBy}
 use Rattle.std.specs.declared.cmp.Ordering.{Ordering}
@@ -22,10 +22,6 @@ symbols_of entries = map (λ entry. entry.symbol) entries
 abbrev pub texts_of : List (List ℕ) → List ℕ → List (List ℕ)
 texts_of texts symbols = map (λ symbol. slice_index_or texts symbol []) symbols
 
--- the text of the entry of a rank
-abbrev pub text_by_rank : List (List ℕ) → List Entry → ℕ → List ℕ
-text_by_rank texts entries rank = slice_index_or (texts_of texts (symbols_of entries)) rank []
-
 -- an index has the symbol of each text once, and the texts of its symbols ascend
 pub record IsIndexOf (texts : List (List ℕ)) (symbols : List ℕ) : Type 0 where
   pub complete : IsPermutation (range_with_len 0 (length texts)) symbols
@@ -40,6 +36,14 @@ pub record IsEntryOf (texts : List (List ℕ)) (entry : Entry) : Type 0 where
 pub record AreEntriesOf (texts : List (List ℕ)) (entries : List Entry) : Type 0 where
   pub index : IsIndexOf texts (symbols_of entries)
   pub each : All (IsEntryOf texts) entries
+
+-- there is an entry, and this is its key
+abbrev pub HasKey : ℕ → ℕ → Option Entry → Type 0
+HasKey head tail there = (entry : Entry) × (there ≡ Some entry) × (entry.head ≡ head) × (entry.tail ≡ tail)
+
+-- how the text of an entry compares with another
+abbrev pub order_of : List ℕ → List (List ℕ) → Option Entry → Option Ordering
+order_of text texts entry = option_map (λ e. len_cmp (slice_index_or texts e.symbol []) text) entry
 
 -- how each of these texts compares with another
 abbrev pub orders_with : List ℕ → List (List ℕ) → List Ordering

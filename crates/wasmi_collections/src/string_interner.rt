@@ -18,6 +18,7 @@ mod index;
 mod iter;
 mod key;
 mod len_order;
+mod places;
 mod probe;
 mod sought;
 mod steps;

@@ -22,6 +22,7 @@ impl Model for Choice {
 }
 
 impl Choice {
+    // The choice that holds where this does.
     #[inline]
     pub(super) fn new(holds: bool) -> Self
         ensures { result ≡ holds }
@@ -37,14 +38,6 @@ impl Choice {
         ensures { result ≡ cond self.now one other }
     {
         other ^ ((one ^ other) & self.mask)
-    }
-
-    // The same of two `u32`.
-    #[inline]
-    pub(super) fn select_u32(&self, one: u32, other: u32) -> u32
-        ensures { result ≡ cond self.now one other }
-    {
-        self.select_u64(one as u64, other as u64) as u32
     }
 
     // The same of two `usize`.

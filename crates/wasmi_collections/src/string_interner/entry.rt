@@ -1,5 +1,5 @@
 //! An entry of the index of an interner.
-ghost use Rattle.std.specs.Prelude.{◌≡◌};
+ghost use Rattle.std.specs.Prelude.{◌≡◌, ◌<◌, ◌^◌};
 
 use super::Sym;
 use super::key::Key;
@@ -15,13 +15,14 @@ pub(super) struct Entry {
 impl Entry {
     // A symbol beside a key.
     pub(super) fn new(key: Key, symbol: Sym) -> Entry
+        requires { key.tail < 2 ^ 32 }
         ensures head { result.head ≡ key.head }
         ensures tail { result.tail ≡ key.tail }
         ensures symbol { result.symbol ≡ symbol }
     {
         Entry {
             head: key.head,
-            tail: key.tail,
+            tail: key.tail as u32,
             symbol,
         }
     }
@@ -49,7 +50,7 @@ impl Entry {
     {
         Key {
             head: self.head,
-            tail: self.tail,
+            tail: self.tail as u64,
         }
     }
 }

@@ -1,88 +1,24 @@
 //! The search for a text in an interner.
-ghost use Rattle.std.specs.Prelude.{◌≡◌, ℕ, ◌+◌, ◌-◌, ◌/◌, ◌%◌, ◌<◌, ◌≤◌, ◌^◌, [], ◌∷◌, ◌++◌, length, IfOk, IfErr, None, Some, slice_get};
-ghost use Rattle.std.specs.List.{All, insert};
+ghost use Rattle.std.specs.Prelude.{◌≡◌, ℕ, ◌+◌, ◌-◌, ◌*◌, ◌/◌, ◌<◌, ◌≤◌, ◌^◌, [], ◌∷◌, ◌++◌, length, IfOk, IfErr, None, Some, slice_get};
+ghost use Rattle.std.specs.List.{insert};
 ghost use Rattle.wasmi_collections.specs.BinaryDigits.{digits};
 ghost use Rattle.wasmi_collections.specs.Interner.{symbol_of, AreDistinctTexts};
-ghost use Rattle.wasmi_collections.specs.Search.{IsFound, IsNarrowed, IsSide};
-ghost use Rattle.wasmi_collections.specs.TextIndex.{AreEntriesOf, IsEntryOf, orders_by_rank, text_by_rank};
+ghost use Rattle.wasmi_collections.specs.Search.{IsInOrder, IsNarrowed, IsSide};
+ghost use Rattle.wasmi_collections.specs.TextIndex.{AreEntriesOf, HasKey, IsEntryOf, order_of};
 ghost use Rattle.wasmi_collections.specs.TextKey.{IsKeyOf};
 ghost use Rattle.wasmi_collections.specs.declared.string_interner.entry.Entry.{Entry};
 
 use super::choice::Choice;
-use super::index::{Block, Index};
+use super::index::Index;
 use super::key::Key;
-use super::probe::{Narrow, Rest, half_of, search_rest};
+use super::places::{Places, Tail, Tops};
+use super::probe::half_of;
 use super::sought::Sought;
 use super::{Steps, Sym};
 use std::alloc::Allocator;
 use std::mem;
 
-// The texts of an index by rank, to be compared with a text.
-#[derive(Drop)]
-struct IndexLooks<'a, A: Allocator> {
-    index: &'a Index<A>,
-    sought: &'a Sought<'a, A>,
-    steps: Steps,
-    // Each symbol has a text, and stands beside its key.
-    ghost entries: { All (IsEntryOf sought.now.texts.now) index.now.entries },
-}
-
-impl<A: Allocator> Narrow for IndexLooks<'_, A> {
-    ghost orders = { λ looks. orders_by_rank looks.sought.now.text.now looks.sought.now.texts.now looks.index.now.entries };
-
-    ghost looks = { λ looks. looks.steps };
-
-    ghost reads = { λ looks place. place < length looks.index.now.entries };
-
-    fn side(&mut self, at: usize) -> Option<Choice> {
-        self.steps.tick();
-        self.sought.side_of(self.index.at(at))
-    }
-}
-
-// The texts of the ranks of one block, which isn't looked for at each.
-#[derive(Drop)]
-struct BlockTexts<'a, A: Allocator> {
-    index: &'a Index<A>,
-    block: &'a Block<A>,
-    // One of these ranks.
-    rank: usize,
-    sought: &'a Sought<'a, A>,
-    ghost entries: { All (IsEntryOf sought.now.texts.now) index.now.entries },
-    ghost width: { block.now.width ≡ index.now.width },
-    ghost part: { (other : ℕ) → other / index.now.width ≡ rank / index.now.width → other < length index.now.entries
-        → slice_get block.now.entries (other % index.now.width) ≡ slice_get index.now.entries other },
-}
-
-impl<A: Allocator> BlockTexts<'_, A> {
-    // The key of the text of a rank.
-    #[inline]
-    fn key(&self, rank: usize) -> Key
-        requires block { rank / self.now.index.now.width ≡ self.now.rank / self.now.index.now.width }
-        requires within { rank < length self.now.index.now.entries }
-        ensures { IsKeyOf result.head result.tail (text_by_rank self.now.sought.now.texts.now self.now.index.now.entries rank) }
-    {
-        self.block.at(rank).key()
-    }
-
-    // Whether the text of a rank, whose key is this, is less than the one that is searched, and nothing where it is
-    // equal.
-    #[inline]
-    fn side(&self, rank: usize, key: Key) -> Option<Choice>
-        requires block { rank / self.now.index.now.width ≡ self.now.rank / self.now.index.now.width }
-        requires within { rank < length self.now.index.now.entries }
-        requires key { IsKeyOf key.head key.tail (text_by_rank self.now.sought.now.texts.now self.now.index.now.entries rank) }
-        ensures { IsSide (slice_get (orders_by_rank self.now.sought.now.text.now self.now.sought.now.texts.now self.now.index.now.entries) rank) result }
-    {
-        if let Some(less) = self.sought.side_of_key(key) {
-            return Some(less);
-        }
-        self.sought.side_of_same(self.block.at(rank))
-    }
-}
-
-// The symbol of a text, or as an error the rank that the text would have. One step for each text that it is
-// compared with.
+// The symbol of a text, or as an error the rank that the text would have. One step for each comparison.
 pub(super) fn find<A: Allocator>(
     index: &Index<A>,
     sought: &Sought<'_, A>,
@@ -100,96 +36,157 @@ pub(super) fn find<A: Allocator>(
     ensures some_steps { 0 < length sought.now.texts.now → steps.old < steps.new }
     ensures many_steps { IfErr result (λ _. steps.old + digits (length sought.now.texts.now + 1) ≤ steps.new + 1) }
 {
-    match find_rank(index, sought, steps) {
-        Ok(rank) => Ok(index.at(rank).symbol()),
-        Err(rank) => Err(rank),
-    }
+    find_rank(index, sought, steps)
 }
 
-// The rank of a text, or as an error the rank that it would have.
+// As `find`, of texts that needn't be distinct. The last entries of the full blocks are searched first, and then the
+// others of one block.
 fn find_rank<A: Allocator>(
     index: &Index<A>,
     sought: &Sought<'_, A>,
     steps: &mut Steps,
-) -> Result<usize, usize>
+) -> Result<Sym, usize>
     requires indexed { AreEntriesOf sought.now.texts.now index.now.entries }
     requires countable { steps.old ≤ 2 ^ 63 }
-    ensures found { IsFound (orders_by_rank sought.now.text.now sought.now.texts.now index.now.entries) result }
+    ensures there { IfOk result (λ symbol. slice_get sought.now.texts.now symbol ≡ Some sought.now.text.now) }
+    ensures absent { IfErr result (λ rank. IsNarrowed (λ other. order_of sought.now.text.now sought.now.texts.now (slice_get index.now.entries other))
+        (length index.now.entries) rank rank) }
     ensures few_steps { steps.new ≤ steps.old + digits (length sought.now.texts.now) }
     ensures some_steps { 0 < length sought.now.texts.now → steps.old < steps.new }
     ensures many_steps { IfErr result (λ _. steps.old + digits (length sought.now.texts.now + 1) ≤ steps.new + 1) }
 {
-    // proof: what looks owns its counter, since a `&mut` in it would lend what the search gives back.
-    let mut looks = IndexLooks {
-        index,
-        sought,
-        steps: mem::replace(steps, Steps::new()),
-    };
-    let rest = Rest {
-        low: 0,
-        len: sought.texts.len(),
-    };
-    let found = search_rest(rest, Some(index.width()), &mut looks);
-    *steps = looks.steps;
-    match found {
-        Ok(rank) => Ok(rank),
-        Err(rest) => {
-            if rest.len == 0 {
-                return Err(rest.low);
-            }
-            find_in_block(index, sought, rest, steps)
+    let len = sought.texts.len();
+    if len == 0 {
+        return Err(0);
+    }
+    let full = index.width().block_of(len);
+    if full == 0 {
+        return find_among(index.block(0), len, sought, steps);
+    }
+    match find_among(&Tops { index }, full, sought, steps) {
+        Ok(symbol) => Ok(symbol),
+        Err(number) => find_others(index, number, full, sought, steps),
+    }
+}
+
+// As `find_rank`, of a text that belongs in the full block of a number, in front of its last entry, or behind all
+// full blocks.
+//
+// Behind all of them as many entries are searched as there are others in a block, the last ones of the index, so that a
+// text that is nowhere takes as many steps wherever it belongs.
+fn find_others<A: Allocator>(
+    index: &Index<A>,
+    number: usize,
+    full: usize,
+    sought: &Sought<'_, A>,
+    steps: &mut Steps,
+) -> Result<Sym, usize>
+    requires indexed { AreEntriesOf sought.now.texts.now index.now.entries }
+    requires full { full ≡ length index.now.entries / index.now.width }
+    requires some { 0 < full }
+    requires number { IsNarrowed (λ other. order_of sought.now.text.now sought.now.texts.now
+        (slice_get index.now.entries (other * index.now.width + (index.now.width - 1)))) full number number }
+    requires countable { steps.old ≤ 2 ^ 63 + 64 }
+    ensures there { IfOk result (λ symbol. slice_get sought.now.texts.now symbol ≡ Some sought.now.text.now) }
+    ensures absent { IfErr result (λ rank. IsNarrowed (λ other. order_of sought.now.text.now sought.now.texts.now (slice_get index.now.entries other))
+        (length index.now.entries) rank rank) }
+    ensures few_steps { steps.new ≤ steps.old + digits (index.now.width - 1) }
+    ensures some_steps { steps.old < steps.new }
+    ensures many_steps { IfErr result (λ _. steps.old + digits index.now.width ≤ steps.new + 1) }
+{
+    let len = sought.texts.len();
+    let width = index.width().get();
+    let others = width - 1;
+    if number < full {
+        match find_among(index.block(number), others, sought, steps) {
+            Ok(symbol) => Ok(symbol),
+            Err(place) => Err(number * width + place),
+        }
+    } else {
+        let start = len - others;
+        match find_among(&Tail { index, start }, others, sought, steps) {
+            Ok(symbol) => Ok(symbol),
+            Err(place) => Err(start + place),
         }
     }
 }
 
-// As `find_rank`, of what a search has left, which lies in one block. Each look has the keys of both next ones
-// read before it compares, so that a compare waits for no memory.
-#[inline]
-fn find_in_block<A: Allocator>(
-    index: &Index<A>,
+// The symbol of a text that is searched among the entries of so many places, or as an error the place where it
+// belongs.
+//
+// The keys at both places are read at one of which the next look is, so that it waits for no memory. Called, it would
+// hand its answer on through memory too.
+#[inline(always)]
+fn find_among<P: Places, A: Allocator>(
+    places: &P,
+    len: usize,
     sought: &Sought<'_, A>,
-    rest: Rest,
     steps: &mut Steps,
-) -> Result<usize, usize>
-    requires indexed { AreEntriesOf sought.now.texts.now index.now.entries }
-    requires rest { IsNarrowed (orders_by_rank sought.now.text.now sought.now.texts.now index.now.entries) rest.low (rest.low + rest.len) }
-    requires some { 0 < rest.len }
-    requires fits { rest.low + rest.len < 2 ^ 64 }
-    requires run { rest.low / index.now.width ≡ (rest.low + rest.len - 1) / index.now.width }
+) -> Result<Sym, usize>
+    requires some { 0 < len }
+    requires within { len ≤ P.count places.now }
+    requires entries { (place : ℕ) (entry : Entry) → place < len → P.entry places.now place ≡ Some entry → IsEntryOf sought.now.texts.now entry }
+    requires in_order { IsInOrder (λ place. order_of sought.now.text.now sought.now.texts.now (P.entry places.now place)) len }
     requires countable { steps.old ≤ 2 ^ 63 + 64 }
-    ensures found { IsFound (orders_by_rank sought.now.text.now sought.now.texts.now index.now.entries) result }
-    ensures few_steps { steps.new ≤ steps.old + digits rest.len }
+    ensures there { IfOk result (λ symbol. slice_get sought.now.texts.now symbol ≡ Some sought.now.text.now) }
+    ensures absent { IfErr result (λ place. IsNarrowed (λ other. order_of sought.now.text.now sought.now.texts.now (P.entry places.now other)) len place place) }
+    ensures few_steps { steps.new ≤ steps.old + digits len }
     ensures some_steps { steps.old < steps.new }
-    ensures many_steps { IfErr result (λ _. steps.old + digits (rest.len + 1) ≤ steps.new + 1) }
+    ensures many_steps { IfErr result (λ _. steps.old + digits (len + 1) ≤ steps.new + 1) }
 {
-    let block = BlockTexts {
-        index,
-        block: index.block(rest.low),
-        rank: rest.low,
-        sought,
-    };
-    let mut low = rest.low;
-    let mut half = half_of(rest.len);
-    let mut next = low + (rest.len - half);
-    let mut key = block.key(low + half);
+    // For all that the compiler knows of a counter in memory, counting changes where the entries lie, which each look
+    // would read anew.
+    let mut taken = mem::replace(steps, Steps::new());
+    let mut low = 0;
+    let mut half = half_of(len);
+    // How many places are left out where the text that is looked at is less.
+    let mut skipped = len - half;
+    let mut key = places.read(half).key();
     while 0 < half {
         let fewer = half / 2;
-        let lower = block.key(low + fewer);
-        let upper = block.key(next + fewer);
-        steps.tick();
-        match block.side(low + half, key) {
+        match side_at(places, low + half, key, sought, &mut taken) {
             Some(less) => {
-                low = less.select_usize(next, low);
+                let lower = places.read(low + fewer).key();
+                let upper = places.read(low + skipped + fewer).key();
+                low += less.select_usize(skipped, 0);
                 key = Key::select(&less, upper, lower);
             }
-            None => return Ok(low + half),
+            None => {
+                *steps = taken;
+                return Ok(places.read(low + half).symbol());
+            }
         }
-        next = low + (half - fewer);
+        skipped = half - fewer;
         half = fewer;
     }
-    steps.tick();
-    match block.side(low, key) {
+    let side = side_at(places, low, key, sought, &mut taken);
+    *steps = taken;
+    match side {
         Some(less) => Err(less.select_usize(low + 1, low)),
-        None => Ok(low),
+        None => Ok(places.read(low).symbol()),
     }
+}
+
+// Whether the text of a place, where this key stands, is less than the one that is searched, and nothing where it
+// is equal. A step.
+#[inline]
+fn side_at<P: Places, A: Allocator>(
+    places: &P,
+    place: usize,
+    key: Key,
+    sought: &Sought<'_, A>,
+    steps: &mut Steps,
+) -> Option<Choice>
+    requires within { place < P.count places.now }
+    requires entry { (entry : Entry) → P.entry places.now place ≡ Some entry → IsEntryOf sought.now.texts.now entry }
+    requires key { HasKey key.head key.tail (P.entry places.now place) }
+    requires countable { steps.old < 2 ^ 64 - 1 }
+    ensures side { IsSide (order_of sought.now.text.now sought.now.texts.now (P.entry places.now place)) result }
+    ensures counted { steps.new ≡ steps.old + 1 }
+{
+    steps.tick();
+    if let Some(less) = sought.side_of_key(key) {
+        return Some(less);
+    }
+    sought.side_of_same(places.read(place))
 }

@@ -1,7 +1,7 @@
 //! The index of an interner.
-ghost use Rattle.std.specs.Prelude.{◌≡◌, ℕ, ◌+◌, ◌/◌, ◌%◌, ◌<◌, ◌≤◌, ◌⊎◌, [], length, IfOk, OnOk, IsOkUnless, Some, slice_get};
+ghost use Rattle.std.specs.Prelude.{◌≡◌, ℕ, ◌+◌, ◌-◌, ◌*◌, ◌/◌, ◌<◌, ◌≤◌, ◌⊎◌, [], length, IfOk, OnOk, IsOkUnless, Some, slice_get};
 ghost use Rattle.std.specs.List.{insert};
-ghost use Rattle.wasmi_collections.specs.IndexBlocks.{AreFew};
+ghost use Rattle.wasmi_collections.specs.IndexBlocks.{AreFew, IsWidth};
 
 mod block;
 mod blocks;
@@ -76,7 +76,8 @@ impl<A: Allocator> Index<A> {
     // The width of its blocks.
     #[inline]
     pub(super) fn width(&self) -> &Width
-        ensures { result.now ≡ self.now.width }
+        ensures value { result.now ≡ self.now.width }
+        ensures width { IsWidth self.now.width }
     {
         &self.width
     }
@@ -86,17 +87,27 @@ impl<A: Allocator> Index<A> {
         requires { rank < length self.now.entries }
         ensures { slice_get self.now.entries rank ≡ Some result }
     {
-        self.block(rank).at(rank)
+        self.block(self.width.block_of(rank))
+            .at(self.width.place_of(rank))
     }
 
-    // The block of a rank.
-    pub(super) fn block(&self, rank: usize) -> &Block<A>
-        requires { rank < length self.now.entries }
-        ensures width { result.now.width ≡ self.now.width }
-        ensures entries { (other : ℕ) → other / self.now.width ≡ rank / self.now.width → other < length self.now.entries
-            → slice_get result.now.entries (other % self.now.width) ≡ slice_get self.now.entries other }
+    // The block of a number, in which there are entries.
+    pub(super) fn block(&self, number: usize) -> &Block<A>
+        requires { number * self.now.width < length self.now.entries }
+        ensures width { IsWidth self.now.width }
+        ensures most { length result.now.entries ≤ self.now.width }
+        ensures entries { (place : ℕ) → place < self.now.width
+            → slice_get result.now.entries place ≡ slice_get self.now.entries (number * self.now.width + place) }
     {
-        &self.blocks[self.width.block_of(rank)]
+        &self.blocks[number]
+    }
+
+    // The last entry of the block of a number, which is full.
+    pub(super) fn top(&self, number: usize) -> Entry
+        requires { number < length self.now.entries / self.now.width }
+        ensures { slice_get self.now.entries (number * self.now.width + (self.now.width - 1)) ≡ Some result }
+    {
+        self.block(number).last()
     }
 
     // Makes room for one more entry. Where all blocks are full, they are widened, or one more is opened.

@@ -1,5 +1,5 @@
 //! The key of a text.
-ghost use Rattle.std.specs.Prelude.{◌≡◌, ◌==◌, ◌<◌, ◌*◌, ◌^◌, ◌&&◌, ◌||◌, cond, not, nat_lt, ℕ, slice_index};
+ghost use Rattle.std.specs.Prelude.{◌≡◌, ◌==◌, ◌<◌, ◌*◌, ◌^◌, ◌&&◌, ◌||◌, cond, not, nat_lt, ℕ, List, length, slice_index};
 ghost use Rattle.wasmi_collections.specs.TextKey.{IsKeyOf};
 
 use super::choice::Choice;
@@ -13,7 +13,7 @@ const LONG: usize = 255;
 // What a length of one adds to a head, where it stands above seven bytes.
 const ONE: u64 = 1 << 56;
 
-// What a head of one adds to a key as one number.
+// What a head of one adds to both parts as one number of two words.
 const HEAD: u128 = 1 << 64;
 
 // The length of a text and its first bytes, as one number in two parts. Where the keys of two texts differ,
@@ -23,7 +23,7 @@ pub(super) struct Key {
     // The length and seven bytes,
     pub(super) head: u64,
     // and four bytes more.
-    pub(super) tail: u32,
+    pub(super) tail: u64,
 }
 
 impl Key {
@@ -32,20 +32,15 @@ impl Key {
         ensures { IsKeyOf result.head result.tail text.now }
     {
         let bytes = text.as_bytes();
-        let len = bytes.len();
-        if LONG <= len {
+        if LONG <= bytes.len() {
             return Key {
                 head: LONG as u64 * ONE,
                 tail: 0,
             };
         }
-        let first = first_bytes(bytes);
-        let seven = u64::from_be_bytes([
-            0, first[0], first[1], first[2], first[3], first[4], first[5], first[6],
-        ]);
-        Key {
-            head: len as u64 * ONE + seven,
-            tail: u32::from_be_bytes([first[7], first[8], first[9], first[10]]),
+        match bytes.first_chunk::<BYTES>() {
+            Some(first) => from_first(bytes.len(), first),
+            None => of_short(bytes),
         }
     }
 
@@ -57,11 +52,11 @@ impl Key {
     {
         Key {
             head: choice.select_u64(one.head, other.head),
-            tail: choice.select_u32(one.tail, other.tail),
+            tail: choice.select_u64(one.tail, other.tail),
         }
     }
 
-    // Whether it is another key. What differs more often is compared first.
+    // Whether it is another key. Where texts begin alike, the tails differ more often than the heads.
     #[inline]
     pub(super) fn differs(&self, other: &Key) -> bool
         ensures { result ≡ not (self.now.tail == other.now.tail && self.now.head == other.now.head) }
@@ -87,16 +82,39 @@ impl Key {
     }
 }
 
-// The first bytes, and a zero for each that is missing.
-fn first_bytes(bytes: &[u8]) -> [u8; BYTES]
+// The key of a text of this length that isn't long, by its first bytes, with a zero for each that is missing.
+#[inline]
+fn from_first(len: usize, first: &[u8; BYTES]) -> Key
+    requires { len < 255 }
+    ensures { (text : List ℕ) → length text ≡ len → ((place : ℕ) → slice_index text place < 256)
+        → ((place : ℕ) → place < 11 → slice_index first.now place ≡ slice_index text place) → IsKeyOf result.head result.tail text }
+{
+    // The eighth byte is shifted out. Seven would be read one by one, and eight are one word.
+    let eight = u64::from_be_bytes([
+        first[0], first[1], first[2], first[3], first[4], first[5], first[6], first[7],
+    ]);
+    Key {
+        head: len as u64 * ONE + (eight >> 8),
+        tail: u32::from_be_bytes([first[7], first[8], first[9], first[10]]) as u64,
+    }
+}
+
+// The key of a text that has fewer bytes. Inlined, both kinds of texts would have their bytes read by the same code,
+// which reads no words.
+#[inline(never)]
+fn of_short(bytes: &[u8]) -> Key
+    requires { length bytes.now < 11 }
+    ensures { IsKeyOf result.head result.tail bytes.now }
+{
+    from_first(bytes.len(), &padded(bytes))
+}
+
+// The bytes, and a zero for each that is missing.
+fn padded(bytes: &[u8]) -> [u8; BYTES]
+    requires { length bytes.now < 11 }
     ensures { (place : ℕ) → place < 11 → slice_index result place ≡ slice_index bytes.now place }
 {
-    match bytes.first_chunk::<BYTES>() {
-        Some(first) => *first,
-        None => {
-            let mut padded = [0; BYTES];
-            padded[..bytes.len()].copy_from_slice(bytes);
-            padded
-        }
-    }
+    let mut padded = [0; BYTES];
+    padded[..bytes.len()].copy_from_slice(bytes);
+    padded
 }

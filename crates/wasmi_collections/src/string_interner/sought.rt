@@ -49,19 +49,7 @@ impl<'a, A: Allocator> Sought<'a, A> {
         }
     }
 
-    // Whether the text of an entry is less than this one, and nothing where it is equal.
-    #[inline]
-    pub(super) fn side_of(&self, entry: Entry) -> Option<Choice>
-        requires { IsEntryOf self.now.texts.now entry }
-        ensures { IsSide (Some (len_cmp (slice_index_or self.now.texts.now entry.symbol []) self.now.text.now)) result }
-    {
-        if let Some(less) = self.side_of_key(entry.key()) {
-            return Some(less);
-        }
-        self.side_of_same(entry)
-    }
-
-    // The same of an entry with the key of this text.
+    // Whether the text of an entry that has the key of this one is less, and nothing where it is equal.
     #[inline]
     pub(super) fn side_of_same(&self, entry: Entry) -> Option<Choice>
         requires entry { IsEntryOf self.now.texts.now entry }

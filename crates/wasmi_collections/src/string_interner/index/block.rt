@@ -1,7 +1,7 @@
 //! A block of the index of an interner.
-ghost use Rattle.std.specs.Prelude.{◌≡◌, ◌++◌, ◌+◌, ◌==◌, ◌%◌, ◌<◌, ◌≤◌, [], ◌∷◌, length, IfOk, OnErr, OnOk, slice_index_or};
+ghost use Rattle.std.specs.Prelude.{◌≡◌, ◌++◌, ◌+◌, ◌-◌, ◌==◌, ◌<◌, ◌≤◌, [], ◌∷◌, length, IfOk, OnErr, OnOk, Some, slice_get};
 ghost use Rattle.std.specs.List.{insert};
-ghost use Rattle.wasmi_collections.specs.IndexBlocks.{BlockState, with_entries};
+ghost use Rattle.wasmi_collections.specs.IndexBlocks.{BlockState, IsLast, with_entries};
 
 use super::ring::Ring;
 use super::width::Width;
@@ -15,17 +15,19 @@ use std::marker::Model;
 pub(in crate::string_interner) struct Block<A: Allocator> {
     ring: Ring<A>,
     len: usize,
+    // The last of them, so that a search finds the block of a text without the rings.
+    last: Entry,
 }
 
 impl<A: Allocator> Model for Block<A> {
     ghost use Rattle.std.specs.Prelude.{◌≤◌, length, take};
-    ghost use Rattle.wasmi_collections.specs.IndexBlocks.{BlockState};
+    ghost use Rattle.wasmi_collections.specs.IndexBlocks.{BlockState, IsLast};
 
     ghost Value = { BlockState };
 
     ghost view = { λ block. record { entries = take block.len block.ring; width = length block.ring } };
 
-    ghost invariant = { λ block. block.len ≤ length block.ring };
+    ghost invariant = { λ block. (block.len ≤ length block.ring) × IsLast block.last (take block.len block.ring) };
 }
 
 impl<A: Allocator> Block<A> {
@@ -36,6 +38,7 @@ impl<A: Allocator> Block<A> {
         Ok(Block {
             ring: Ring::new(alloc, width)?,
             len: 0,
+            last: Entry::filler(),
         })
     }
 
@@ -51,10 +54,10 @@ impl<A: Allocator> Block<A> {
         requires width { one.now.width + other.now.width ≡ width.now }
         ensures { IfOk result (λ block. (block.entries ≡ one.now.entries ++ other.now.entries) × (block.width ≡ width.now)) }
     {
-        Ok(Block {
-            ring: Ring::joined(alloc, &one.ring, &other.ring, width)?,
-            len: width.get(),
-        })
+        let ring = Ring::joined(alloc, &one.ring, &other.ring, width)?;
+        let len = width.get();
+        let last = ring.at(len - 1);
+        Ok(Block { ring, len, last })
     }
 
     // Makes room for as many entries more as it has. Without memory for them, it is as before.
@@ -75,12 +78,20 @@ impl<A: Allocator> Block<A> {
         self.len == self.ring.len()
     }
 
-    // The entry of a rank, whose place is its remainder by the width.
-    pub(in crate::string_interner) fn at(&self, rank: usize) -> Entry
-        requires { rank % self.now.width < length self.now.entries }
-        ensures { result ≡ slice_index_or self.now.entries (rank % self.now.width) result }
+    // The entry of a place.
+    pub(in crate::string_interner) fn at(&self, place: usize) -> Entry
+        requires { place < length self.now.entries }
+        ensures { slice_get self.now.entries place ≡ Some result }
     {
-        self.ring.at(rank)
+        self.ring.at(place)
+    }
+
+    // The last entry.
+    pub(super) fn last(&self) -> Entry
+        requires { 0 < length self.now.entries }
+        ensures { IsLast result self.now.entries }
+    {
+        self.last
     }
 
     // Puts an entry at a place. There is room.
@@ -98,6 +109,7 @@ impl<A: Allocator> Block<A> {
         } else {
             let _filler = self.ring.push_out(place, entry);
         }
+        self.last = self.ring.at(self.len);
         self.len += 1;
     }
 
@@ -107,7 +119,9 @@ impl<A: Allocator> Block<A> {
         ensures entries { self.new.entries ++ result ∷ [] ≡ entry ∷ self.old.entries }
         ensures width { self.new.width ≡ self.old.width }
     {
-        self.ring.turn(entry)
+        let out = self.ring.turn(entry);
+        self.last = self.ring.at(self.ring.len() - 1);
+        out
     }
 
     // Puts an entry at a place, and takes the last out. The block is full.
@@ -117,7 +131,9 @@ impl<A: Allocator> Block<A> {
         ensures entries { self.new.entries ++ result ∷ [] ≡ insert self.old.entries place entry }
         ensures width { self.new.width ≡ self.old.width }
     {
-        self.ring.push_out(place, entry)
+        let out = self.ring.push_out(place, entry);
+        self.last = self.ring.at(self.ring.len() - 1);
+        out
     }
 }
 
@@ -130,6 +146,7 @@ impl<A: Allocator + Clone> Clone for Block<A> {
         Ok(Block {
             ring: self.ring.clone()?,
             len: self.len,
+            last: self.last,
         })
     }
 }

@@ -79,16 +79,18 @@ impl<A: Allocator> Ring<A> {
 
     // How many it has.
     pub(super) fn len(&self) -> usize
-        ensures { result ≡ length self.now }
+        ensures len { result ≡ length self.now }
+        ensures some { 0 < length self.now }
     {
         self.slots.len()
     }
 
-    // The entry of a rank, whose place is its remainder by the width.
-    pub(super) fn at(&self, rank: usize) -> Entry
-        ensures { result ≡ slice_index_or self.now (rank % length self.now) result }
+    // The entry of a place.
+    pub(super) fn at(&self, place: usize) -> Entry
+        requires { place < length self.now }
+        ensures { result ≡ slice_index_or self.now place result }
     {
-        self.slots[remainder(self.first, rank, self.slots.len())]
+        self.slots[remainder(self.first, place, self.slots.len())]
     }
 
     // Puts an entry at a place, for the one that stands there.

@@ -57,7 +57,7 @@ impl Width {
 
     // How many entries it is.
     #[inline]
-    pub(super) fn get(&self) -> usize
+    pub(in crate::string_interner) fn get(&self) -> usize
         ensures value { result ≡ self.now }
         ensures width { IsWidth result }
     {

@@ -1,47 +1,111 @@
-use Rattle.std.proofs.Common.{◌≡◌, ◌+◌, length, ap, subst, arith}
-use Rattle.std.proofs.lemmas.List.{length-map}
+use Rattle.std.proofs.Common.{◌≡◌, ◌<◌, ◌≤◌, ◌+◌, ◌-◌, ◌*◌, ◌/◌, ◌∙◌, ap, arith, length, slice_get, subst, sym}
+use Rattle.std.proofs.lemmas.Result.{IfErr-weaker}
 use Rattle.wasmi_collections.specs.BinaryDigits.{digits}
 use Rattle.wasmi_collections.specs.Search.{IsNarrowed}
-use Rattle.wasmi_collections.specs.TextIndex.{symbols_of, texts_of, orders_with}
-use Rattle.wasmi_collections.proofs.BinaryDigits.{digits_least, digits_le}
-use Rattle.wasmi_collections.proofs.Search.{not_narrowed, none_left}
-use Rattle.wasmi_collections.proofs.TextIndex.{IsSearchable-texts, length-orders, length-symbols}
+use Rattle.wasmi_collections.specs.TextIndex.{order_of}
+use Rattle.wasmi_collections.proofs.BinaryDigits.{digits_le, digits_least, few_in_rows, many_in_rows}
+use Rattle.wasmi_collections.proofs.IndexBlocks.{full_blocks, reaches, width_most, width_pos}
+use Rattle.wasmi_collections.proofs.Search.{not_narrowed, tops_in_order}
+use Rattle.wasmi_collections.proofs.TextIndex.{entries_in_order, entry_of_rank, length-entries, part_entries, part_orders, part_ranked}
 use Rattle.wasmi_collections.proofs.string_interner.find.find_rank.Goals as goal
 
-pub search_rest-found-requires-clause-in_order : goal.search_rest-found-requires-clause-in_order
-search_rest-found-requires-clause-in_order g c = IsSearchable-texts c.args.sought.now.text.now _ c.requires.indexed.index.ascending
+-- ---- there is no full block
 
-pub search_rest-found-requires-clause-rest : goal.search_rest-found-requires-clause-rest
-search_rest-found-requires-clause-rest g c =
-    let texts = c.args.sought.now.texts.now in let symbols = symbols_of c.args.index.now.entries in
-    let orders = orders_with c.args.sought.now.text.now (texts_of texts symbols) in
-    let whole : length orders ≡ 0 + c.len.result =
-    omega (arith, c.len.ensures, length-orders c.args.sought.now.text.now texts symbols, length-symbols texts symbols c.requires.indexed.index) in
-    subst (IsNarrowed orders 0) whole (not_narrowed orders)
+pub returns-then-len-eq0-clause-many_steps : goal.returns-then-len-eq0-clause-many_steps
+returns-then-len-eq0-clause-many_steps g c =
+    omega (arith, digits_least (length c.args.sought.now.texts.now + 1) 1 (omega (arith, c.len-len.ensures, c.if-len-eq0.true)))
 
-pub search_rest-found-requires-clause-readable : goal.search_rest-found-requires-clause-readable
-search_rest-found-requires-clause-readable g c = λ place from before.
-    let texts = c.args.sought.now.texts.now in let entries = c.args.index.now.entries in
-    omega (arith, before, c.len.ensures, length-symbols texts (symbols_of entries) c.requires.indexed.index, length-map entries (λ e. e.symbol))
+pub block-requires : goal.block-requires
+block-requires g c =
+    omega (arith, length-entries c.args.sought.now.text.now _ c.args.index.now.entries c.requires.indexed, c.len-len.ensures, c.if-len-eq0.false)
 
-pub returns-then-rest-eq0-clause-found : goal.returns-then-rest-eq0-clause-found
-returns-then-rest-eq0-clause-found g c = none_left _ c.in-Err.rest.low c.in-Err.rest.len c.in-Err.ensures.left c.if-rest-eq0.true
+pub find_among-requires-clause-within : goal.find_among-requires-clause-within
+find_among-requires-clause-within g c =
+    let entries = c.args.index.now.entries in let w = c.args.index.now.width in let len = c.len-len.result in
+    let long = length-entries c.args.sought.now.text.now _ entries c.requires.indexed in
+    let all : 0 * w + len ≤ length entries = omega (arith, long, c.len-len.ensures) in
+    let one : len < w = omega (arith, (full_blocks w len 0 c.width.ensures.width (sym c.if-full-eq0.true ∙ (c.block_of-full.ensures ∙ ap (λ k. len / k) c.width.ensures.value))).1) in
+    reaches c.block.result.now.entries entries (0 * w) len (λ i below. c.block.ensures.entries i (omega (arith, below, one))) all
 
-pub returns-then-rest-eq0-clause-many_steps : goal.returns-then-rest-eq0-clause-many_steps
-returns-then-rest-eq0-clause-many_steps g c =
-    let same : digits (c.len.result + 1) ≡ digits (length c.args.sought.now.texts.now + 1) =
-    ap (λ n. digits (n + 1)) (let all : c.len.result ≡ length c.args.sought.now.texts.now = omega (arith, c.len.ensures) in all) in
-    omega (arith, c.in-Err.ensures.many_looks, c.replace.ensures.value, same, digits_least (c.in-Err.rest.len + 1) 1 (omega (arith, c.if-rest-eq0.true)))
+pub find_among-requires-clause-entries : goal.find_among-requires-clause-entries
+find_among-requires-clause-entries g c =
+    let entries = c.args.index.now.entries in let texts = c.args.sought.now.texts.now in let w = c.args.index.now.width in let len = c.len-len.result in
+    let long = length-entries c.args.sought.now.text.now texts entries c.requires.indexed in
+    let all : 0 * w + len ≤ length entries = omega (arith, long, c.len-len.ensures) in
+    let one : len < w = omega (arith, (full_blocks w len 0 c.width.ensures.width (sym c.if-full-eq0.true ∙ (c.block_of-full.ensures ∙ ap (λ k. len / k) c.width.ensures.value))).1) in
+    part_entries c.args.sought.now.text.now texts entries (0 * w) len (slice_get c.block.result.now.entries) (λ i below. c.block.ensures.entries i (omega (arith, below, one))) all c.requires.indexed.each
 
-pub find_in_block-requires-clause-fits : goal.find_in_block-requires-clause-fits
-find_in_block-requires-clause-fits g c =
-    let texts = c.args.sought.now.texts.now in let symbols = symbols_of c.args.index.now.entries in
-    omega (arith, c.in-Err.ensures.left.within, c.len.ensures, c.len.type_inv, length-orders c.args.sought.now.text.now texts symbols, length-symbols texts symbols c.requires.indexed.index)
+pub find_among-requires-clause-in_order : goal.find_among-requires-clause-in_order
+find_among-requires-clause-in_order g c =
+    let entries = c.args.index.now.entries in let texts = c.args.sought.now.texts.now in let w = c.args.index.now.width in let len = c.len-len.result in
+    let long = length-entries c.args.sought.now.text.now texts entries c.requires.indexed in
+    let all : 0 * w + len ≤ length entries = omega (arith, long, c.len-len.ensures) in
+    let one : len < w = omega (arith, (full_blocks w len 0 c.width.ensures.width (sym c.if-full-eq0.true ∙ (c.block_of-full.ensures ∙ ap (λ k. len / k) c.width.ensures.value))).1) in
+    part_orders c.args.sought.now.text.now texts entries (0 * w) len (slice_get c.block.result.now.entries) (λ i below. c.block.ensures.entries i (omega (arith, below, one))) all c.requires.indexed
 
-pub find_in_block-requires-clause-countable : goal.find_in_block-requires-clause-countable
-find_in_block-requires-clause-countable g c =
-    omega (arith, c.in-Err.ensures.few_looks, c.replace.ensures.value, c.requires.countable, digits_le c.len.result)
+pub returns-then-full-eq0-clause-absent : goal.returns-then-full-eq0-clause-absent
+returns-then-full-eq0-clause-absent g c =
+    let entries = c.args.index.now.entries in let texts = c.args.sought.now.texts.now in let text = c.args.sought.now.text.now in let w = c.args.index.now.width in let len = c.len-len.result in
+    let long = length-entries text texts entries c.requires.indexed in
+    let all : 0 * w + len ≤ length entries = omega (arith, long, c.len-len.ensures) in
+    let one : len < w = omega (arith, (full_blocks w len 0 c.width.ensures.width (sym c.if-full-eq0.true ∙ (c.block_of-full.ensures ∙ ap (λ k. len / k) c.width.ensures.value))).1) in
+    IfErr-weaker c.find_among.result _ _ (λ place there.
+    subst (λ rank. IsNarrowed (λ other. order_of text texts (slice_get entries other)) (length entries) rank rank)
+    (let same : 0 * w + place ≡ place = omega arith in same)
+    (part_ranked text texts entries (0 * w) len (slice_get c.block.result.now.entries) (λ i below. c.block.ensures.entries i (omega (arith, below, one))) all c.requires.indexed place
+    (not_narrowed _ (length entries) (0 * w) (0 * w + len) (omega arith) (omega (arith, long, c.len-len.ensures))) there)) c.find_among.ensures.absent
 
-pub returns-else-rest-eq0-clause-some_steps : goal.returns-else-rest-eq0-clause-some_steps
-returns-else-rest-eq0-clause-some_steps g c some =
-    omega (arith, c.in-Err.ensures.more_looks, c.replace.ensures.value, c.find_in_block.ensures.some_steps)
+-- ---- there are full blocks
+
+pub find_among-requires-2-clause-within : goal.find_among-requires-2-clause-within
+find_among-requires-2-clause-within g c =
+    let entries = c.args.index.now.entries in let w = c.args.index.now.width in
+    let long : c.len-len.result ≡ length entries = omega (arith, length-entries c.args.sought.now.text.now _ entries c.requires.indexed, c.len-len.ensures) in
+    let full : c.block_of-full.result ≡ length entries / w = c.block_of-full.ensures ∙ (ap (λ k. c.len-len.result / k) c.width.ensures.value ∙ ap (λ n. n / w) long) in
+    omega (arith, full)
+
+pub find_among-requires-2-clause-entries : goal.find_among-requires-2-clause-entries
+find_among-requires-2-clause-entries g c = λ place entry below at.
+    let w = c.args.index.now.width in
+    entry_of_rank c.args.sought.now.text.now c.args.sought.now.texts.now c.args.index.now.entries c.requires.indexed.each (place * w + (w - 1)) entry at
+
+pub find_among-requires-2-clause-in_order : goal.find_among-requires-2-clause-in_order
+find_among-requires-2-clause-in_order g c =
+    let entries = c.args.index.now.entries in let texts = c.args.sought.now.texts.now in let text = c.args.sought.now.text.now in let w = c.args.index.now.width in
+    let long : c.len-len.result ≡ length entries = omega (arith, length-entries text texts entries c.requires.indexed, c.len-len.ensures) in
+    let full : c.block_of-full.result ≡ length entries / w = c.block_of-full.ensures ∙ (ap (λ k. c.len-len.result / k) c.width.ensures.value ∙ ap (λ n. n / w) long) in
+    tops_in_order (λ rank. order_of text texts (slice_get entries rank)) (length entries) (entries_in_order text texts entries c.requires.indexed) w c.block_of-full.result
+    (width_pos w c.width.ensures.width) (full_blocks w (length entries) c.block_of-full.result c.width.ensures.width full).0
+
+pub find_others-requires-clause-full : goal.find_others-requires-clause-full
+find_others-requires-clause-full g c =
+    let entries = c.args.index.now.entries in let w = c.args.index.now.width in
+    let long : c.len-len.result ≡ length entries = omega (arith, length-entries c.args.sought.now.text.now _ entries c.requires.indexed, c.len-len.ensures) in
+    c.block_of-full.ensures ∙ (ap (λ k. c.len-len.result / k) c.width.ensures.value ∙ ap (λ n. n / w) long)
+
+pub find_others-requires-clause-countable : goal.find_others-requires-clause-countable
+find_others-requires-clause-countable g c =
+    omega (arith, c.in-Err.ensures.few_steps, digits_le c.block_of-full.result, c.requires.countable)
+
+pub returns-in-Ok-clause-few_steps : goal.returns-in-Ok-clause-few_steps
+returns-in-Ok-clause-few_steps g c =
+    let w = c.args.index.now.width in let len = c.len-len.result in let full = c.block_of-full.result in let is = c.width.ensures.width in
+    let rows = full_blocks w len full is (c.block_of-full.ensures ∙ ap (λ k. len / k) c.width.ensures.value) in
+    let same = ap digits (let all : len ≡ length c.args.sought.now.texts.now = omega (arith, c.len-len.ensures) in all) in
+    omega (arith, c.in-Ok.ensures.few_steps, few_in_rows is.0 w full len is.2 (omega (arith, c.if-full-eq0.false)) rows.0 c.len-len.type_inv, same)
+
+pub returns-in-Err-clause-few_steps : goal.returns-in-Err-clause-few_steps
+returns-in-Err-clause-few_steps g c =
+    let w = c.args.index.now.width in let len = c.len-len.result in let full = c.block_of-full.result in let is = c.width.ensures.width in
+    let rows = full_blocks w len full is (c.block_of-full.ensures ∙ ap (λ k. len / k) c.width.ensures.value) in
+    let same = ap digits (let all : len ≡ length c.args.sought.now.texts.now = omega (arith, c.len-len.ensures) in all) in
+    omega (arith, c.in-Err.ensures.few_steps, c.find_others.ensures.few_steps, few_in_rows is.0 w full len is.2 (omega (arith, c.if-full-eq0.false)) rows.0 c.len-len.type_inv, same)
+
+pub returns-in-Err-clause-many_steps : goal.returns-in-Err-clause-many_steps
+returns-in-Err-clause-many_steps g c =
+    let w = c.args.index.now.width in let len = c.len-len.result in let full = c.block_of-full.result in let is = c.width.ensures.width in
+    let rows = full_blocks w len full is (c.block_of-full.ensures ∙ ap (λ k. len / k) c.width.ensures.value) in
+    let same : len ≡ length c.args.sought.now.texts.now = omega (arith, c.len-len.ensures) in
+    let more : len + 1 ≤ full * w + w = omega (arith, rows.1) in
+    let many = many_in_rows is.0 w full (len + 1) is.2 (omega (arith, width_most w is)) more in
+    IfErr-weaker c.find_others.result _ _ (λ rank steps. omega (arith, steps, c.in-Err.ensures.many_steps, many, ap (λ n. digits (n + 1)) same)) c.find_others.ensures.many_steps

@@ -1,41 +1,30 @@
-use Rattle.std.proofs.Common.{◌≡◌, ◌<◌, ◌/◌, ◌%◌, ◌∙◌, ap, refl, sym, subst, arith, get_or, Some, slice_get, length, vec_items}
-use Rattle.std.proofs.lemmas.Nat.{mod_below}
-use Rattle.std.proofs.lemmas.Option.{slice_get-get_or}
-use Rattle.wasmi_collections.specs.IndexBlocks.{entries_in}
+use Rattle.std.proofs.Common.{◌<◌, ◌+◌, ◌*◌, ◌∙◌, ap, sym, subst, arith, slice_get, length, vec_items}
+use Rattle.wasmi_collections.specs.IndexBlocks.{IsWidth}
 use Rattle.wasmi_collections.specs.TextIndex.{Ranked}
-use Rattle.wasmi_collections.specs.declared.string_interner.entry.Entry.{Entry}
-use Rattle.wasmi_collections.proofs.IndexBlocks.{as_wide, divided, placed, width_pos}
+use Rattle.wasmi_collections.proofs.IndexBlocks.{block_at, block_small, placed, width_pos}
 use Rattle.wasmi_collections.proofs.string_interner.index.Index.block.Goals as goal
 
 pub index-requires : goal.index-requires
 index-requires g c =
-    let blocks = vec_items c.self.inside.blocks in let rank = c.args.rank in let w = c.self.inside.width in
-    let below = subst (λ (s : Ranked). rank < length s.entries) (sym c.self.view_is) c.requires in
-    let at = divided w rank (rank / w) (rank % w) refl refl in
-    let there = (placed w blocks (rank / w) (rank % w) rank c.self.invariant.2 (mod_below rank w (width_pos w c.self.invariant.0)) at below).0 in
-    omega (arith, there, c.block_of.ensures, c.self.inside.blocks.ok)
+    let blocks = vec_items c.self.inside.blocks in let number = c.args.number in let w = c.self.inside.width in
+    let below = subst (λ (s : Ranked). number * s.width < length s.entries) (sym c.self.view_is) c.requires in
+    omega (arith, (placed w blocks number 0 (number * w) c.self.invariant.2 (width_pos w c.self.invariant.0) (omega arith) below).0, c.self.inside.blocks.ok)
 
 pub returns-clause-width : goal.returns-clause-width
-returns-clause-width g c =
-    let blocks = vec_items c.self.inside.blocks in let rank = c.args.rank in let w = c.self.inside.width in
-    let below = subst (λ (s : Ranked). rank < length s.entries) (sym c.self.view_is) c.requires in
-    let at = divided w rank (rank / w) (rank % w) refl refl in
-    let there = (placed w blocks (rank / w) (rank % w) rank c.self.invariant.2 (mod_below rank w (width_pos w c.self.invariant.0)) at below).0 in
-    ap (λ b. b.width) c.index.ensures
-    ∙ (as_wide w blocks c.block_of.result c.index.result.now c.self.invariant.2 (omega (arith, there, c.block_of.ensures))
-    ∙ ap (λ (s : Ranked). s.width) c.self.view_is)
+returns-clause-width g c = subst (λ (s : Ranked). IsWidth s.width) c.self.view_is c.self.invariant.0
+
+pub returns-clause-most : goal.returns-clause-most
+returns-clause-most g c =
+    let blocks = vec_items c.self.inside.blocks in let number = c.args.number in let w = c.self.inside.width in
+    let below = subst (λ (s : Ranked). number * s.width < length s.entries) (sym c.self.view_is) c.requires in
+    let there = (placed w blocks number 0 (number * w) c.self.invariant.2 (width_pos w c.self.invariant.0) (omega arith) below).0 in
+    omega (arith, ap (λ b. length b.entries) c.index.ensures, block_small w blocks number c.index.result.now c.self.invariant.2 there, ap (λ (s : Ranked). s.width) c.self.view_is)
 
 pub returns-clause-entries : goal.returns-clause-entries
-returns-clause-entries g c other same within =
-    let blocks = vec_items c.self.inside.blocks in let block = c.index.result.now in let w = c.self.inside.width in
-    let any : Entry = record { head = 0; tail = 0; symbol = 0 } in
-    let below = subst (λ (s : Ranked). other < length s.entries) (sym c.self.view_is) within in
-    let at = divided w other (other / w) (other % w) refl refl in
-    let wide : c.args.self.now.width ≡ w = ap (λ (s : Ranked). s.width) (sym c.self.view_is) in
-    let here : get_or blocks (other / w) block ≡ block = ap (λ b. get_or blocks b block) (rw wide at same ∙ sym c.block_of.ensures) ∙ sym c.index.ensures in
-    let there = rw here at ((placed w blocks (other / w) (other % w) other c.self.invariant.2 (mod_below other w (width_pos w c.self.invariant.0)) at below).1 block) in
-    ap (λ k. slice_get block.entries (other % k)) wide
-    ∙ (slice_get-get_or block.entries (other % w) any there.0
-    ∙ (ap Some (sym (there.1 any))
-    ∙ (sym (slice_get-get_or (entries_in blocks) other any below)
-    ∙ ap (λ (s : Ranked). slice_get s.entries other) c.self.view_is)))
+returns-clause-entries g c = λ place small.
+    let blocks = vec_items c.self.inside.blocks in let number = c.args.number in let w = c.self.inside.width in
+    let below = subst (λ (s : Ranked). number * s.width < length s.entries) (sym c.self.view_is) c.requires in
+    let there = (placed w blocks number 0 (number * w) c.self.invariant.2 (width_pos w c.self.invariant.0) (omega arith) below).0 in
+    ap (λ b. slice_get b.entries place) c.index.ensures
+    ∙ (block_at w blocks number place c.index.result.now c.self.invariant.2 there (subst (λ (s : Ranked). place < s.width) (sym c.self.view_is) small)
+    ∙ ap (λ (s : Ranked). slice_get s.entries (number * s.width + place)) c.self.view_is)

@@ -11,8 +11,8 @@ pub returns : goal.returns
 returns g c =
     let ring = c.self.inside.ring in let len = c.self.inside.len in let place = c.args.place in let entry = c.args.entry in
     let seen = c.self.view_is in
-    let room : len < length ring = omega (arith, c.requires.free, ap (λ (b : BlockState). b.width) seen, ap (λ (b : BlockState). length b.entries) seen, length-take-le len ring c.self.invariant) in
-    let within : place ≤ len = omega (arith, c.requires.within, ap (λ (b : BlockState). length b.entries) seen, length-take-le len ring c.self.invariant) in
+    let room : len < length ring = omega (arith, c.requires.free, ap (λ (b : BlockState). b.width) seen, ap (λ (b : BlockState). length b.entries) seen, length-take-le len ring c.self.invariant.0) in
+    let within : place ≤ len = omega (arith, c.requires.within, ap (λ (b : BlockState). length b.entries) seen, length-take-le len ring c.self.invariant.0) in
     elim c.if-place-self.branch [
       | then-place-self w ↦
           (let now = w.set.new.self in

@@ -1,18 +1,13 @@
-use Rattle.std.proofs.Common.{◌≡◌, ◌%◌, ◌+◌, ◌<◌, ◌∙◌, ap, arith, length, sym, slice_index_or, vec_items}
-use Rattle.std.proofs.Math.Nat.{add-mod-mod}
-use Rattle.std.proofs.lemmas.Nat.{mod_below}
-use Rattle.wasmi_collections.specs.IndexBlocks.{from_first}
+use Rattle.std.proofs.Common.{◌≡◌, ◌%◌, ◌+◌, ◌<◌, ◌∙◌, ap, arith, length, slice_index_or, vec_items}
 use Rattle.wasmi_collections.proofs.IndexRing.{length-from_first, read_at}
 use Rattle.wasmi_collections.proofs.string_interner.index.ring.Ring.at.Goals as goal
 
 pub returns : goal.returns
 returns g c =
-    let ring = vec_items c.self.inside.slots in let first = c.self.inside.first in let rank = c.args.rank in let entry = c.index.result.now in
-    let some : 0 < length ring = omega (arith, c.self.invariant.within) in
+    let ring = vec_items c.self.inside.slots in let first = c.self.inside.first in let place = c.args.place in let entry = c.index.result.now in
     let long : c.len.result ≡ length ring = omega (arith, c.len.ensures, c.self.inside.slots.ok) in
-    let seen : length (from_first ring first) ≡ length c.args.self.now = ap length c.self.view_is in
+    let within : place < length ring = omega (arith, c.requires, ap length c.self.view_is, length-from_first ring first) in
     c.index.ensures
-    ∙ (ap (λ k. slice_index_or ring k entry) (c.remainder.ensures ∙ (ap (λ k. (first + rank) % k) long ∙ sym (add-mod-mod first rank (length ring))))
-    ∙ (read_at ring first (rank % length ring) entry c.self.invariant.within (mod_below rank (length ring) some)
-    ∙ (ap (λ k. slice_index_or (from_first ring first) (rank % k) entry) (sym (length-from_first ring first) ∙ seen)
-    ∙ ap (λ ys. slice_index_or ys (rank % length c.args.self.now) entry) c.self.view_is)))
+    ∙ (ap (λ k. slice_index_or ring k entry) (c.remainder.ensures ∙ ap (λ k. (first + place) % k) long)
+    ∙ (read_at ring first place entry c.self.invariant.within within
+    ∙ ap (λ ys. slice_index_or ys place entry) c.self.view_is))
