@@ -179,5 +179,5 @@ pub const ROWS: &[Row] = &[
     names("Hashed `Map` get by text, random", Round::Reads, ours::wasmi_bench_hashed_map_get_str, map_get_str::<PlainTableNames>, map_get_str::<PlainTableNames>),
     Row { most: 1 << 20, ..names("`StringInterner` intern, new names", Round::Reads, ours::wasmi_bench_intern_new, intern_new::<RustInterner>, intern_new::<PlainInterner>) },
     Row { most: 1 << 20, ..names("`StringInterner` intern, names that are there", Round::Reads, ours::wasmi_bench_intern_again, intern_again::<RustInterner>, intern_again::<PlainInterner>) },
-    names("`StringInterner` resolve, random", Round::Reads, ours::wasmi_bench_resolve, resolve::<RustInterner>, resolve::<PlainInterner>),
+    Row { operations: 1 << 24, ..names("`StringInterner` resolve, random", Round::Reads, ours::wasmi_bench_resolve, resolve::<RustInterner>, resolve::<PlainInterner>) },
 ];
