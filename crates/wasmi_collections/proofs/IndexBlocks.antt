@@ -4,7 +4,7 @@ use Rattle.std.specs.List.{All, flat_map, insert}
 use Rattle.std.proofs.lemmas.Bool.{cases_lt}
 use Rattle.std.proofs.Math.Nat.{suc-mul}
 use Rattle.std.proofs.Math.Pow.{pow_mono}
-use Rattle.std.proofs.lemmas.Nat.{div-add-mod', mod_below, pow-add, pow_pos}
+use Rattle.std.proofs.lemmas.Nat.{div-add-mod', mod_below, pow-add, pow_pos, row_fits}
 use Rattle.std.proofs.lemmas.Option.{slice_get-get_or, slice_get_past, slice_get_within}
 use Rattle.std.proofs.lemmas.List.{append_assoc, append-nil, length-append, length-set, get_or_append_left, get_or-append_right, take_more}
 use Rattle.std.proofs.lemmas.List.Edits.{insert-append_left, insert-append_right, length-insert}
@@ -30,6 +30,10 @@ pub full_blocks : (w n b : ℕ) → IsWidth w → b ≡ n / w → (b * w ≤ n) 
 full_blocks w n b is blocks =
     let at = divided w n b (n % w) blocks refl in
     (omega (arith, at), omega (arith, at, mod_below n w (width_pos w is)))
+
+-- each of them lies within the entries
+pub full_within : (w n b number : ℕ) → IsWidth w → b ≡ n / w → number < b → number * w + w ≤ n
+full_within w n b number is blocks below = omega (arith, row_fits number w b w below (omega arith), (full_blocks w n b is blocks).0)
 
 -- the block and the place of a rank
 pub placed : (w : ℕ) (blocks : List BlockState) (b p rank : ℕ) → IsBlocks w blocks → p < w → rank ≡ b * w + p → rank < length (entries_in blocks)

@@ -4,6 +4,7 @@ use Rattle.std.specs.List.{All, range_with_len}
 use Rattle.std.specs.List.Sorted.{IsStrictlySortedBy}
 use Rattle.std.specs.declared.cmp.Ordering.{Ordering}
 use Rattle.wasmi_collections.specs.LenOrder.{len_cmp}
+use Rattle.wasmi_collections.specs.Search.{IsNarrowed}
 use Rattle.wasmi_collections.specs.TextKey.{IsKeyOf}
 use Rattle.wasmi_collections.specs.declared.string_interner.entry.Entry.{Entry}
 
@@ -44,6 +45,10 @@ HasKey head tail there = (entry : Entry) × (there ≡ Some entry) × (entry.hea
 -- how the text of an entry compares with another
 abbrev pub order_of : List ℕ → List (List ℕ) → Option Entry → Option Ordering
 order_of text texts entry = option_map (λ e. len_cmp (slice_index_or texts e.symbol []) text) entry
+
+-- of so many places, each with its entry, those before one have lesser texts, and those from it on greater ones
+abbrev pub BelongsAt : List ℕ → List (List ℕ) → (ℕ → Option Entry) → ℕ → ℕ → Type 0
+BelongsAt text texts entry count place = IsNarrowed (λ other. order_of text texts (entry other)) count place place
 
 -- how each of these texts compares with another
 abbrev pub orders_with : List ℕ → List (List ℕ) → List Ordering

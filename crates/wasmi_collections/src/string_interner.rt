@@ -212,7 +212,7 @@ impl<A: Allocator> StringInterner<A> {
         self.get_counted(text, &mut Steps::new())
     }
 
-    /// As [`get`](StringInterner::get), at the same cost, and counts the texts that it compares.
+    /// As [`get`](StringInterner::get), at the same cost, and counts its comparisons.
     ///
     /// The counter isn't above 2^63.
     pub fn get_counted(&self, text: &str, steps: &mut Steps) -> Option<Sym>

@@ -117,7 +117,7 @@ fn refused_blocks_of_the_index_are_joined_later(rt: HostRuntime) {
 fn blocks_of_the_index_widen_in_turn(rt: HostRuntime) {
     for (texts, asked, held) in [
         (16, (2, 1024, 0), 4),
-        (512, (2, 24_576, 1), 5),
+        (256, (2, 12_288, 1), 5),
         (16_384, (20, 805_888, 18), 20),
         (65_536, (36, 3_184_640, 34), 36),
     ] {

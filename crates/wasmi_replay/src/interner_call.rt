@@ -11,7 +11,7 @@ pub enum InternerCall<'a> {
     Clear,
     Contains(&'a str),
     Get(&'a str),
-    /// The same, with the texts that it compares counted.
+    /// The same, with its comparisons counted.
     GetCounted(&'a str),
     GetOrIntern(&'a str),
     GetOrInternWithHint(InternHint, &'a str),

@@ -37,7 +37,7 @@ impl Choice {
     pub(super) fn select_u64(&self, one: u64, other: u64) -> u64
         ensures { result ≡ cond self.now one other }
     {
-        other ^ ((one ^ other) & self.mask)
+        (one & self.mask) | (other & !self.mask)
     }
 
     // The same of two `usize`.

@@ -13,7 +13,7 @@ pub(super) struct Entry {
 }
 
 impl Entry {
-    // A symbol beside a key.
+    // A symbol beside the key of a text.
     pub(super) fn new(key: Key, symbol: Sym) -> Entry
         requires { key.tail < 2 ^ 32 }
         ensures head { result.head ≡ key.head }

@@ -3,8 +3,8 @@ ghost use Rattle.std.specs.Prelude.{◌≡◌, ℕ, ◌+◌, ◌-◌, ◌*◌, �
 ghost use Rattle.std.specs.List.{insert};
 ghost use Rattle.wasmi_collections.specs.BinaryDigits.{digits};
 ghost use Rattle.wasmi_collections.specs.Interner.{symbol_of, AreDistinctTexts};
-ghost use Rattle.wasmi_collections.specs.Search.{IsInOrder, IsNarrowed, IsSide};
-ghost use Rattle.wasmi_collections.specs.TextIndex.{AreEntriesOf, HasKey, IsEntryOf, order_of};
+ghost use Rattle.wasmi_collections.specs.Search.{IsInOrder, IsSide};
+ghost use Rattle.wasmi_collections.specs.TextIndex.{AreEntriesOf, BelongsAt, HasKey, IsEntryOf, order_of};
 ghost use Rattle.wasmi_collections.specs.TextKey.{IsKeyOf};
 ghost use Rattle.wasmi_collections.specs.declared.string_interner.entry.Entry.{Entry};
 
@@ -39,8 +39,8 @@ pub(super) fn find<A: Allocator>(
     find_rank(index, sought, steps)
 }
 
-// As `find`, of texts that needn't be distinct. The last entries of the full blocks are searched first, and then the
-// others of one block.
+// As `find`, told by the entries. The last entries of the full blocks are searched first, and then what
+// `find_others` searches. Where no block is full, there is one, which is searched whole.
 fn find_rank<A: Allocator>(
     index: &Index<A>,
     sought: &Sought<'_, A>,
@@ -49,8 +49,7 @@ fn find_rank<A: Allocator>(
     requires indexed { AreEntriesOf sought.now.texts.now index.now.entries }
     requires countable { steps.old ≤ 2 ^ 63 }
     ensures there { IfOk result (λ symbol. slice_get sought.now.texts.now symbol ≡ Some sought.now.text.now) }
-    ensures absent { IfErr result (λ rank. IsNarrowed (λ other. order_of sought.now.text.now sought.now.texts.now (slice_get index.now.entries other))
-        (length index.now.entries) rank rank) }
+    ensures absent { IfErr result (λ rank. BelongsAt sought.now.text.now sought.now.texts.now (slice_get index.now.entries) (length index.now.entries) rank) }
     ensures few_steps { steps.new ≤ steps.old + digits (length sought.now.texts.now) }
     ensures some_steps { 0 < length sought.now.texts.now → steps.old < steps.new }
     ensures many_steps { IfErr result (λ _. steps.old + digits (length sought.now.texts.now + 1) ≤ steps.new + 1) }
@@ -84,12 +83,11 @@ fn find_others<A: Allocator>(
     requires indexed { AreEntriesOf sought.now.texts.now index.now.entries }
     requires full { full ≡ length index.now.entries / index.now.width }
     requires some { 0 < full }
-    requires number { IsNarrowed (λ other. order_of sought.now.text.now sought.now.texts.now
-        (slice_get index.now.entries (other * index.now.width + (index.now.width - 1)))) full number number }
+    requires number { BelongsAt sought.now.text.now sought.now.texts.now
+        (λ other. slice_get index.now.entries (other * index.now.width + (index.now.width - 1))) full number }
     requires countable { steps.old ≤ 2 ^ 63 + 64 }
     ensures there { IfOk result (λ symbol. slice_get sought.now.texts.now symbol ≡ Some sought.now.text.now) }
-    ensures absent { IfErr result (λ rank. IsNarrowed (λ other. order_of sought.now.text.now sought.now.texts.now (slice_get index.now.entries other))
-        (length index.now.entries) rank rank) }
+    ensures absent { IfErr result (λ rank. BelongsAt sought.now.text.now sought.now.texts.now (slice_get index.now.entries) (length index.now.entries) rank) }
     ensures few_steps { steps.new ≤ steps.old + digits (index.now.width - 1) }
     ensures some_steps { steps.old < steps.new }
     ensures many_steps { IfErr result (λ _. steps.old + digits index.now.width ≤ steps.new + 1) }
@@ -114,8 +112,8 @@ fn find_others<A: Allocator>(
 // The symbol of a text that is searched among the entries of so many places, or as an error the place where it
 // belongs.
 //
-// The keys at both places are read at one of which the next look is, so that it waits for no memory. Called, it would
-// hand its answer on through memory too.
+// The keys at both places at one of which the next look is are read beside the comparison. Not inlined, it would hand
+// its answer on through memory.
 #[inline(always)]
 fn find_among<P: Places, A: Allocator>(
     places: &P,
@@ -129,7 +127,7 @@ fn find_among<P: Places, A: Allocator>(
     requires in_order { IsInOrder (λ place. order_of sought.now.text.now sought.now.texts.now (P.entry places.now place)) len }
     requires countable { steps.old ≤ 2 ^ 63 + 64 }
     ensures there { IfOk result (λ symbol. slice_get sought.now.texts.now symbol ≡ Some sought.now.text.now) }
-    ensures absent { IfErr result (λ place. IsNarrowed (λ other. order_of sought.now.text.now sought.now.texts.now (P.entry places.now other)) len place place) }
+    ensures absent { IfErr result (λ place. BelongsAt sought.now.text.now sought.now.texts.now (P.entry places.now) len place) }
     ensures few_steps { steps.new ≤ steps.old + digits len }
     ensures some_steps { steps.old < steps.new }
     ensures many_steps { IfErr result (λ _. steps.old + digits (len + 1) ≤ steps.new + 1) }

@@ -17,10 +17,10 @@ pub(super) use width::Width;
 
 // Entries by rank: a list into which an entry can be put at any place.
 //
-// They lie in blocks of one width, each a ring. All but the last are full, so a rank tells its block and its
-// place there. What a full block has too many goes on to the next, so an entry that is put in moves some of
-// one block, and one entry of each block behind it. Both are few: the width grows with the square root of
-// their number.
+// They lie in blocks of one width, each a ring. All but perhaps the last are full, so a rank tells its block and
+// its place there. What a full block has too many goes on to the next, so an entry that is put in moves some of
+// one block, and one entry of each block behind it. Both are few: the width of many blocks grows with the square
+// root of the number of entries.
 //
 // That there are blocks is known to the search alone.
 #[derive(Drop)]
@@ -30,7 +30,7 @@ pub(super) struct Index<A: Allocator> {
 }
 
 // A block that stands alone is widened up to this width.
-const ALONE: usize = 512;
+const ALONE: usize = 256;
 
 // Blocks are joined where they are a sixteenth of their width.
 const PART: usize = 16;
@@ -65,7 +65,7 @@ impl<A: Allocator> Index<A> {
         }
     }
 
-    // Takes all entries out.
+    // Takes all entries out. The next block has the least width again.
     pub(super) fn clear(&mut self)
         ensures { self.new.entries ≡ [] }
     {
@@ -110,7 +110,8 @@ impl<A: Allocator> Index<A> {
         self.block(number).last()
     }
 
-    // Makes room for one more entry. Where all blocks are full, they are widened, or one more is opened.
+    // Makes room for one more entry. Where all blocks are full, they are widened or joined, and one more is opened if
+    // they are full then.
     pub(super) fn reserve(&mut self) -> Result<(), ArenaError>
     where
         A: Clone,

@@ -16,8 +16,8 @@ const ONE: u64 = 1 << 56;
 // What a head of one adds to both parts as one number of two words.
 const HEAD: u128 = 1 << 64;
 
-// The length of a text and its first bytes, as one number in two parts. Where the keys of two texts differ,
-// they compare as the texts do.
+// The length of a text and its first bytes, as one number in two parts, or of a long text no bytes. Where the keys
+// of two texts differ, they compare as the texts do.
 #[derive(Copy, Clone)]
 pub(super) struct Key {
     // The length and seven bytes,
@@ -99,8 +99,8 @@ fn from_first(len: usize, first: &[u8; BYTES]) -> Key
     }
 }
 
-// The key of a text that has fewer bytes. Inlined, both kinds of texts would have their bytes read by the same code,
-// which reads no words.
+// The key of a text of fewer bytes than a key has. Inlined, it would share the code that reads bytes with other texts,
+// and that would read them one by one.
 #[inline(never)]
 fn of_short(bytes: &[u8]) -> Key
     requires { length bytes.now < 11 }

@@ -26,8 +26,9 @@ pub trait Probe {
 /// A binary search in a list of `len` items, without allocation.
 ///
 /// Returns the place of the item that is `Equal`, or as an error the place where it belongs: the number
-/// of items that are `Less`. It looks at most as often as `len` has binary digits, so at 10 items of
-/// 1000. Where nothing is `Equal` it looks at most once less often than `len + 1` has, so at 9 at least.
+/// of items that are `Less`. It looks at most as often as `len` has binary digits, so ten times at
+/// 1000 items. Where nothing is `Equal` it looks at most once less often than `len + 1` has, so nine times at
+/// least.
 pub fn search<P: Probe>(len: usize, probe: &mut P) -> Result<usize, usize>
     requires whole { len ≡ length (P.orders probe.old) }
     requires in_order { IsSearchable (P.orders probe.old) }
@@ -52,8 +53,8 @@ pub fn search<P: Probe>(len: usize, probe: &mut P) -> Result<usize, usize>
     Err(low)
 }
 
-// The greatest number that is less than another one, and one less than a power of two. A search that goes on with so
-// many places, whatever a look told, and then with half of them each time, looks as often whatever it sees.
+// The greatest number that is less than another one, and one less than a power of two. A search of so many places
+// leaves as many on both sides of each look, so that it looks at none twice, and as often wherever a text belongs.
 #[inline]
 pub(super) fn half_of(len: usize) -> usize
     requires { 0 < len }

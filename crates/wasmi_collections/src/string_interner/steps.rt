@@ -3,7 +3,7 @@ ghost use Rattle.std.specs.Prelude.{◌≡◌, ◌+◌, ◌-◌, ◌<◌, ◌^�
 
 use std::marker::Model;
 
-/// Counts the steps of searches: one for each text that is compared.
+/// Counts the steps of searches: one for each comparison with a text.
 #[derive(Debug, Drop)]
 pub struct Steps {
     count: u64,

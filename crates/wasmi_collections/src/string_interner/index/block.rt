@@ -15,7 +15,7 @@ use std::marker::Model;
 pub(in crate::string_interner) struct Block<A: Allocator> {
     ring: Ring<A>,
     len: usize,
-    // The last of them, so that a search finds the block of a text without the rings.
+    // The last of them, if there are any. Of full blocks a search reads these first, and no ring.
     last: Entry,
 }
 
