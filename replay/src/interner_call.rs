@@ -12,7 +12,7 @@ calls! {
         "clear" => Clear,
         "contains" => Contains(text: String),
         "get" => Get(text: String),
-        /// The same, with the texts that it compares counted.
+        /// The same, with its comparisons counted.
         "get_counted" => GetCounted(text: String),
         "get_or_intern" => GetOrIntern(text: String),
         "get_or_intern_with_hint" => GetOrInternWithHint(hint: InternHint, text: String),
