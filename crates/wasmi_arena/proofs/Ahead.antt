@@ -51,18 +51,7 @@ module _ {T : Type 0} where
           rw (nil_from_length back none, append-nil (front ++ joined parts)) (ap (λ (ps : List (List T)). front ++ joined ps) last ∙ (ap (λ (xs : List T). front ++ xs) (joined-append rest part ∙ ap (λ (xs : List T). joined rest ++ xs) at)
           ∙ (sym (append_assoc front (joined rest) (left ++ now x ∷ [])) ∙ sym (append_assoc (front ++ joined rest) left (now x ∷ [])))))
 
-  -- where no part is left, the other end is called
-  pub ends_yield : {B : Type 0} (now : B → T) (front back left : List T) (parts : List (List T)) (r : Option B) → length front ≡ 0 → parts ≡ [] → MatchOption r ((length back ≡ 0) × (length left ≡ 0)) (λ x. back ≡ now x ∷ left)
-      → YieldsFirstBy now (λ (xs : List T). xs) (front ++ joined parts ++ back) r (front ++ joined parts ++ left)
-  ends_yield now front back left parts None no_front no_parts ended = rw (nil_from_length front no_front, no_parts) (nil_from_length back ended.0, nil_from_length left ended.1)
-  ends_yield now front back left parts (Some x) no_front no_parts at = rw (nil_from_length front no_front, no_parts) at
-
-  pub ends_yield_last : {B : Type 0} (now : B → T) (front back left : List T) (parts : List (List T)) (r : Option B) → length back ≡ 0 → parts ≡ [] → MatchOption r ((length front ≡ 0) × (length left ≡ 0)) (λ x. front ≡ left ++ now x ∷ [])
-      → YieldsLastBy now (λ (xs : List T). xs) (front ++ joined parts ++ back) r (left ++ joined parts ++ back)
-  ends_yield_last now front back left parts None no_back no_parts ended = rw (nil_from_length back no_back, no_parts) (simp append-nil (nil_from_length front ended.0, nil_from_length left ended.1))
-  ends_yield_last now front back left parts (Some x) no_back no_parts at = rw (nil_from_length back no_back, no_parts) (simp append-nil at)
-
-  -- and where something is left of the first or of the last part, that is called
+  -- where something is left of the first or of the last part, that is called
   pub front_yields : {front left : List T} {x : T} (middle back : List T) → front ≡ x ∷ left → front ++ middle ++ back ≡ x ∷ (left ++ middle ++ back)
   front_yields middle back at = ap (λ (xs : List T). xs ++ middle ++ back) at
 

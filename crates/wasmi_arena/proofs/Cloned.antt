@@ -1,5 +1,5 @@
 -- Facts on a vector that is cloned bucket by bucket.
-use Rattle.std.proofs.Common.{◌≡◌, ℕ, ◌+◌, ◌^◌, ◌<◌, ◌≤◌, List, [], ◌∷◌, ◌++◌, length, drop, min, refl, sym, ◌∙◌, ap, subst, add-one, arith, length-append, length-drop, append-nil, append_assoc}
+use Rattle.std.proofs.Common.{◌≡◌, ℕ, ◌+◌, ◌^◌, ◌<◌, ◌≤◌, List, [], ◌∷◌, ◌++◌, length, drop, min, refl, sym, ◌∙◌, ap, subst, add-one, arith, length-append, length-drop, append_assoc}
 use Rattle.std.proofs.Math.Nat.{le_of_lt}
 use Rattle.std.proofs.Math.Seq.{drop-append_seam}
 use Rattle.std.proofs.lemmas.List.{length-take, take-append-drop}
@@ -31,9 +31,6 @@ module _ {T : Type 0} (is_clone : T → T → Type 0) where
 
   pub cloned_none : (items : List T) → length items ≤ max_len → IsCloned items (filled_parts items) []
   cloned_none items few = record { first = []; rest = items; whole = refl; few = few; clones = tt; next = 0; parts_are = AreParts-filled_parts items few; full = λ some. refl }
-
-  pub cloned_all : (items made : List T) → IsCloned items [] made → AllZip is_clone items made
-  cloned_all items made so_far = rw (so_far.whole, so_far.parts_are, append-nil so_far.first) so_far.clones
 
 -- another part comes
 module _ {T : Type 0} {is_clone : T → T → Type 0} {items part made : List T} {parts left : List (List T)} (so_far : IsCloned is_clone items parts made) (came : parts ≡ part ∷ left) where

@@ -41,10 +41,6 @@ module _ {T : Type 0} where
   like-own None = tt
   like-own (Some bucket) = (refl, refl)
 
-  pub like-item : (bucket : Option (Bucket T)) (slot : ℕ) (item : T) → AreLike bucket (with_item bucket slot item)
-  like-item None slot item = tt
-  like-item (Some bucket) slot item = (length-set bucket.items slot item, refl)
-
   pub like-items : (bucket : Option (Bucket T)) (items : List T) → AreLike bucket (with_items bucket items)
   like-items None items = tt
   like-items (Some bucket) items = (length-refill bucket.items items, refl)

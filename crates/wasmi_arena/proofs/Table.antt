@@ -4,7 +4,7 @@ use Rattle.std.proofs.Math.Nat.{pow-succ', mul-le-mul_left}
 use Rattle.std.proofs.Math.ListN.{drop_of_length-le}
 use Rattle.std.proofs.Math.Seq.{drop-nil, take-set-lt}
 use Rattle.std.proofs.lemmas.Nat.{pow_pos}
-use Rattle.std.proofs.lemmas.List.{nil_from_length, get_or_default, take_all, take-append-drop, take-append-le, drop-append-le, drop-drop, drop-take, take-take, length-take, length-set, take-set-le, drop-set-lt, drop-set-add, get_or_append_left, get_or-append_right, get_or-set_same, set-append_left, set-append_right, set-set}
+use Rattle.std.proofs.lemmas.List.{nil_from_length, get_or_default, take_all, take-append-drop, take-append-le, drop-append-le, drop-drop, drop-take, take-take, length-take, length-set, take-set-le, drop-set-lt, drop-set-add, get_or-set_same, set-set}
 use Rattle.std.specs.Iterator.{YieldsFirstRef, YieldsLastRef}
 use Rattle.std.specs.Borrow.{Bor}
 use Rattle.std.specs.Slice.Iter.{iter_rest, iter_steps, iter_steps_back}
@@ -150,16 +150,6 @@ module _ {T : Type 0} where
   -- what is read at an index within a table stands there
   pub read_there : (buckets : List (Option (Bucket T))) (b : ℕ) (d found : Option (Bucket T)) → b < length buckets → get_or buckets b d ≡ found → get_or buckets b None ≡ found
   read_there buckets b d found inside is = get_or_default buckets b None d inside ∙ is
-
-  -- a write to one part of a table
-  pub write-append_left : (front back : List (Option (Bucket T))) (b s : ℕ) (item : T) → b < length front → write (front ++ back) b s item ≡ write front b s item ++ back
-  write-append_left front back b s item inside =
-      rw (get_or_append_left front back None b inside) (set-append_left front back b (with_item (get_or front b None) s item) inside)
-
-  pub write-append_right : (front back : List (Option (Bucket T))) (b s : ℕ) (item : T) → length front ≡ b → write (front ++ back) b s item ≡ front ++ write back 0 s item
-  write-append_right front back b s item at =
-      let first : b - b ≡ 0 = omega arith in
-      rw (get_or-append_right front back b b None at (omega arith), set-append_right front back b b (with_item (get_or back (b - b) None) s item) at (omega arith), first) refl
 
   -- two writes to one bucket
   pub write-write : (buckets : List (Option (Bucket T))) (b s t : ℕ) (x y : T) → b < length buckets → write (write buckets b s y) b t x ≡ set buckets b (with_item (with_item (get_or buckets b None) s y) t x)

@@ -86,12 +86,12 @@ digits_from n d small from = elim (cases_lt d (digits n)) [
   | inr less ↦ absurd (let large : 2 ^ digits n ≤ 2 ^ d = pow_mono {i = digits n} {j = d} less in omega (arith, digits_above n small))
 ]
 
-pub digits_mono : (m n : ℕ) → m ≤ n → digits m ≤ digits n
+digits_mono : (m n : ℕ) → m ≤ n → digits m ≤ digits n
 unfolding digits
 digits_mono m n h = digits_up_to_mono 64 m n h
 
 -- a number has as many digits more than what is left of it as were shifted out
-pub digits_shifted : (p m n : ℕ) → 0 < m → m * 2 ^ p ≤ n → n < 2 ^ 64 → digits m + p ≤ digits n
+digits_shifted : (p m n : ℕ) → 0 < m → m * 2 ^ p ≤ n → n < 2 ^ 64 → digits m + p ≤ digits n
 digits_shifted zero m n some below small = omega (arith, digits_mono m n (omega (arith, below)))
 digits_shifted (suc p) m n some below small =
     let twice : m * 2 ^ suc p ≡ m * 2 ^ p + m * 2 ^ p = omega (arith, ap (λ k. m * k) (pow-succ' 2 p)) in
@@ -99,7 +99,7 @@ digits_shifted (suc p) m n some below small =
     omega (arith, half, digits_half (n / 2) n (omega (arith, below, twice, mul-le 1 1 m (2 ^ p) some (pow_pos p))) small (omega arith))
 
 -- and no more
-pub digits_unshifted : (p m n : ℕ) → n ≤ m * 2 ^ p → digits n ≤ digits m + p
+digits_unshifted : (p m n : ℕ) → n ≤ m * 2 ^ p → digits n ≤ digits m + p
 digits_unshifted zero m n below = omega (arith, digits_mono n m (omega (arith, below)))
 digits_unshifted (suc p) m n below =
     let twice : m * 2 ^ suc p ≡ m * 2 ^ p + m * 2 ^ p = omega (arith, ap (λ k. m * k) (pow-succ' 2 p)) in

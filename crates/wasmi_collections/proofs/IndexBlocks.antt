@@ -31,9 +31,19 @@ full_blocks w n b is blocks =
     let at = divided w n b (n % w) blocks refl in
     (omega (arith, at), omega (arith, at, mod_below n w (width_pos w is)))
 
+-- where none is full, there are fewer entries than a full one has
+pub none_full : (w n b : ℕ) → IsWidth w → b ≡ n / w → b ≡ 0 → n < w
+none_full w n b is blocks none = omega (arith, (full_blocks w n 0 is (sym none ∙ blocks)).1)
+
 -- each of them lies within the entries
 pub full_within : (w n b number : ℕ) → IsWidth w → b ≡ n / w → number < b → number * w + w ≤ n
 full_within w n b number is blocks below = omega (arith, row_fits number w b w below (omega arith), (full_blocks w n b is blocks).0)
+
+-- and with it the others of one, in front of its last
+pub others_within : (w n b number wide : ℕ) → IsWidth w → b ≡ n / w → number < b → wide ≡ w → (number * wide + (wide - 1) ≤ n) × (wide ≤ n)
+others_within w n b number wide is blocks below same =
+    let all = full_within w n b number is blocks below in
+    rw same (omega (arith, all), omega (arith, all))
 
 -- the block and the place of a rank
 pub placed : (w : ℕ) (blocks : List BlockState) (b p rank : ℕ) → IsBlocks w blocks → p < w → rank ≡ b * w + p → rank < length (entries_in blocks)
@@ -73,10 +83,6 @@ has_room w (q ∷ []) is room = (omega arith, omega (arith, room, is.0, suc-mul 
 has_room w (q ∷ r ∷ rest) is room =
     let next = has_room w (r ∷ rest) is.1 room in
     (omega arith, omega (arith, next.1, suc-mul (length (r ∷ rest)) w, is.0.full, length-append q.entries (entries_in (r ∷ rest))), next.2)
-
-pub no_room : (blocks : List BlockState) → length blocks ≡ 0 → room_in blocks ≡ 0
-no_room [] none = refl
-no_room (q ∷ rest) none = absurd (omega (arith, none))
 
 -- a full block may stand before others
 after : (w : ℕ) (q : BlockState) (blocks : List BlockState) → IsFull w q → IsBlocks w blocks → 0 < length blocks → IsBlocks w (q ∷ blocks)

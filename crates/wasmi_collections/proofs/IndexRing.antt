@@ -3,11 +3,11 @@ use Rattle.std.proofs.Common.{◌≡◌, ℕ, suc, ◌+◌, ◌-◌, ◌%◌, �
 use Rattle.std.proofs.lemmas.Bool.{cases_lt}
 use Rattle.std.proofs.Math.Nat.{mod-eq_of_lt, mod-eq-sub-mod}
 use Rattle.std.specs.List.{insert, remove}
-use Rattle.std.proofs.lemmas.List.{append_assoc, append-nil, drop_all, drop-set, drop-set-add, drop-set-lt, get_or_append_left, get_or-append_right, get_or-drop, get_or-take, length-append, length-drop, length-take-le, set-append_left, set-append_right, take-append-drop, take-append-le, take-set, take-set-le, take_all}
+use Rattle.std.proofs.lemmas.List.{append_assoc, append-nil, drop-set-add, drop-set-lt, get_or_append_left, get_or-append_right, get_or-drop, get_or-take, length-append, length-drop, length-take-le, set-append_left, set-append_right, take-append-drop, take-append-le, take-set-le, take_all}
 use Rattle.std.proofs.lemmas.List.Edits.{insert-append_left, insert-append_right, insert_end, length-insert, length-remove, remove-append_right}
 use Rattle.std.proofs.Math.Seq.{take-suc, take-suc-set, take-append_seam, take-set-lt, drop-append_seam}
 use Rattle.wasmi_collections.specs.declared.string_interner.entry.Entry.{Entry}
-use Rattle.wasmi_collections.specs.IndexBlocks.{BlockState, IsLast, from_first, with_entries}
+use Rattle.wasmi_collections.specs.IndexBlocks.{BlockState, from_first, with_entries}
 
 -- two lists in a row, read from where the second begins
 seam : (xs ys : List Entry) (n : ℕ) → length xs ≡ n → from_first (xs ++ ys) n ≡ ys ++ xs
@@ -170,22 +170,6 @@ read_at ring first place d start within =
           ∙ sym (get_or-append_right (drop first ring) (take first ring) (width - first) place d long (omega (arith, more)))))
     ]
 
--- it ends where it begins, and one that begins at 0 also behind its last slot
-pub same_end : (ring : List Entry) (first : ℕ) → first ≡ 0 → from_first ring (length ring) ≡ from_first ring first
-same_end ring first zero_first =
-    (λ i. drop_all (length ring) ring (omega arith) i ++ take_all (length ring) ring (omega arith) i)
-    ∙ (sym (append-nil ring) ∙ ap (from_first ring) (sym zero_first))
-
--- one goes in before the first, and the last out
-pub turned : (ring : List Entry) (f : ℕ) (x out : Entry) → f < length ring → out ≡ get_or ring f out
-    → from_first (set ring f x) f ++ out ∷ [] ≡ x ∷ from_first ring (suc f)
-turned ring f x out within taken =
-    let next : f + 1 ≡ suc f = omega arith in
-    (λ i. (drop-set ring f x within i ++ take-set ring f x i) ++ out ∷ [])
-    ∙ ap (λ ys. x ∷ ys) (append_assoc (drop (f + 1) ring) (take f ring) (out ∷ [])
-    ∙ (ap (λ ys. drop (f + 1) ring ++ ys) (ap (λ y. take f ring ++ y ∷ []) taken ∙ sym (take-suc ring f out within))
-    ∙ ap (λ k. drop k ring ++ take (suc f) ring) next))
-
 -- one is written in the upper part, and in the lower
 pub set_upper : (ring : List Entry) (f p : ℕ) (x : Entry) → f + p < length ring → from_first (set ring (f + p) x) f ≡ set (from_first ring f) p x
 set_upper ring f p x within =
@@ -230,8 +214,3 @@ pub put_in : (block : BlockState) (ring now : List Entry) (n p : ℕ) (x : Entry
     → record { entries = take (n + 1) now; width = length now } ≡ with_entries block (insert block.entries p x)
 put_in block ring now n p x seen goes long =
     (λ i. record { entries = goes i; width = long i }) ∙ ap (λ (b : BlockState). with_entries b (insert b.entries p x)) seen
-
--- what is read at the last of the first places is the last of these
-pub is_last : (ring : List Entry) (len : ℕ) (last : Entry) → 0 < len → len ≤ length ring → last ≡ get_or ring (len - 1) last → IsLast last (take len ring)
-is_last ring len last some within read =
-    read ∙ (sym (get_or-take len ring (len - 1) last (omega (arith, some))) ∙ ap (λ k. get_or (take len ring) (k - 1) last) (sym (length-take-le len ring within)))

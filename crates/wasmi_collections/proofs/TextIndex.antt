@@ -1,12 +1,12 @@
 -- Facts on an interner's texts and on the index of them.
-use Rattle.std.proofs.Common.{◌≡◌, ◌≢◌, ℕ, zero, suc, ◌+◌, ◌<◌, ◌≤◌, Bool, true, false, cond, List, [], ◌∷◌, ◌++◌, length, take, drop, replicate, get_or, Option, Some, None, option_map, slice_get, ◌||◌, inl, inr, refl, sym, ap, subst, ◌∙◌, arith, Ordering, Less, Equal, Greater}
+use Rattle.std.proofs.Common.{◌≡◌, ◌≢◌, ℕ, zero, suc, ◌+◌, ◌<◌, ◌≤◌, Bool, true, false, cond, List, [], ◌∷◌, ◌++◌, length, take, drop, map, replicate, get_or, Option, Some, None, option_map, slice_get, ◌||◌, inl, inr, refl, sym, ap, subst, ◌∙◌, arith, Ordering, Less, Equal, Greater}
 use Rattle.std.specs.List.{All, AllByRecursion, Contains, IsDistinct, insert, list_any, position_from, range_with_len}
 use Rattle.std.specs.List.Sorted.{IsStrictlySortedBy}
 use Rattle.std.specs.Ordering.{ordering_reverse}
 use Rattle.std.specs.Str.{bytes_eq}
 use Rattle.std.specs.Cmp.Lexicographic.{nat_list_eq_equiv}
 use Rattle.std.proofs.lemmas.Iterator.Adapters.{position_from-zero}
-use Rattle.std.proofs.lemmas.List.{get_or_append_left, get_or_push, length_push, length-append, length-map, length-replicate, take-map, drop-map, map-append}
+use Rattle.std.proofs.lemmas.List.{get_or_append_left, get_or_push, length_push, length-map, take-map, drop-map, map-append}
 use Rattle.std.proofs.lemmas.List.Elements.{All-append, All-cons, All-drop, All-head, All-nil, All-tail, All-take, All-weaker}
 use Rattle.std.proofs.lemmas.List.FromFn.{length-range_with_len, get_or-range_with_len}
 use Rattle.std.proofs.lemmas.List.Quantifiers.{position-Some}
@@ -20,9 +20,13 @@ use Rattle.wasmi_collections.specs.LenOrder.{len_cmp}
 use Rattle.wasmi_collections.specs.LenOrderLaws.{len_cmp_total, len_cmp-Equal}
 use Rattle.wasmi_collections.proofs.Search.{in_order, none_left, part_in_order, part_narrowed}
 use Rattle.wasmi_collections.specs.Search.{IsInOrder, IsNarrowed, IsSearchable}
-use Rattle.wasmi_collections.specs.TextIndex.{AreEntriesOf, IsEntryOf, IsIndexOf, order_of, symbols_of, texts_of, orders_with}
+use Rattle.wasmi_collections.specs.TextIndex.{AreEntriesOf, AreInOrder, BelongsAt, IsEntryOf, IsIndexOf, order_of, symbols_of, texts_of}
 use Rattle.wasmi_collections.specs.TextKey.{IsKeyOf}
 use Rattle.wasmi_collections.specs.declared.string_interner.entry.Entry.{Entry}
+
+-- how each of these texts compares with another
+abbrev orders_with : List ℕ → List (List ℕ) → List Ordering
+orders_with text texts = map (λ other. len_cmp other text) texts
 
 -- y is greater than x where x is less
 pub turned : (x y : List ℕ) → len_cmp x y ≡ Less → len_cmp y x ≡ Greater
@@ -42,7 +46,7 @@ module _ (text : List ℕ) where
   above_too x (y ∷ ys) less above = (len_cmp_total.trans text x y less above.0, above_too x ys less above.1)
 
   -- ascending texts can be searched
-  pub IsSearchable-texts : (texts : List (List ℕ)) → IsStrictlySortedBy len_cmp texts → IsSearchable (orders_with text texts)
+  IsSearchable-texts : (texts : List (List ℕ)) → IsStrictlySortedBy len_cmp texts → IsSearchable (orders_with text texts)
   IsSearchable-texts [] sorted = record { less = 0; is_there = false; greater = 0; orders_are = refl }
   IsSearchable-texts (x ∷ xs) sorted =
       next (len_cmp x text) refl (IsSearchable-texts xs (sorted_tail len_cmp x xs sorted))
@@ -171,15 +175,8 @@ order_at text texts symbols rank s at =
     ∙ ap (option_map (λ other. len_cmp other text)) (slice_get-map (λ symbol. get_or texts symbol []) symbols rank ∙ ap (option_map (λ symbol. get_or texts symbol [])) at)
 
 module _ (text : List ℕ) (texts : List (List ℕ)) (symbols : List ℕ) where
-  pub length-orders : length (orders_with text (texts_of texts symbols)) ≡ length symbols
+  length-orders : length (orders_with text (texts_of texts symbols)) ≡ length symbols
   length-orders = length-map (texts_of texts symbols) (λ other. len_cmp other text) ∙ length-map symbols (λ symbol. get_or texts symbol [])
-
-  pub place_within : (rank : ℕ) (order : Ordering) → slice_get (orders_with text (texts_of texts symbols)) rank ≡ Some order → rank < length symbols
-  place_within rank order at = omega (arith, length-orders, slice_get_within (orders_with text (texts_of texts symbols)) rank order at)
-
-  pub rank_within : (less greater : ℕ) → orders_with text (texts_of texts symbols) ≡ replicate less Less ++ replicate greater Greater → less ≤ length symbols
-  rank_within less greater orders =
-      omega (arith, length-orders, ap length orders, length-append (replicate less Less) (replicate greater Greater), length-replicate less Less)
 
 no_equal : (less greater i : ℕ) → slice_get (replicate less Less ++ replicate greater Greater) i ≡ Some Equal → ⊥
 no_equal zero zero i at = none-some Equal at
@@ -194,20 +191,13 @@ same_text text texts symbol within same =
     slice_get-get_or texts symbol [] within ∙ ap Some ((len_cmp-Equal (get_or texts symbol []) text).0 (same_Some _ Equal same))
 
 module _ (texts : List (List ℕ)) (symbols : List ℕ) (is : IsIndexOf texts symbols) where
-  pub length-symbols : length symbols ≡ length texts
+  length-symbols : length symbols ≡ length texts
   length-symbols = length_permutation (range_with_len 0 (length texts)) symbols is.complete ∙ length-range_with_len 0 (length texts)
 
   symbols_within : All (λ s. s < length texts) symbols
   symbols_within = All-permutation (λ s. s < length texts) (range_with_len 0 (length texts)) symbols is.complete (below_range (length texts))
 
-  -- where a search finds a text, its symbol stands
-  pub found_symbol : (text : List ℕ) (rank s : ℕ) → slice_get (orders_with text (texts_of texts symbols)) rank ≡ Some Equal → slice_get symbols rank ≡ Some s → slice_get texts s ≡ Some text
-  found_symbol text rank s found at =
-      let same = (len_cmp-Equal (get_or texts s []) text).0 (same_Some _ Equal (sym (order_at text texts symbols rank s at) ∙ found)) in
-      let below : s < length texts = rw (← get_or_from_slice_get symbols rank s 0 at) (symbols_within rank 0 (slice_get_within symbols rank s at)) in
-      slice_get-get_or texts s [] below ∙ ap Some same
-
-  -- where it finds none, the text stands nowhere
+  -- where a search finds none, the text stands nowhere
   pub found_nowhere : (text : List ℕ) (less greater : ℕ) → orders_with text (texts_of texts symbols) ≡ replicate less Less ++ replicate greater Greater → (s : ℕ) → slice_get texts s ≢ Some text
   found_nowhere text less greater orders s at =
       let below = slice_get_within texts s text at in
@@ -269,12 +259,9 @@ module _ (text : List ℕ) where
 
 -- ---- the entries
 
-pub symbol_at : (entries : List Entry) (rank : ℕ) (entry : Entry) → slice_get entries rank ≡ Some entry → slice_get (symbols_of entries) rank ≡ Some entry.symbol
-symbol_at entries rank entry at = slice_get-map (λ e. e.symbol) entries rank ∙ ap (option_map (λ e. e.symbol)) at
-
 module _ (text : List ℕ) (texts : List (List ℕ)) (entries : List Entry) where
   -- the entry of a rank tells how the text there compares
-  pub order_by_rank : (rank : ℕ) → slice_get (orders_with text (texts_of texts (symbols_of entries))) rank ≡ order_of text texts (slice_get entries rank)
+  order_by_rank : (rank : ℕ) → slice_get (orders_with text (texts_of texts (symbols_of entries))) rank ≡ order_of text texts (slice_get entries rank)
   order_by_rank rank =
       slice_get-map (λ other. len_cmp other text) (texts_of texts (symbols_of entries)) rank
       ∙ (ap (option_map (λ other. len_cmp other text)) (slice_get-map (λ symbol. get_or texts symbol []) (symbols_of entries) rank
@@ -302,7 +289,7 @@ module _ (text : List ℕ) (texts : List (List ℕ)) (entries : List Entry) wher
       ]
 
   -- a text that belongs at a rank has all texts before it that are less
-  pub ranked : (rank : ℕ) → IsNarrowed (λ other. order_of text texts (slice_get entries other)) (length entries) rank rank
+  pub ranked : (rank : ℕ) → BelongsAt text texts (slice_get entries) (length entries) rank
       → (greater : ℕ) × (orders_with text (texts_of texts (symbols_of entries)) ≡ replicate rank Less ++ replicate greater Greater)
   ranked rank there =
       let long : length (orders_with text (texts_of texts (symbols_of entries))) ≡ length entries = omega (arith, length-orders text texts (symbols_of entries), length-map entries (λ e. e.symbol)) in
@@ -315,16 +302,15 @@ module _ (text : List ℕ) (texts : List (List ℕ)) (entries : List Entry) wher
 
   -- so many entries from a rank on
   module _ (start len : ℕ) (part : ℕ → Option Entry) (same : (i : ℕ) → i < len → part i ≡ slice_get entries (start + i)) (within : start + len ≤ length entries) where
-    pub part_entries : All (IsEntryOf texts) entries → (place : ℕ) (entry : Entry) → place < len → part place ≡ Some entry → IsEntryOf texts entry
-    part_entries each place entry below at = entry_of_rank each (start + place) entry (sym (same place below) ∙ at)
-
-    pub part_orders : AreEntriesOf texts entries → IsInOrder (λ place. order_of text texts (part place)) len
-    part_orders is =
-        part_in_order (λ rank. order_of text texts (slice_get entries rank)) (length entries) (entries_in_order is) start len (λ place. order_of text texts (part place))
-        (λ i below. ap (order_of text texts) (same i below)) within
+    pub part_sorted : AreEntriesOf texts entries → AreInOrder text texts part len
+    part_sorted is = record {
+      each = λ place entry below at. entry_of_rank is.each (start + place) entry (sym (same place below) ∙ at);
+      in_order = part_in_order (λ rank. order_of text texts (slice_get entries rank)) (length entries) (entries_in_order is) start len (λ place. order_of text texts (part place))
+          (λ i below. ap (order_of text texts) (same i below)) within;
+    }
 
     pub part_ranked : AreEntriesOf texts entries → (place : ℕ) → IsNarrowed (λ rank. order_of text texts (slice_get entries rank)) (length entries) start (start + len)
-        → IsNarrowed (λ place. order_of text texts (part place)) len place place → IsNarrowed (λ rank. order_of text texts (slice_get entries rank)) (length entries) (start + place) (start + place)
+        → BelongsAt text texts part len place → BelongsAt text texts (slice_get entries) (length entries) (start + place)
     part_ranked is place =
         part_narrowed (λ rank. order_of text texts (slice_get entries rank)) (length entries) (entries_in_order is) start len (λ place. order_of text texts (part place))
         (λ i below. ap (order_of text texts) (same i below)) within place

@@ -58,7 +58,7 @@ module _ (x y : List ℕ) (of_x : (place : ℕ) → get_or x place 0 < 256) (of_
   by_bytes long below = rw (same (length x) (length y) long) (leading_less x y of_x of_y 11 below long)
 
   -- texts order as their keys do
-  pub key_less : key_of x < key_of y → len_cmp x y ≡ Less
+  key_less : key_of x < key_of y → len_cmp x y ≡ Less
   unfolding key_of
   key_less below = next (cases_lt (length x) 255) (cases_lt (length y) 255)
     where

@@ -4,7 +4,7 @@ use Rattle.std.specs.List.{All, range_with_len}
 use Rattle.std.specs.List.Sorted.{IsStrictlySortedBy}
 use Rattle.std.specs.declared.cmp.Ordering.{Ordering}
 use Rattle.wasmi_collections.specs.LenOrder.{len_cmp}
-use Rattle.wasmi_collections.specs.Search.{IsNarrowed}
+use Rattle.wasmi_collections.specs.Search.{IsInOrder, IsNarrowed}
 use Rattle.wasmi_collections.specs.TextKey.{IsKeyOf}
 use Rattle.wasmi_collections.specs.declared.string_interner.entry.Entry.{Entry}
 
@@ -39,21 +39,19 @@ pub record AreEntriesOf (texts : List (List ℕ)) (entries : List Entry) : Type 
   pub each : All (IsEntryOf texts) entries
 
 -- there is an entry, and this is its key
-abbrev pub HasKey : ℕ → ℕ → Option Entry → Type 0
-HasKey head tail there = (entry : Entry) × (there ≡ Some entry) × (entry.head ≡ head) × (entry.tail ≡ tail)
+abbrev pub IsKeyAt : ℕ → ℕ → Option Entry → Type 0
+IsKeyAt head tail there = (entry : Entry) × (there ≡ Some entry) × (entry.head ≡ head) × (entry.tail ≡ tail)
 
 -- how the text of an entry compares with another
 abbrev pub order_of : List ℕ → List (List ℕ) → Option Entry → Option Ordering
 order_of text texts entry = option_map (λ e. len_cmp (slice_index_or texts e.symbol []) text) entry
 
+-- so many places, each with its entry, have entries of an index of these texts, in the order in which another text is
+-- searched
+pub record AreInOrder (text : List ℕ) (texts : List (List ℕ)) (entry : ℕ → Option Entry) (count : ℕ) : Type 0 where
+  pub each : (place : ℕ) (there : Entry) → place < count → entry place ≡ Some there → IsEntryOf texts there
+  pub in_order : IsInOrder (λ place. order_of text texts (entry place)) count
+
 -- of so many places, each with its entry, those before one have lesser texts, and those from it on greater ones
 abbrev pub BelongsAt : List ℕ → List (List ℕ) → (ℕ → Option Entry) → ℕ → ℕ → Type 0
 BelongsAt text texts entry count place = IsNarrowed (λ other. order_of text texts (entry other)) count place place
-
--- how each of these texts compares with another
-abbrev pub orders_with : List ℕ → List (List ℕ) → List Ordering
-orders_with text texts = map (λ other. len_cmp other text) texts
-
--- how the text of each entry of an index of these texts compares with another
-abbrev pub orders_by_rank : List ℕ → List (List ℕ) → List Entry → List Ordering
-orders_by_rank text texts entries = orders_with text (texts_of texts (symbols_of entries))

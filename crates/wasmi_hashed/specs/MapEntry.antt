@@ -8,22 +8,25 @@ use Rattle.std.specs.declared.hash.Hash as hash
 use Rattle.std.specs.declared.hash.Hasher as hasher
 use Rattle.std.specs.declared.hash.BuildHasher as builder
 use Rattle.std.specs.contracts.collections.HashMap.{the_row as InnerRow}
-use Rattle.std.specs.Borrow.{Fml, RattleType, MutBor, Lends, RestsIfErr, follows_if, follows_so, name_if_ok}
+use Rattle.std.specs.Borrow.{Fml, RattleType, MutBor, Lends, RestsIfErr, follows, follows_if, follows_so, name_if_ok}
 use mathlib.Core.Option.{none}
 use Rattle.std.specs.HashMap.{HashMap, hasher_of, IsUnchanged}
-use Rattle.std.specs.HashMap.Entry.{entry_key, entry_map_ref, entry_value, map_with_value, map_without_entry, MatchEntry}
+use Rattle.std.specs.HashMap.Entry.{entry_key, entry_map_ref, entry_value, map_with_value, map_without_entry, with_entry_value, MatchEntry}
 use Rattle.std.specs.HashMap.Lent.{HashMembers}
 use Rattle.std.specs.List.Sorted.{IsPermutation}
 use Rattle.std.specs.Map.{lookup_key, remove_entry, set_value}
-use Rattle.std.specs.Prelude.{◌≡◌, Bool, true, ◌∷◌, Result, OnErr, None, Some, IsSome, MatchOption}
+use Rattle.std.specs.Prelude.{◌≡◌, Bool, true, [], ◌∷◌, Result, OnErr, None, Some, IsSome, MatchOption}
 use Rattle.wasmi_map_specs.specs.Made.{IsMadeOf}
 use Rattle.wasmi_map_specs.specs.Maps.{value_at}
 use Rattle.wasmi_hashed.specs.Entries.{Entries}
 use Rattle.wasmi_hashed.specs.contracts.map.Map.{the_row as MapRow}
+use Rattle.wasmi_hashed.specs.contracts.map.entry.OccupiedEntry as HeldType
 use Rattle.wasmi_arena.specs.declared.error.ArenaError.{ArenaError}
 use Rattle.wasmi_arena.specs.declared.error.ArenaError.TheVariants.{OutOfSystemMemory}
 use Rattle.wasmi_hashed.specs.declared.map.entry.Entry.{Entry}
 use Rattle.wasmi_hashed.specs.declared.map.entry.Entry.TheVariants.{Occupied, Vacant}
+use Rattle.wasmi_hashed.specs.declared.map.entry.OccupiedEntry.{OccupiedEntry}
+use mir.Syntax.{named}
 
 -- what a map is that has this table
 abbrev pub map_of : {K V S : Type 0} → HashMap K V S → Entries K V S
@@ -53,6 +56,10 @@ module _ {K V S A H : Type 0} {g : eq.Ghosts K} {h : hash.Ghosts K} {b : builder
   abbrev pub IsOfInner : Result (Place K V S A H g h b w) (AllocFailed K) → Result (Entry K V S A H g h b w) ArenaError → Type 0
   IsOfInner = IsMadeOf place OutOfSystemMemory
 
+  -- the place of a key that is there, with this value
+  abbrev pub with_value : OccupiedEntry K V S A H g h b w → V → OccupiedEntry K V S A H g h b w
+  with_value held last = record held { entry = with_entry_value held.entry last }
+
 module _ (K V S A H : RattleType) {g : eq.Ghosts K.Denot} {h : hash.Ghosts K.Denot} {b : builder.Ghosts S.Denot H.Denot} {w : hasher.Ghosts H.Denot} (heap : alloc.Ghosts A.Denot) where
   -- where the call failed, the table has its entries
   abbrev pub inner_rests : {E : Type 0} → MutBor (HashMap K.Denot V.Denot S.Denot) → Result (Place K.Denot V.Denot S.Denot A.Denot H.Denot g h b w) E → Fml
@@ -65,6 +72,11 @@ module _ (K V S A H : RattleType) {g : eq.Ghosts K.Denot} {h : hash.Ghosts K.Den
   -- the table is in the end as the place has it
   abbrev pub inner_stays : Place K.Denot V.Denot S.Denot A.Denot H.Denot g h b w → Fml
   inner_stays there = follows_if (InnerRow K V S A H g h b w heap) V (entry_map_ref there).ghost_name none (map_with_value there) (entry_map_ref there).now
+
+  -- the place of a key that is there has the value that was written last through the reference, whose lifetime is the
+  -- call's second
+  abbrev pub lends_held : MutBor (OccupiedEntry K.Denot V.Denot S.Denot A.Denot H.Denot g h b w) → MutBor V.Denot → Fml
+  lends_held held value = follows (HeldType.the_row (record { mir = named 1; lft = [] }) K V S A H g h b w heap) V held.ghost_name value.ghost_name (with_value held.now)
 
 module _ (K V S A H : RattleType) (m : HashMembers K.Denot) (b : builder.Ghosts S.Denot H.Denot) (w : hasher.Ghosts H.Denot) (heap : alloc.Ghosts A.Denot) where
   -- the map has the entries that the table has in the end

@@ -1,3 +1,2 @@
-pub mod MapHeld
 pub mod MapLend
 pub mod MapEntry

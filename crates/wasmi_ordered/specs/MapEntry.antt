@@ -10,21 +10,24 @@ use Rattle.std.specs.declared.hash.Hash as hash
 use Rattle.std.specs.declared.cmp.Ordering.{Ordering}
 use Rattle.std.specs.declared.cmp.Ordering.TheVariants.{Equal}
 use Rattle.std.specs.BTreeMap.{BTreeMap, insert_entry, IsUnchanged}
-use Rattle.std.specs.BTreeMap.Entry.{entry_map_ref, entry_key, entry_value, map_with_value, map_without_entry, MatchEntry}
+use Rattle.std.specs.BTreeMap.Entry.{entry_map_ref, entry_key, entry_value, map_with_value, map_without_entry, with_entry_value, MatchEntry}
 use Rattle.std.specs.Map.{lookup_key, remove_entry}
 use Rattle.std.specs.Ordering.{eq_by_cmp}
 use Rattle.wasmi_map_specs.specs.Made.{IsMadeOf}
 use Rattle.wasmi_map_specs.specs.Maps.{value_at}
 use Rattle.std.specs.BTreeMap.Lent.{OrdMembers}
-use Rattle.std.specs.Prelude.{◌≡◌, List, Result, None, Some, IsSome}
-use Rattle.std.specs.Borrow.{Fml, RattleType, MutBor, RestsIfErr, Lends, follows_if, follows_so, name_if_ok}
+use Rattle.std.specs.Prelude.{◌≡◌, List, [], Result, None, Some, IsSome}
+use Rattle.std.specs.Borrow.{Fml, RattleType, MutBor, RestsIfErr, Lends, follows, follows_if, follows_so, name_if_ok}
 use mathlib.Core.Option.{none}
 use Rattle.std.specs.contracts.collections.BTreeMap.{the_row as InnerRow}
 use Rattle.wasmi_ordered.specs.contracts.map.Map.{the_row as MapRow}
+use Rattle.wasmi_ordered.specs.contracts.map.entry.OccupiedEntry as HeldType
 use Rattle.wasmi_arena.specs.declared.error.ArenaError.{ArenaError}
 use Rattle.wasmi_arena.specs.declared.error.ArenaError.TheVariants.{OutOfSystemMemory}
 use Rattle.wasmi_ordered.specs.declared.map.entry.Entry.{Entry}
 use Rattle.wasmi_ordered.specs.declared.map.entry.Entry.TheVariants.{Occupied, Vacant}
+use Rattle.wasmi_ordered.specs.declared.map.entry.OccupiedEntry.{OccupiedEntry}
+use mir.Syntax.{named}
 
 module _ {Key Value Heap : Type 0} {equal : eq.Ghosts Key} {total : ord.Ghosts Key} {order : partial.Ghosts Key} where
   -- the place in the tree
@@ -48,6 +51,10 @@ module _ {Key Value Heap : Type 0} {equal : eq.Ghosts Key} {total : ord.Ghosts K
   abbrev pub IsOfInner : Result (Place Key Value Heap total equal order) (AllocFailed Key) → Result (Entry Key Value Heap equal total order) ArenaError → Type 0
   IsOfInner = IsMadeOf place OutOfSystemMemory
 
+  -- the place of a key that is there, with this value
+  abbrev pub with_value : OccupiedEntry Key Value Heap equal total order → Value → OccupiedEntry Key Value Heap equal total order
+  with_value held last = record held { entry = with_entry_value held.entry last }
+
 module _ (K V A : RattleType) {g : ord.Ghosts K.Denot} {g' : eq.Ghosts K.Denot} {g'' : partial.Ghosts K.Denot} (heap : alloc.Ghosts A.Denot) where
   -- where the call failed, the tree has its entries
   abbrev pub inner_rests : {E : Type 0} → MutBor (BTreeMap K.Denot V.Denot) → Result (Place K.Denot V.Denot A.Denot g g' g'') E → Fml
@@ -56,6 +63,11 @@ module _ (K V A : RattleType) {g : ord.Ghosts K.Denot} {g' : eq.Ghosts K.Denot} 
   -- the tree is in the end the one without the place's key
   abbrev pub inner_without : Place K.Denot V.Denot A.Denot g g' g'' → Fml
   inner_without there = follows_so (InnerRow K V A g g' g'' heap) V (entry_map_ref there).ghost_name none (λ _ _. Unit {0}) (IsUnchanged (map_without_entry there))
+
+  -- the place of a key that is there has the value that was written last through the reference, whose lifetime is the
+  -- call's second
+  abbrev pub lends_held : MutBor (OccupiedEntry K.Denot V.Denot A.Denot g' g g'') → MutBor V.Denot → Fml
+  lends_held held value = follows (HeldType.the_row (record { mir = named 1; lft = [] }) K V A g' g g'' heap) V held.ghost_name value.ghost_name (with_value held.now)
 
 module _ (K V A : RattleType) (h : hash.Ghosts K.Denot) (g : OrdMembers K.Denot) (heap : alloc.Ghosts A.Denot) where
   -- the map has the entries that the tree has in the end

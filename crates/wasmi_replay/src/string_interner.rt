@@ -70,7 +70,7 @@ fn hinted(interner: &mut StringInterner, text: &str, hint: InternHint, out: &mut
     write(out, number(interner.get_or_intern_with_hint(text, hint)))
 }
 
-// Writes the symbol of a text, and whether so many texts were compared as a binary search does: at
+// Writes the symbol of a text, and whether there were as few comparisons as a binary search makes: at
 // most one for each binary digit of the number of texts, and one where there is a text.
 fn counted(interner: &StringInterner, text: &str, out: &mut Line) {
     let mut steps = Steps::new();

@@ -3,15 +3,15 @@ ghost use Rattle.std.specs.Prelude.{◌≡◌, ℕ, ◌+◌, ◌-◌, ◌*◌, �
 ghost use Rattle.std.specs.List.{insert};
 ghost use Rattle.wasmi_collections.specs.BinaryDigits.{digits};
 ghost use Rattle.wasmi_collections.specs.Interner.{symbol_of, AreDistinctTexts};
-ghost use Rattle.wasmi_collections.specs.Search.{IsInOrder, IsSide};
-ghost use Rattle.wasmi_collections.specs.TextIndex.{AreEntriesOf, BelongsAt, HasKey, IsEntryOf, order_of};
+ghost use Rattle.wasmi_collections.specs.Search.{IsSide};
+ghost use Rattle.wasmi_collections.specs.TextIndex.{AreEntriesOf, AreInOrder, BelongsAt, IsEntryOf, IsKeyAt, order_of};
 ghost use Rattle.wasmi_collections.specs.TextKey.{IsKeyOf};
 ghost use Rattle.wasmi_collections.specs.declared.string_interner.entry.Entry.{Entry};
 
 use super::choice::Choice;
 use super::index::Index;
 use super::key::Key;
-use super::places::{Places, Tail, Tops};
+use super::places::{Places, Suffix, Tops};
 use super::probe::half_of;
 use super::sought::Sought;
 use super::{Steps, Sym};
@@ -36,12 +36,12 @@ pub(super) fn find<A: Allocator>(
     ensures some_steps { 0 < length sought.now.texts.now → steps.old < steps.new }
     ensures many_steps { IfErr result (λ _. steps.old + digits (length sought.now.texts.now + 1) ≤ steps.new + 1) }
 {
-    find_rank(index, sought, steps)
+    find_in_index(index, sought, steps)
 }
 
 // As `find`, told by the entries. The last entries of the full blocks are searched first, and then what
 // `find_others` searches. Where no block is full, there is one, which is searched whole.
-fn find_rank<A: Allocator>(
+fn find_in_index<A: Allocator>(
     index: &Index<A>,
     sought: &Sought<'_, A>,
     steps: &mut Steps,
@@ -68,7 +68,7 @@ fn find_rank<A: Allocator>(
     }
 }
 
-// As `find_rank`, of a text that belongs in the full block of a number, in front of its last entry, or behind all
+// As `find_in_index`, of a text that belongs in the full block of a number, in front of its last entry, or behind all
 // full blocks.
 //
 // Behind all of them as many entries are searched as there are others in a block, the last ones of the index, so that a
@@ -102,7 +102,7 @@ fn find_others<A: Allocator>(
         }
     } else {
         let start = len - others;
-        match find_among(&Tail { index, start }, others, sought, steps) {
+        match find_among(&Suffix { index, start }, others, sought, steps) {
             Ok(symbol) => Ok(symbol),
             Err(place) => Err(start + place),
         }
@@ -112,8 +112,8 @@ fn find_others<A: Allocator>(
 // The symbol of a text that is searched among the entries of so many places, or as an error the place where it
 // belongs.
 //
-// The keys at both places at one of which the next look is are read beside the comparison. Not inlined, it would hand
-// its answer on through memory.
+// Both keys that the next look may need are read beside the comparison, so that none waits for memory. Not inlined, it
+// would hand its answer on through memory.
 #[inline(always)]
 fn find_among<P: Places, A: Allocator>(
     places: &P,
@@ -123,8 +123,7 @@ fn find_among<P: Places, A: Allocator>(
 ) -> Result<Sym, usize>
     requires some { 0 < len }
     requires within { len ≤ P.count places.now }
-    requires entries { (place : ℕ) (entry : Entry) → place < len → P.entry places.now place ≡ Some entry → IsEntryOf sought.now.texts.now entry }
-    requires in_order { IsInOrder (λ place. order_of sought.now.text.now sought.now.texts.now (P.entry places.now place)) len }
+    requires sorted { AreInOrder sought.now.text.now sought.now.texts.now (P.entry places.now) len }
     requires countable { steps.old ≤ 2 ^ 63 + 64 }
     ensures there { IfOk result (λ symbol. slice_get sought.now.texts.now symbol ≡ Some sought.now.text.now) }
     ensures absent { IfErr result (λ place. BelongsAt sought.now.text.now sought.now.texts.now (P.entry places.now) len place) }
@@ -132,8 +131,7 @@ fn find_among<P: Places, A: Allocator>(
     ensures some_steps { steps.old < steps.new }
     ensures many_steps { IfErr result (λ _. steps.old + digits (len + 1) ≤ steps.new + 1) }
 {
-    // For all that the compiler knows of a counter in memory, counting changes where the entries lie, which each look
-    // would read anew.
+    // A counter behind a `&mut` might lie among the entries, so each look would read again where they lie.
     let mut taken = mem::replace(steps, Steps::new());
     let mut low = 0;
     let mut half = half_of(len);
@@ -177,7 +175,7 @@ fn side_at<P: Places, A: Allocator>(
 ) -> Option<Choice>
     requires within { place < P.count places.now }
     requires entry { (entry : Entry) → P.entry places.now place ≡ Some entry → IsEntryOf sought.now.texts.now entry }
-    requires key { HasKey key.head key.tail (P.entry places.now place) }
+    requires key { IsKeyAt key.head key.tail (P.entry places.now place) }
     requires countable { steps.old < 2 ^ 64 - 1 }
     ensures side { IsSide (order_of sought.now.text.now sought.now.texts.now (P.entry places.now place)) result }
     ensures counted { steps.new ≡ steps.old + 1 }

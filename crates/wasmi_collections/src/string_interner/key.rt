@@ -20,9 +20,9 @@ const HEAD: u128 = 1 << 64;
 // of two texts differ, they compare as the texts do.
 #[derive(Copy, Clone)]
 pub(super) struct Key {
-    // The length and seven bytes,
+    // The length, or 255 for that of a long text, and seven bytes,
     pub(super) head: u64,
-    // and four bytes more.
+    // and four bytes more, in a word, so that one of two is selected as the head is.
     pub(super) tail: u64,
 }
 
@@ -39,7 +39,7 @@ impl Key {
             };
         }
         match bytes.first_chunk::<BYTES>() {
-            Some(first) => from_first(bytes.len(), first),
+            Some(first) => of_first(bytes.len(), first),
             None => of_short(bytes),
         }
     }
@@ -84,7 +84,7 @@ impl Key {
 
 // The key of a text of this length that isn't long, by its first bytes, with a zero for each that is missing.
 #[inline]
-fn from_first(len: usize, first: &[u8; BYTES]) -> Key
+fn of_first(len: usize, first: &[u8; BYTES]) -> Key
     requires { len < 255 }
     ensures { (text : List ℕ) → length text ≡ len → ((place : ℕ) → slice_index text place < 256)
         → ((place : ℕ) → place < 11 → slice_index first.now place ≡ slice_index text place) → IsKeyOf result.head result.tail text }
@@ -106,7 +106,7 @@ fn of_short(bytes: &[u8]) -> Key
     requires { length bytes.now < 11 }
     ensures { IsKeyOf result.head result.tail bytes.now }
 {
-    from_first(bytes.len(), &padded(bytes))
+    of_first(bytes.len(), &padded(bytes))
 }
 
 // The bytes, and a zero for each that is missing.

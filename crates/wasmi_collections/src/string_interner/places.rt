@@ -51,16 +51,17 @@ impl<A: Allocator> Places for Tops<'_, A> {
 
 // The entries of an index from a rank on.
 #[derive(Drop)]
-pub(super) struct Tail<'a, A: Allocator> {
+pub(super) struct Suffix<'a, A: Allocator> {
     pub(super) index: &'a Index<A>,
     pub(super) start: usize,
+    // Each rank, `start` and a place, is a `usize`.
     ghost fits: { length index.now.entries < 2 ^ 64 },
 }
 
-impl<A: Allocator> Places for Tail<'_, A> {
-    ghost entry = { λ tail place. slice_get tail.index.now.entries (tail.start + place) };
+impl<A: Allocator> Places for Suffix<'_, A> {
+    ghost entry = { λ suffix place. slice_get suffix.index.now.entries (suffix.start + place) };
 
-    ghost count = { λ tail. length tail.index.now.entries - tail.start };
+    ghost count = { λ suffix. length suffix.index.now.entries - suffix.start };
 
     #[inline]
     fn read(&self, place: usize) -> Entry {

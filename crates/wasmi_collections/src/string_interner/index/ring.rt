@@ -1,5 +1,5 @@
 //! Entries of the index of an interner in a ring.
-ghost use Rattle.std.specs.Prelude.{◌≡◌, ◌++◌, ◌+◌, ◌<◌, ◌≤◌, ◌-◌, ◌%◌, List, [], ◌∷◌, length, IfOk, OnOk, OnErr, slice_index_or, slice_set, vec_items};
+ghost use Rattle.std.specs.Prelude.{◌≡◌, ◌++◌, ◌+◌, ◌<◌, ◌≤◌, ◌-◌, List, [], ◌∷◌, length, IfOk, OnOk, OnErr, slice_index_or, slice_set, vec_items};
 ghost use Rattle.std.specs.List.{insert, remove};
 ghost use Rattle.wasmi_collections.specs.IndexBlocks.{from_first};
 ghost use Rattle.wasmi_collections.specs.declared.string_interner.entry.Entry.{Entry};

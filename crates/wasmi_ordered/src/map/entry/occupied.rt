@@ -2,8 +2,7 @@
 ghost use Rattle.std.specs.Prelude.{◌≡◌, Some};
 ghost use Rattle.std.specs.BTreeMap.Entry.{entry_follows, entry_key, entry_value, IsWritten};
 ghost use Rattle.std.specs.Borrow.{sem};
-ghost use Rattle.wasmi_ordered.specs.MapEntry.{place, inner_without};
-ghost use Rattle.wasmi_ordered.specs.MapHeld.{lends_held, with_value};
+ghost use Rattle.wasmi_ordered.specs.MapEntry.{inner_without, lends_held, place, with_value};
 ghost use Rattle.wasmi_ordered.specs.declared.map.entry.Entry.TheVariants.{Occupied};
 
 use super::OccupiedEntry;

@@ -2,7 +2,7 @@ use Rattle.std.proofs.Common.{◌≡◌, ◌+◌, ◌-◌, ◌/◌, ◌∙◌, a
 use Rattle.wasmi_collections.proofs.BinaryDigits.{digits_double, digits_half, digits_le, digits_least}
 use Rattle.wasmi_collections.proofs.Search.{narrowed_low, narrowed_high, not_narrowed, order_of_side}
 use Rattle.wasmi_collections.proofs.TextIndex.{same_text}
-use Rattle.wasmi_collections.specs.TextIndex.{HasKey, order_of}
+use Rattle.wasmi_collections.specs.TextIndex.{IsKeyAt, order_of}
 use Rattle.wasmi_collections.proofs.string_interner.find.find_among.Goals as goal
 
 pub loop-half-init : goal.loop-half-init
@@ -14,7 +14,7 @@ loop-half-init g c =
       narrowed = not_narrowed (λ place. order_of c.args.sought.now.text.now c.args.sought.now.texts.now (g.P.Places.entry c.args.places.now place)) len 0 (0 + (len - half) + half) (omega arith) (omega (arith, less));
       some = omega (arith, less);
       near = omega (arith, rest);
-      key = subst (λ place. HasKey c.key-key.result.head c.key-key.result.tail (g.P.Places.entry c.args.places.now place)) here
+      key = subst (λ place. IsKeyAt c.key-key.result.head c.key-key.result.tail (g.P.Places.entry c.args.places.now place)) here
           (c.read.result, c.read.ensures, sym c.key-key.ensures.head, sym c.key-key.ensures.tail);
       few = omega (arith, c.half_of-half.ensures.digit, c.replace-taken.ensures.value);
       more = omega (arith, c.replace-taken.ensures.value);
@@ -24,7 +24,7 @@ loop-half-init g c =
 pub side_at-requires-clause-entry : goal.side_at-requires-clause-entry
 side_at-requires-clause-entry g c =
     let now = c.loop-half.invariant in
-    λ entry at. c.requires.entries (c.loop-half.low + c.loop-half.half) entry (omega (arith, now.narrowed.within, now.some)) at
+    λ entry at. c.requires.sorted.each (c.loop-half.low + c.loop-half.half) entry (omega (arith, now.narrowed.within, now.some)) at
 
 pub side_at-requires-clause-countable : goal.side_at-requires-clause-countable
 side_at-requires-clause-countable g c =
@@ -34,7 +34,7 @@ pub returns-in-None-clause-there : goal.returns-in-None-clause-there
 returns-in-None-clause-there g c =
     let now = c.loop-half.invariant in let text = c.args.sought.now.text.now in let texts = c.args.sought.now.texts.now in
     let entry = c.read-in-None.result in
-    let is = c.requires.entries (c.loop-half.low + c.loop-half.half) entry (omega (arith, now.narrowed.within, now.some)) c.read-in-None.ensures in
+    let is = c.requires.sorted.each (c.loop-half.low + c.loop-half.half) entry (omega (arith, now.narrowed.within, now.some)) c.read-in-None.ensures in
     rw (c.symbol.ensures) (same_text text texts entry.symbol is.within (ap (order_of text texts) (sym c.read-in-None.ensures) ∙ c.in-None.ensures.side))
 
 pub loop-half-preserved : goal.loop-half-preserved
@@ -53,7 +53,7 @@ loop-half-preserved g c =
           let head : c.select-key.result.head ≡ c.key-upper.result.head = rw (less.0) at c.select-key.ensures.head in
           let tail : c.select-key.result.tail ≡ c.key-upper.result.tail = rw (less.0) at c.select-key.ensures.tail in
           record {
-            narrowed = narrowed_low _ c.args.len c.requires.in_order low (low + skipped + half) (low + half) place (place + (half - fewer) + fewer) now.narrowed
+            narrowed = narrowed_low _ c.args.len c.requires.sorted.in_order low (low + skipped + half) (low + half) place (place + (half - fewer) + fewer) now.narrowed
                 (omega (arith, some)) (omega (arith, at_next, near)) (omega arith) (omega (arith, at_next)) less.1;
             some = omega (arith, left);
             near = omega arith;
@@ -68,7 +68,7 @@ loop-half-preserved g c =
           let head : c.select-key.result.head ≡ c.key-lower.result.head = rw (greater.0) at c.select-key.ensures.head in
           let tail : c.select-key.result.tail ≡ c.key-lower.result.tail = rw (greater.0) at c.select-key.ensures.tail in
           record {
-            narrowed = narrowed_high _ c.args.len c.requires.in_order low (low + skipped + half) (low + half) place (place + (half - fewer) + fewer) now.narrowed
+            narrowed = narrowed_high _ c.args.len c.requires.sorted.in_order low (low + skipped + half) (low + half) place (place + (half - fewer) + fewer) now.narrowed
                 (omega arith) (omega (arith, some)) at_low (omega (arith, at_low)) greater.1;
             some = omega (arith, left);
             near = omega arith;
@@ -82,12 +82,12 @@ loop-half-preserved g c =
 pub side_at-side-requires-clause-entry : goal.side_at-side-requires-clause-entry
 side_at-side-requires-clause-entry g c =
     let now = c.loop-half.invariant in
-    λ entry at. c.requires.entries c.loop-half.low entry (omega (arith, now.narrowed.within, now.some)) at
+    λ entry at. c.requires.sorted.each c.loop-half.low entry (omega (arith, now.narrowed.within, now.some)) at
 
 pub side_at-side-requires-clause-key : goal.side_at-side-requires-clause-key
 side_at-side-requires-clause-key g c =
     let last : c.loop-half.low + c.loop-half.half ≡ c.loop-half.low = omega (arith, c.loop-half-test.false) in
-    subst (λ place. HasKey c.loop-half.key.head c.loop-half.key.tail (g.P.Places.entry c.args.places.now place)) last c.loop-half.invariant.key
+    subst (λ place. IsKeyAt c.loop-half.key.head c.loop-half.key.tail (g.P.Places.entry c.args.places.now place)) last c.loop-half.invariant.key
 
 pub side_at-side-requires-clause-countable : goal.side_at-side-requires-clause-countable
 side_at-side-requires-clause-countable g c =
@@ -103,11 +103,11 @@ returns-in-Some-side-clause-absent g c =
     elim (order_of_side _ c.in-Some-side.less c.in-Some-side.ensures.side) [
       | inl less ↦
           let at_next : place ≡ low + 1 = rw (less.0) at chosen in
-          narrowed_low _ c.args.len c.requires.in_order low (low + skipped + half) low place place now.narrowed
+          narrowed_low _ c.args.len c.requires.sorted.in_order low (low + skipped + half) low place place now.narrowed
           (omega (arith, some)) (omega (arith, at_next)) (omega arith) (omega (arith, at_next, some, near, last)) less.1
       | inr greater ↦
           let at_low : place ≡ low = rw (greater.0) at chosen in
-          narrowed_high _ c.args.len c.requires.in_order low (low + skipped + half) low place place now.narrowed
+          narrowed_high _ c.args.len c.requires.sorted.in_order low (low + skipped + half) low place place now.narrowed
           (omega arith) (omega (arith, some)) at_low (omega (arith, at_low)) greater.1
     ]
 
@@ -119,5 +119,5 @@ pub returns-in-None-side-clause-there : goal.returns-in-None-side-clause-there
 returns-in-None-side-clause-there g c =
     let now = c.loop-half.invariant in let text = c.args.sought.now.text.now in let texts = c.args.sought.now.texts.now in
     let entry = c.read-in-None-side.result in
-    let is = c.requires.entries c.loop-half.low entry (omega (arith, now.narrowed.within, now.some)) c.read-in-None-side.ensures in
+    let is = c.requires.sorted.each c.loop-half.low entry (omega (arith, now.narrowed.within, now.some)) c.read-in-None-side.ensures in
     rw (c.symbol-in-None-side.ensures) (same_text text texts entry.symbol is.within (ap (order_of text texts) (sym c.read-in-None-side.ensures) ∙ c.in-None-side.ensures.side))

@@ -13,5 +13,5 @@ returns-then-bytes-ge-LONG c = large_key c.args.text.now (λ place. (c.type_inv.
 pub returns-in-Some : goal.returns-in-Some
 returns-in-Some c =
     let bytes = c.as_bytes-bytes.result.now in
-    c.from_first.ensures c.args.text.now (sym (ap length c.as_bytes-bytes.ensures.value)) (λ place. (c.type_inv.text place).fits)
+    c.of_first.ensures c.args.text.now (sym (ap length c.as_bytes-bytes.ensures.value)) (λ place. (c.type_inv.text place).fits)
     (λ place below. same_bytes bytes c.in-Some.first.now 11 place c.in-Some.ensures.cases below ∙ ap (λ xs. get_or xs place 0) c.as_bytes-bytes.ensures.value)

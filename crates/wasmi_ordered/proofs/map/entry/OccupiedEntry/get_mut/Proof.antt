@@ -33,7 +33,7 @@ use types.Kit.{‵, raw, ◌⊛◌, some, later, ◌$◌, ◌∵◌, !, qed, don
 use types.Mut.{open_ref}
 use types.Run.{enter, addr, fld, stop, and_then, no_more, returns}
 use Rattle.wasmi_arena.proofs.Frame.{let_go, gone}
-use Rattle.wasmi_ordered.specs.MapHeld.{with_value}
+use Rattle.wasmi_ordered.specs.MapEntry.{with_value}
 use Rattle.wasmi_ordered.specs.contracts.map.entry.OccupiedEntry.get_mut as F
 use Rattle.wasmi_ordered.proofs.HeldMemory.{Held, Place, place_at, bare, place_out, place_back}
 use Rattle.wasmi_ordered.proofs.map.entry.OccupiedEntry.get_mut.Code as code

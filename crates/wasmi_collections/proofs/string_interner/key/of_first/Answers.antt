@@ -1,7 +1,7 @@
 use Rattle.std.proofs.Common.{◌+◌, ◌*◌, ◌/◌, arith, subst}
 use Rattle.wasmi_collections.proofs.TextKey.{small_key}
 use Rattle.wasmi_collections.specs.TextKey.{IsKeyOf}
-use Rattle.wasmi_collections.proofs.string_interner.key.from_first.Goals as goal
+use Rattle.wasmi_collections.proofs.string_interner.key.of_first.Goals as goal
 
 pub returns : goal.returns
 returns c = λ text long bytes same.

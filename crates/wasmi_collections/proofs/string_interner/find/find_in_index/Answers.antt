@@ -1,13 +1,12 @@
-use Rattle.std.proofs.Common.{◌≡◌, ◌<◌, ◌≤◌, ◌+◌, ◌-◌, ◌*◌, ◌/◌, ◌∙◌, ap, arith, length, slice_get, subst, sym}
+use Rattle.std.proofs.Common.{◌≡◌, ◌≤◌, ◌+◌, ◌-◌, ◌*◌, ◌/◌, ◌∙◌, ap, arith, length, slice_get, subst}
 use Rattle.std.proofs.lemmas.Result.{IfErr-weaker}
 use Rattle.wasmi_collections.specs.BinaryDigits.{digits}
-use Rattle.wasmi_collections.specs.Search.{IsNarrowed}
-use Rattle.wasmi_collections.specs.TextIndex.{order_of}
+use Rattle.wasmi_collections.specs.TextIndex.{BelongsAt, order_of}
 use Rattle.wasmi_collections.proofs.BinaryDigits.{digits_le, digits_least, few_in_rows, many_in_rows}
-use Rattle.wasmi_collections.proofs.IndexBlocks.{full_blocks, reaches, width_most, width_pos}
+use Rattle.wasmi_collections.proofs.IndexBlocks.{full_blocks, none_full, reaches, width_most, width_pos}
 use Rattle.wasmi_collections.proofs.Search.{not_narrowed, tops_in_order}
-use Rattle.wasmi_collections.proofs.TextIndex.{entries_in_order, entry_of_rank, length-entries, part_entries, part_orders, part_ranked}
-use Rattle.wasmi_collections.proofs.string_interner.find.find_rank.Goals as goal
+use Rattle.wasmi_collections.proofs.TextIndex.{entries_in_order, entry_of_rank, length-entries, part_ranked, part_sorted}
+use Rattle.wasmi_collections.proofs.string_interner.find.find_in_index.Goals as goal
 
 -- ---- there is no full block
 
@@ -22,37 +21,26 @@ block-requires g c =
 pub find_among-requires-clause-within : goal.find_among-requires-clause-within
 find_among-requires-clause-within g c =
     let entries = c.args.index.now.entries in let w = c.args.index.now.width in let len = c.len-len.result in
-    let long = length-entries c.args.sought.now.text.now _ entries c.requires.indexed in
-    let all : 0 * w + len ≤ length entries = omega (arith, long, c.len-len.ensures) in
-    let one : len < w = omega (arith, (full_blocks w len 0 c.width.ensures.width (sym c.if-full-eq0.true ∙ (c.block_of-full.ensures ∙ ap (λ k. len / k) c.width.ensures.value))).1) in
-    reaches c.block.result.now.entries entries (0 * w) len (λ i below. c.block.ensures.entries i (omega (arith, below, one))) all
+    let few = none_full w len _ c.width.ensures.width (c.block_of-full.ensures ∙ ap (λ k. len / k) c.width.ensures.value) c.if-full-eq0.true in
+    reaches c.block.result.now.entries entries (0 * w) len (λ i below. c.block.ensures.entries i (omega (arith, below, few)))
+    (omega (arith, length-entries c.args.sought.now.text.now _ entries c.requires.indexed, c.len-len.ensures))
 
-pub find_among-requires-clause-entries : goal.find_among-requires-clause-entries
-find_among-requires-clause-entries g c =
-    let entries = c.args.index.now.entries in let texts = c.args.sought.now.texts.now in let w = c.args.index.now.width in let len = c.len-len.result in
-    let long = length-entries c.args.sought.now.text.now texts entries c.requires.indexed in
-    let all : 0 * w + len ≤ length entries = omega (arith, long, c.len-len.ensures) in
-    let one : len < w = omega (arith, (full_blocks w len 0 c.width.ensures.width (sym c.if-full-eq0.true ∙ (c.block_of-full.ensures ∙ ap (λ k. len / k) c.width.ensures.value))).1) in
-    part_entries c.args.sought.now.text.now texts entries (0 * w) len (slice_get c.block.result.now.entries) (λ i below. c.block.ensures.entries i (omega (arith, below, one))) all c.requires.indexed.each
-
-pub find_among-requires-clause-in_order : goal.find_among-requires-clause-in_order
-find_among-requires-clause-in_order g c =
-    let entries = c.args.index.now.entries in let texts = c.args.sought.now.texts.now in let w = c.args.index.now.width in let len = c.len-len.result in
-    let long = length-entries c.args.sought.now.text.now texts entries c.requires.indexed in
-    let all : 0 * w + len ≤ length entries = omega (arith, long, c.len-len.ensures) in
-    let one : len < w = omega (arith, (full_blocks w len 0 c.width.ensures.width (sym c.if-full-eq0.true ∙ (c.block_of-full.ensures ∙ ap (λ k. len / k) c.width.ensures.value))).1) in
-    part_orders c.args.sought.now.text.now texts entries (0 * w) len (slice_get c.block.result.now.entries) (λ i below. c.block.ensures.entries i (omega (arith, below, one))) all c.requires.indexed
+pub find_among-requires-clause-sorted : goal.find_among-requires-clause-sorted
+find_among-requires-clause-sorted g c =
+    let entries = c.args.index.now.entries in let texts = c.args.sought.now.texts.now in let text = c.args.sought.now.text.now in let w = c.args.index.now.width in let len = c.len-len.result in
+    let few = none_full w len _ c.width.ensures.width (c.block_of-full.ensures ∙ ap (λ k. len / k) c.width.ensures.value) c.if-full-eq0.true in
+    part_sorted text texts entries (0 * w) len (slice_get c.block.result.now.entries) (λ i below. c.block.ensures.entries i (omega (arith, below, few)))
+    (omega (arith, length-entries text texts entries c.requires.indexed, c.len-len.ensures)) c.requires.indexed
 
 pub returns-then-full-eq0-clause-absent : goal.returns-then-full-eq0-clause-absent
 returns-then-full-eq0-clause-absent g c =
     let entries = c.args.index.now.entries in let texts = c.args.sought.now.texts.now in let text = c.args.sought.now.text.now in let w = c.args.index.now.width in let len = c.len-len.result in
+    let few = none_full w len _ c.width.ensures.width (c.block_of-full.ensures ∙ ap (λ k. len / k) c.width.ensures.value) c.if-full-eq0.true in
     let long = length-entries text texts entries c.requires.indexed in
-    let all : 0 * w + len ≤ length entries = omega (arith, long, c.len-len.ensures) in
-    let one : len < w = omega (arith, (full_blocks w len 0 c.width.ensures.width (sym c.if-full-eq0.true ∙ (c.block_of-full.ensures ∙ ap (λ k. len / k) c.width.ensures.value))).1) in
     IfErr-weaker c.find_among.result _ _ (λ place there.
-    subst (λ rank. IsNarrowed (λ other. order_of text texts (slice_get entries other)) (length entries) rank rank)
-    (let same : 0 * w + place ≡ place = omega arith in same)
-    (part_ranked text texts entries (0 * w) len (slice_get c.block.result.now.entries) (λ i below. c.block.ensures.entries i (omega (arith, below, one))) all c.requires.indexed place
+    subst (BelongsAt text texts (slice_get entries) (length entries)) (let same : 0 * w + place ≡ place = omega arith in same)
+    (part_ranked text texts entries (0 * w) len (slice_get c.block.result.now.entries) (λ i below. c.block.ensures.entries i (omega (arith, below, few)))
+    (omega (arith, long, c.len-len.ensures)) c.requires.indexed place
     (not_narrowed _ (length entries) (0 * w) (0 * w + len) (omega arith) (omega (arith, long, c.len-len.ensures))) there)) c.find_among.ensures.absent
 
 -- ---- there are full blocks
@@ -64,18 +52,16 @@ find_among-requires-2-clause-within g c =
     let full : c.block_of-full.result ≡ length entries / w = c.block_of-full.ensures ∙ (ap (λ k. c.len-len.result / k) c.width.ensures.value ∙ ap (λ n. n / w) long) in
     omega (arith, full)
 
-pub find_among-requires-2-clause-entries : goal.find_among-requires-2-clause-entries
-find_among-requires-2-clause-entries g c = λ place entry below at.
-    let w = c.args.index.now.width in
-    entry_of_rank c.args.sought.now.text.now c.args.sought.now.texts.now c.args.index.now.entries c.requires.indexed.each (place * w + (w - 1)) entry at
-
-pub find_among-requires-2-clause-in_order : goal.find_among-requires-2-clause-in_order
-find_among-requires-2-clause-in_order g c =
+pub find_among-requires-2-clause-sorted : goal.find_among-requires-2-clause-sorted
+find_among-requires-2-clause-sorted g c =
     let entries = c.args.index.now.entries in let texts = c.args.sought.now.texts.now in let text = c.args.sought.now.text.now in let w = c.args.index.now.width in
     let long : c.len-len.result ≡ length entries = omega (arith, length-entries text texts entries c.requires.indexed, c.len-len.ensures) in
     let full : c.block_of-full.result ≡ length entries / w = c.block_of-full.ensures ∙ (ap (λ k. c.len-len.result / k) c.width.ensures.value ∙ ap (λ n. n / w) long) in
-    tops_in_order (λ rank. order_of text texts (slice_get entries rank)) (length entries) (entries_in_order text texts entries c.requires.indexed) w c.block_of-full.result
-    (width_pos w c.width.ensures.width) (full_blocks w (length entries) c.block_of-full.result c.width.ensures.width full).0
+    record {
+      each = λ place entry below at. entry_of_rank text texts entries c.requires.indexed.each (place * w + (w - 1)) entry at;
+      in_order = tops_in_order (λ rank. order_of text texts (slice_get entries rank)) (length entries) (entries_in_order text texts entries c.requires.indexed) w c.block_of-full.result
+          (width_pos w c.width.ensures.width) (full_blocks w (length entries) c.block_of-full.result c.width.ensures.width full).0;
+    }
 
 pub find_others-requires-clause-full : goal.find_others-requires-clause-full
 find_others-requires-clause-full g c =
