@@ -1,23 +1,23 @@
 -- Facts on an interner's texts and on the index of them.
-use Rattle.std.proofs.Common.{◌≡◌, ◌≢◌, ℕ, zero, suc, ◌+◌, ◌<◌, ◌≤◌, Bool, true, false, cond, List, [], ◌∷◌, ◌++◌, length, take, drop, map, replicate, get_or, Option, Some, None, option_map, slice_get, ◌||◌, inl, inr, refl, sym, ap, subst, ◌∙◌, arith, Ordering, Less, Equal, Greater}
-use Rattle.std.specs.List.{All, AllByRecursion, Contains, IsDistinct, insert, list_any, position_from, range_with_len}
+use Rattle.std.proofs.Common.{◌≡◌, ◌≢◌, ℕ, zero, suc, ◌+◌, ◌<◌, ◌≤◌, Bool, true, false, cond, List, [], ◌∷◌, ◌++◌, length, take, drop, map, replicate, get_or, Option, Some, None, option_map, slice_get, inl, inr, refl, sym, ap, subst, ◌∙◌, arith, Ordering, Less, Equal, Greater}
+use Rattle.std.specs.List.{All, AllByRecursion, Contains, IsDistinct, insert, position_from, range_with_len}
 use Rattle.std.specs.List.Sorted.{IsStrictlySortedBy}
-use Rattle.std.specs.Ordering.{ordering_reverse}
+use Rattle.std.specs.Ordering.{eq_by_cmp, ordering_reverse}
 use Rattle.std.specs.Str.{bytes_eq}
 use Rattle.std.specs.Cmp.Lexicographic.{nat_list_eq_equiv}
 use Rattle.std.proofs.lemmas.Iterator.Adapters.{position_from-zero}
 use Rattle.std.proofs.lemmas.List.{get_or_append_left, get_or_push, length_push, length-map, take-map, drop-map, map-append}
 use Rattle.std.proofs.lemmas.List.Elements.{All-append, All-cons, All-drop, All-head, All-nil, All-tail, All-take, All-weaker}
-use Rattle.std.proofs.lemmas.List.FromFn.{length-range_with_len, get_or-range_with_len}
+use Rattle.std.proofs.lemmas.List.FromFn.{fill_by_all, length-range_with_len, get_or-range_with_len}
 use Rattle.std.proofs.lemmas.List.Quantifiers.{position-Some}
-use Rattle.std.proofs.lemmas.List.Sorted.{IsPermutation-refl, IsPermutation-cons, IsPermutation-to_front, IsPermutation-insert, IsPermutation-trans, length_permutation, All-permutation, Contains-permutation}
-use Rattle.std.proofs.lemmas.Map.Keys.{sorted_head, sorted_tail, IsDistinct-head, IsDistinct-tail, IsDistinct-push}
+use Rattle.std.proofs.lemmas.List.Sorted.{IsPermutation-refl, IsPermutation-cons, IsPermutation-to_front, IsPermutation-insert, IsPermutation-map, IsPermutation-sym, IsPermutation-trans, length_permutation, All-permutation, Contains-permutation}
+use Rattle.std.proofs.lemmas.Map.Keys.{sorted_head, sorted_tail, IsDistinct-from_sorted, IsDistinct-head, IsDistinct-tail, IsDistinct-IsPermutation}
 use Rattle.std.proofs.lemmas.Option.{none-some, same_Some, slice_get-map, slice_get_within, slice_get-get_or, get_or_from_slice_get}
 use Rattle.std.proofs.lemmas.Slice.Eq.{bytes_eq-Decides}
 use Rattle.wasmi_collections.proofs.Dedup.{found_last}
 use Rattle.wasmi_collections.specs.Interner.{symbol_of, AreDistinctTexts}
 use Rattle.wasmi_collections.specs.LenOrder.{len_cmp}
-use Rattle.wasmi_collections.specs.LenOrderLaws.{len_cmp_total, len_cmp-Equal}
+use Rattle.wasmi_collections.specs.LenOrderLaws.{len_cmp_total, len_cmp-Equal, len_ties}
 use Rattle.wasmi_collections.proofs.Search.{in_order, none_left, part_in_order, part_narrowed}
 use Rattle.wasmi_collections.specs.Search.{IsInOrder, IsNarrowed, IsSearchable}
 use Rattle.wasmi_collections.specs.TextIndex.{AreEntriesOf, AreInOrder, BelongsAt, IsEntryOf, IsIndexOf, order_of, symbols_of, texts_of}
@@ -107,16 +107,6 @@ module _ (text : List ℕ) where
       let other : bytes_eq text x ≡ false = other_fails x (λ same. nowhere 0 (ap Some same)) in
       rw other (no_place (i + 1) xs (λ s. nowhere (suc s)))
 
-  none_passes : (i : ℕ) (texts : List (List ℕ)) → position_from (bytes_eq text) i texts ≡ None → list_any (bytes_eq text) texts ≡ false
-  none_passes i [] none = refl
-  none_passes i (x ∷ xs) none = next (bytes_eq text x) none (none_passes (i + 1) xs)
-    where
-      next : (b : Bool) → cond b (Some i) (position_from (bytes_eq text) (i + 1) xs) ≡ None
-          → (position_from (bytes_eq text) (i + 1) xs ≡ None → list_any (bytes_eq text) xs ≡ false)
-          → (b || list_any (bytes_eq text) xs) ≡ false
-      next true none rest = absurd (none-some i (sym none))
-      next false none rest = rest none
-
   -- a text that stands at a position has it as its symbol
   pub symbol_of-at : (texts : List (List ℕ)) (s : ℕ) → AreDistinctTexts texts → slice_get texts s ≡ Some text → symbol_of texts text ≡ Some s
   symbol_of-at texts s distinct at =
@@ -153,11 +143,6 @@ module _ (text : List ℕ) where
   symbol_of-push other texts s is =
       position_from-zero (bytes_eq other) (texts ++ text ∷ [])
       ∙ kept_place other 0 texts s (sym (position_from-zero (bytes_eq other) texts) ∙ is)
-
-  -- a text that isn't there may be added
-  pub AreDistinctTexts-push : (texts : List (List ℕ)) → AreDistinctTexts texts → symbol_of texts text ≡ None → AreDistinctTexts (texts ++ text ∷ [])
-  AreDistinctTexts-push texts distinct absent =
-      IsDistinct-push nat_list_eq_equiv texts text distinct (none_passes 0 texts (sym (position_from-zero (bytes_eq text) texts) ∙ absent))
 
 -- ---- the index
 
@@ -207,6 +192,18 @@ module _ (texts : List (List ℕ)) (symbols : List ℕ) (is : IsIndexOf texts sy
       let order = order_at text texts symbols there.0 s ranked in
       let equal = (len_cmp-Equal (get_or texts s []) text).1 (get_or_from_slice_get texts s text [] at) in
       no_equal less greater there.0 (rw (← orders) (order ∙ ap Some equal))
+
+  -- the texts ascend, so no two of them are equal
+  pub distinct_texts : AreDistinctTexts texts
+  distinct_texts =
+      let read : ℕ → List ℕ = λ symbol. get_or texts symbol [] in
+      let range = range_with_len 0 (length texts) in
+      let ties : bytes_eq ≡ eq_by_cmp len_cmp = λ i x y. len_ties x y i in
+      let in_range : texts ≡ map read range = fill_by_all read texts (length texts) [] refl (λ place below. refl) in
+      subst AreDistinctTexts (sym in_range)
+      (IsDistinct-IsPermutation bytes_eq nat_list_eq_equiv.symm (map read symbols) (map read range)
+      (IsPermutation-sym (map read range) (map read symbols) (IsPermutation-map read range symbols is.complete))
+      (subst (λ eq. IsDistinct eq (map read symbols)) (sym ties) (IsDistinct-from_sorted len_cmp (map read symbols) is.ascending)))
 
 -- ---- one more text
 
@@ -344,7 +341,3 @@ IsIndexOf-nil = record { complete = IsPermutation-refl []; ascending = tt }
 
 pub AreEntriesOf-nil : AreEntriesOf [] []
 AreEntriesOf-nil = record { index = IsIndexOf-nil; each = All-nil (IsEntryOf []) }
-
-pub AreDistinctTexts-nil : AreDistinctTexts []
-unfolding IsDistinct
-AreDistinctTexts-nil = tt

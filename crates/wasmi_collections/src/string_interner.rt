@@ -144,15 +144,13 @@ pub struct StringInterner<A: Allocator = Global> {
 
 impl<A: Allocator> Model for StringInterner<A> {
     ghost use Rattle.std.specs.Prelude.{◌≤◌, ◌^◌, ℕ, List, length};
-    ghost use Rattle.wasmi_collections.specs.Interner.{AreDistinctTexts};
     ghost use Rattle.wasmi_collections.specs.TextIndex.{AreEntriesOf};
 
     ghost Value = { List (List ℕ) };
 
     ghost view = { λ interner. interner.texts };
 
-    ghost invariant = { λ interner. AreDistinctTexts interner.texts
-        × AreEntriesOf interner.texts interner.index.entries
+    ghost invariant = { λ interner. AreEntriesOf interner.texts interner.index.entries
         × (length interner.texts ≤ 2 ^ 32) };
 }
 

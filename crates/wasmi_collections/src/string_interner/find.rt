@@ -2,7 +2,7 @@
 ghost use Rattle.std.specs.Prelude.{◌≡◌, ℕ, ◌+◌, ◌-◌, ◌*◌, ◌/◌, ◌<◌, ◌≤◌, ◌^◌, [], ◌∷◌, ◌++◌, length, IfOk, IfErr, None, Some, slice_get};
 ghost use Rattle.std.specs.List.{insert};
 ghost use Rattle.wasmi_collections.specs.BinaryDigits.{digits};
-ghost use Rattle.wasmi_collections.specs.Interner.{symbol_of, AreDistinctTexts};
+ghost use Rattle.wasmi_collections.specs.Interner.{symbol_of};
 ghost use Rattle.wasmi_collections.specs.Search.{IsSide};
 ghost use Rattle.wasmi_collections.specs.TextIndex.{AreEntriesOf, AreInOrder, BelongsAt, IsEntryOf, IsKeyAt, order_of};
 ghost use Rattle.wasmi_collections.specs.TextKey.{IsKeyOf};
@@ -25,7 +25,6 @@ pub(super) fn find<A: Allocator>(
     steps: &mut Steps,
 ) -> Result<Sym, usize>
     requires indexed { AreEntriesOf sought.now.texts.now index.now.entries }
-    requires distinct { AreDistinctTexts sought.now.texts.now }
     requires countable { steps.old ≤ 2 ^ 63 }
     ensures there { IfOk result (λ symbol. symbol_of sought.now.texts.now sought.now.text.now ≡ Some symbol) }
     ensures absent { IfErr result (λ rank. symbol_of sought.now.texts.now sought.now.text.now ≡ None) }

@@ -1,11 +1,11 @@
 use Rattle.std.proofs.lemmas.Result.{IfErr-weaker, IfOk-weaker}
 use Rattle.wasmi_collections.specs.TextIndex.{symbols_of}
-use Rattle.wasmi_collections.proofs.TextIndex.{AreEntriesOf-insert, found_nowhere, ranked, symbol_of-at, symbol_of-nowhere}
+use Rattle.wasmi_collections.proofs.TextIndex.{AreEntriesOf-insert, distinct_texts, found_nowhere, ranked, symbol_of-at, symbol_of-nowhere}
 use Rattle.wasmi_collections.proofs.string_interner.find.find.Goals as goal
 
 pub returns-clause-there : goal.returns-clause-there
 returns-clause-there g c =
-    IfOk-weaker c.find_in_index.result _ _ (λ symbol at. symbol_of-at c.args.sought.now.text.now _ symbol c.requires.distinct at) c.find_in_index.ensures.there
+    IfOk-weaker c.find_in_index.result _ _ (λ symbol at. symbol_of-at c.args.sought.now.text.now _ symbol (distinct_texts c.args.sought.now.texts.now (symbols_of c.args.index.now.entries) c.requires.indexed.index) at) c.find_in_index.ensures.there
 
 pub returns-clause-absent : goal.returns-clause-absent
 returns-clause-absent g c =
