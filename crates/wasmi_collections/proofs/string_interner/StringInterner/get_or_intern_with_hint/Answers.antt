@@ -14,11 +14,5 @@ invariant_of-self-2 g c =
       omega (arith, length_push before c.args.text.now, small.0, c.len.ensures),
     )
 
-pub insert-requires-clause-within : goal.insert-requires-clause-within
-insert-requires-clause-within g c = rw c.in_ok-reserve.ensures.entries c.in-Err.ensures.rank.0
-
 pub invariant_of-self : goal.invariant_of-self
 invariant_of-self g c = rw c.in_err-reserve.ensures.entries c.self.invariant
-
-pub invariant_of-self-in_err-push : goal.invariant_of-self-in_err-push
-invariant_of-self-in_err-push g c = rw (c.in_err-push.ensures.err, c.in_ok-reserve.ensures.entries) c.self.invariant

@@ -84,32 +84,9 @@ side_at-side-requires-clause-entry g c =
     let now = c.loop-half.invariant in
     λ entry at. c.requires.sorted.each c.loop-half.low entry (omega (arith, now.narrowed.within, now.some)) at
 
-pub side_at-side-requires-clause-key : goal.side_at-side-requires-clause-key
-side_at-side-requires-clause-key g c =
-    let last : c.loop-half.low + c.loop-half.half ≡ c.loop-half.low = omega (arith, c.loop-half-test.false) in
-    subst (λ place. IsKeyAt c.loop-half.key.head c.loop-half.key.tail (g.P.Places.entry c.args.places.now place)) last c.loop-half.invariant.key
-
 pub side_at-side-requires-clause-countable : goal.side_at-side-requires-clause-countable
 side_at-side-requires-clause-countable g c =
     omega (arith, c.loop-half.invariant.few, digits_le c.args.len, c.requires.countable)
-
-pub returns-in-Some-side-clause-absent : goal.returns-in-Some-side-clause-absent
-returns-in-Some-side-clause-absent g c =
-    let now = c.loop-half.invariant in
-    let low = c.loop-half.low in let skipped = c.loop-half.skipped in let half = c.loop-half.half in
-    let last = c.loop-half-test.false in
-    let place = c.select_usize.result in let chosen = c.select_usize.ensures in
-    let some = now.some in let near = now.near in
-    elim (order_of_side _ c.in-Some-side.less c.in-Some-side.ensures.side) [
-      | inl less ↦
-          let at_next : place ≡ low + 1 = rw (less.0) at chosen in
-          narrowed_low _ c.args.len c.requires.sorted.in_order low (low + skipped + half) low place place now.narrowed
-          (omega (arith, some)) (omega (arith, at_next)) (omega arith) (omega (arith, at_next, some, near, last)) less.1
-      | inr greater ↦
-          let at_low : place ≡ low = rw (greater.0) at chosen in
-          narrowed_high _ c.args.len c.requires.sorted.in_order low (low + skipped + half) low place place now.narrowed
-          (omega arith) (omega (arith, some)) at_low (omega (arith, at_low)) greater.1
-    ]
 
 pub returns-in-Some-side-clause-many_steps : goal.returns-in-Some-side-clause-many_steps
 returns-in-Some-side-clause-many_steps g c =

@@ -1,5 +1,4 @@
 use Rattle.std.proofs.Common.{◌<◌, ◌+◌, ◌*◌, ◌∙◌, ap, sym, subst, arith, slice_get, length, vec_items}
-use Rattle.wasmi_collections.specs.IndexBlocks.{IsWidth}
 use Rattle.wasmi_collections.specs.TextIndex.{Ranked}
 use Rattle.wasmi_collections.proofs.IndexBlocks.{block_at, block_small, placed, width_pos}
 use Rattle.wasmi_collections.proofs.string_interner.index.Index.block.Goals as goal
@@ -9,9 +8,6 @@ index-requires g c =
     let blocks = vec_items c.self.inside.blocks in let number = c.args.number in let w = c.self.inside.width in
     let below = subst (λ (s : Ranked). number * s.width < length s.entries) (sym c.self.view_is) c.requires in
     omega (arith, (placed w blocks number 0 (number * w) c.self.invariant.2 (width_pos w c.self.invariant.0) (omega arith) below).0, c.self.inside.blocks.ok)
-
-pub returns-clause-width : goal.returns-clause-width
-returns-clause-width g c = subst (λ (s : Ranked). IsWidth s.width) c.self.view_is c.self.invariant.0
 
 pub returns-clause-most : goal.returns-clause-most
 returns-clause-most g c =

@@ -17,28 +17,6 @@ module _ (blocks : List BlockState) (next made : ℕ) (twos : next ≡ made + ma
   one_more : next < length blocks → next + 1 < length blocks
   one_more before = omega (arith, before, twos, even)
 
-pub joined-requires-clause-one : goal.joined-requires-clause-one
-joined-requires-clause-one g c =
-    let blocks = vec_items c.args.blocks.now in let now = c.loop-next in
-    let before = one_more blocks now.next (length (vec_items now.wider)) now.invariant.twos c.requires.even (omega (arith, c.loop-next-test.true, c.len-in-loop-next.ensures, c.args.blocks.now.ok)) in
-    let is = full_at c.requires.halves.0 blocks now.next c.index.result.now c.requires.halves.2 (omega (arith, before)) c.index.ensures in
-    is.full ∙ sym is.width
-
-pub joined-requires-clause-other : goal.joined-requires-clause-other
-joined-requires-clause-other g c =
-    let blocks = vec_items c.args.blocks.now in let now = c.loop-next in
-    let before = one_more blocks now.next (length (vec_items now.wider)) now.invariant.twos c.requires.even (omega (arith, c.loop-next-test.true, c.len-in-loop-next.ensures, c.args.blocks.now.ok)) in
-    let is = full_at c.requires.halves.0 blocks (now.next + 1) c.index-in-loop-next.result.now c.requires.halves.2 before c.index-in-loop-next.ensures in
-    is.full ∙ sym is.width
-
-pub joined-requires-clause-width : goal.joined-requires-clause-width
-joined-requires-clause-width g c =
-    let blocks = vec_items c.args.blocks.now in let now = c.loop-next in
-    let before = one_more blocks now.next (length (vec_items now.wider)) now.invariant.twos c.requires.even (omega (arith, c.loop-next-test.true, c.len-in-loop-next.ensures, c.args.blocks.now.ok)) in
-    let one = full_at c.requires.halves.0 blocks now.next c.index.result.now c.requires.halves.2 (omega (arith, before)) c.index.ensures in
-    let other = full_at c.requires.halves.0 blocks (now.next + 1) c.index-in-loop-next.result.now c.requires.halves.2 before c.index-in-loop-next.ensures in
-    omega (arith, one.width, other.width, c.requires.halves.1)
-
 pub loop-next-preserved : goal.loop-next-preserved
 loop-next-preserved g c =
     let blocks = vec_items c.args.blocks.now in let w = c.args.width.now in let now = c.loop-next in let wider = vec_items now.wider in

@@ -1,4 +1,4 @@
-use Rattle.std.proofs.Common.{◌≡◌, ◌+◌, ◌-◌, ◌<◌, ℕ, List, refl, ap, ◌∙◌, arith, length, vec_items}
+use Rattle.std.proofs.Common.{◌≡◌, ◌+◌, ◌-◌, ◌<◌, ℕ, List, refl, arith, length}
 use Rattle.std.specs.List.{insert, remove}
 use Rattle.std.proofs.lemmas.List.{take_at}
 use Rattle.std.proofs.lemmas.List.Edits.{length-insert, length-remove}
@@ -24,11 +24,3 @@ returns-else-to-from-clause-items g c =
     let now = c.args.ring.now in let from = c.args.from in let to = c.args.to in let entry = c.args.entry in
     let moved = moved_up now.items from to entry (to + 1 - from) c.if-to-from.false (omega (arith, c.requires.to, now.ok)) refl in
     rw (c.rotate_left.ensures.after, c.deref_mut-else-to-from.ensures.value, c.replace-out.ensures.after) (rw moved (take_at _ _ now.len (omega (arith, as_many now.items from to entry (omega (arith, c.requires.from, now.ok)) (omega (arith, c.requires.to, now.ok)), now.ok))))
-
-pub returns-then-to-from-clause-len : goal.returns-then-to-from-clause-len
-returns-then-to-from-clause-len g c =
-    ap length (returns-then-to-from-clause-items g c) ∙ as_many (vec_items c.args.ring.now) c.args.from c.args.to c.args.entry c.requires.from c.requires.to
-
-pub returns-else-to-from-clause-len : goal.returns-else-to-from-clause-len
-returns-else-to-from-clause-len g c =
-    ap length (returns-else-to-from-clause-items g c) ∙ as_many (vec_items c.args.ring.now) c.args.from c.args.to c.args.entry c.requires.from c.requires.to
