@@ -41,7 +41,7 @@ module _ {T : Type 0} where
   like-own None = tt
   like-own (Some bucket) = (refl, refl)
 
-  pub like-items : (bucket : Option (Bucket T)) (items : List T) → AreLike bucket (with_items bucket items)
+  like-items : (bucket : Option (Bucket T)) (items : List T) → AreLike bucket (with_items bucket items)
   like-items None items = tt
   like-items (Some bucket) items = (length-refill bucket.items items, refl)
 
@@ -64,7 +64,7 @@ module _ {T : Type 0} where
   all_like-set (bucket ∷ buckets) (next ∷ others) (suc b) other all like = (all.0, all_like-set buckets others b other all.1 like)
 
   -- a bucket written over by the items of one like it is that one
-  pub with_items-like : (bucket other : Option (Bucket T)) (ws : List T) → AreLike bucket other → with_items bucket (items_in other ++ ws) ≡ other
+  with_items-like : (bucket other : Option (Bucket T)) (ws : List T) → AreLike bucket other → with_items bucket (items_in other ++ ws) ≡ other
   with_items-like None None ws like = refl
   with_items-like None (Some other) ws like = absurd like
   with_items-like (Some bucket) None ws like = absurd like

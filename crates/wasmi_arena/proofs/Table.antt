@@ -178,7 +178,7 @@ module _ {T : Type 0} where
       subst (λ (r : Option (Bucket T)). AreFilled (r ∷ take b buckets)) (sym table.0) (AreFilled-bucket_from width items (take b buckets) pos (omega arith) rest)
 
   -- the items of the last bucket come last
-  pub items_of_last : (buckets : List (Option (Bucket T))) (bucket : Bucket T) → items_of (buckets ++ Some bucket ∷ []) ≡ items_of buckets ++ bucket.items
+  items_of_last : (buckets : List (Option (Bucket T))) (bucket : Bucket T) → items_of (buckets ++ Some bucket ∷ []) ≡ items_of buckets ++ bucket.items
   items_of_last [] bucket = append-nil bucket.items
   items_of_last (None ∷ buckets) bucket = items_of_last buckets bucket
   items_of_last (Some first ∷ buckets) bucket = ap (λ (xs : List T). first.items ++ xs) (items_of_last buckets bucket) ∙ sym (append_assoc first.items (items_of buckets) bucket.items)

@@ -1,5 +1,5 @@
 -- Facts on entries in blocks of one width.
-use Rattle.std.proofs.Common.{◌≡◌, ℕ, zero, suc, ◌+◌, ◌-◌, ◌*◌, ◌/◌, ◌%◌, ◌^◌, ◌<◌, ◌≤◌, List, [], ◌∷◌, ◌++◌, length, take, get_or, slice_get, slice_set, Some, not, ◌==◌, nat_lt, refl, sym, ap, ◌∙◌, arith, inl, inr}
+use Rattle.std.proofs.Common.{◌≡◌, ℕ, zero, suc, ◌+◌, ◌-◌, ◌*◌, ◌/◌, ◌%◌, ◌^◌, ◌<◌, ◌≤◌, List, [], ◌∷◌, ◌++◌, length, take, get_or, slice_get, slice_set, Option, Some, not, ◌==◌, nat_lt, refl, sym, ap, ◌∙◌, arith, inl, inr}
 use Rattle.std.specs.List.{All, flat_map, insert}
 use Rattle.std.proofs.lemmas.Bool.{cases_lt}
 use Rattle.std.proofs.Math.Nat.{suc-mul}
@@ -9,6 +9,8 @@ use Rattle.std.proofs.lemmas.Option.{slice_get-get_or, slice_get_past, slice_get
 use Rattle.std.proofs.lemmas.List.{append_assoc, append-nil, length-append, length-set, get_or_append_left, get_or-append_right, take_more}
 use Rattle.std.proofs.lemmas.List.Edits.{insert-append_left, insert-append_right, length-insert}
 use Rattle.std.proofs.lemmas.Grind.{common_steps, flat_map-append}
+use Rattle.wasmi_collections.proofs.BinaryDigits.{few_in_rows, many_in_rows}
+use Rattle.wasmi_collections.specs.BinaryDigits.{digits}
 use Rattle.wasmi_collections.specs.declared.string_interner.entry.Entry.{Entry}
 use Rattle.wasmi_collections.specs.IndexBlocks.{AreFew, BlockState, IsFull, IsBlocks, IsWidth, entries_in, room_in}
 
@@ -32,18 +34,35 @@ full_blocks w n b is blocks =
     (omega (arith, at), omega (arith, at, mod_below n w (width_pos w is)))
 
 -- where none is full, there are fewer entries than a full one has
-pub none_full : (w n b : ℕ) → IsWidth w → b ≡ n / w → b ≡ 0 → n < w
-none_full w n b is blocks none = omega (arith, (full_blocks w n 0 is (sym none ∙ blocks)).1)
+pub none_full : (w n b wide : ℕ) → IsWidth w → wide ≡ w → b ≡ n / wide → b ≡ 0 → n < w
+none_full w n b wide is same blocks none = omega (arith, (full_blocks w n 0 is (sym none ∙ (blocks ∙ ap (λ k. n / k) same))).1)
 
--- each of them lies within the entries
+-- each full one lies within the entries
 pub full_within : (w n b number : ℕ) → IsWidth w → b ≡ n / w → number < b → number * w + w ≤ n
 full_within w n b number is blocks below = omega (arith, row_fits number w b w below (omega arith), (full_blocks w n b is blocks).0)
 
--- and with it the others of one, in front of its last
-pub others_within : (w n b number wide : ℕ) → IsWidth w → b ≡ n / w → number < b → wide ≡ w → (number * wide + (wide - 1) ≤ n) × (wide ≤ n)
-others_within w n b number wide is blocks below same =
-    let all = full_within w n b number is blocks below in
-    rw same (omega (arith, all), omega (arith, all))
+-- so where one is full, there are at least as many as it has
+pub full_fits : (w n b wide : ℕ) → IsWidth w → b ≡ n / w → 0 < b → wide ≡ w → wide ≤ n
+full_fits w n b wide is blocks some same = omega (arith, same, full_within w n b 0 is blocks some)
+
+-- the others of one, without its last, lie within them too
+pub others_within : (w n b number wide : ℕ) → IsWidth w → b ≡ n / w → number < b → wide ≡ w → number * wide + (wide - 1) ≤ n
+others_within w n b number wide is blocks below same = rw same (omega (arith, full_within w n b number is blocks below))
+
+-- and these are those of their ranks
+pub others_same : (w number wide : ℕ) (part : ℕ → Option Entry) (entries : List Entry) → wide ≡ w
+    → ((place : ℕ) → place < w → part place ≡ slice_get entries (number * w + place))
+    → (place : ℕ) → place < wide - 1 → part place ≡ slice_get entries (number * wide + place)
+others_same w number wide part entries same block place below = rw same (block place (omega (arith, below, same)))
+
+-- a search of the full blocks' last entries and then of the others of one takes no more digits than all entries have
+pub few_in_blocks : (w n b : ℕ) → IsWidth w → b ≡ n / w → 0 < b → n < 2 ^ 64 → digits b + digits (w - 1) ≤ digits n
+few_in_blocks w n b is blocks some small = few_in_rows is.0 w b n is.2 some (full_blocks w n b is blocks).0 small
+
+-- and no fewer, where one more is one more
+pub many_in_blocks : (w n b : ℕ) → IsWidth w → b ≡ n / w → digits (n + 1) + 1 ≤ digits (b + 1) + digits w
+many_in_blocks w n b is blocks =
+    many_in_rows is.0 w b (n + 1) is.2 (omega (arith, width_most w is)) (omega (arith, (full_blocks w n b is blocks).1))
 
 -- the block and the place of a rank
 pub placed : (w : ℕ) (blocks : List BlockState) (b p rank : ℕ) → IsBlocks w blocks → p < w → rank ≡ b * w + p → rank < length (entries_in blocks)

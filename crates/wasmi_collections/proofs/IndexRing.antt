@@ -14,12 +14,6 @@ seam : (xs ys : List Entry) (n : ℕ) → length xs ≡ n → from_first (xs ++ 
 seam xs ys n long = subst (λ m. from_first (xs ++ ys) m ≡ ys ++ xs) long (λ i. drop-append_seam xs ys i ++ take-append_seam xs ys i)
 
 module _ (ring : List Entry) (f : ℕ) (out x : Entry) (below : f < length ring) (taken : out ≡ get_or ring f out) where
-  kept : List Entry
-  kept = take f ring
-
-  upper : List Entry
-  upper = drop (suc f) ring
-
   kept_long : length (take f ring) ≡ f
   kept_long = length-take-le f ring (omega (arith, below))
 

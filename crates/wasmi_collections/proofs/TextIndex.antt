@@ -20,7 +20,7 @@ use Rattle.wasmi_collections.specs.LenOrder.{len_cmp}
 use Rattle.wasmi_collections.specs.LenOrderLaws.{len_cmp_total, len_cmp-Equal, len_ties}
 use Rattle.wasmi_collections.proofs.Search.{in_order, none_left, part_in_order, part_narrowed}
 use Rattle.wasmi_collections.specs.Search.{IsInOrder, IsNarrowed, IsSearchable}
-use Rattle.wasmi_collections.specs.TextIndex.{AreEntriesOf, AreInOrder, BelongsAt, IsEntryOf, IsIndexOf, order_of, symbols_of, texts_of}
+use Rattle.wasmi_collections.specs.TextIndex.{AreEntriesOf, AreSortedEntries, BelongsAt, IsEntryOf, IsIndexOf, order_of, symbols_of, texts_of}
 use Rattle.wasmi_collections.specs.TextKey.{IsKeyOf}
 use Rattle.wasmi_collections.specs.declared.string_interner.entry.Entry.{Entry}
 
@@ -299,13 +299,14 @@ module _ (text : List ℕ) (texts : List (List ℕ)) (entries : List Entry) wher
 
   -- so many entries from a rank on
   module _ (start len : ℕ) (part : ℕ → Option Entry) (same : (i : ℕ) → i < len → part i ≡ slice_get entries (start + i)) (within : start + len ≤ length entries) where
-    pub part_sorted : AreEntriesOf texts entries → AreInOrder text texts part len
+    pub part_sorted : AreEntriesOf texts entries → AreSortedEntries text texts part len
     part_sorted is = record {
       each = λ place entry below at. entry_of_rank is.each (start + place) entry (sym (same place below) ∙ at);
       in_order = part_in_order (λ rank. order_of text texts (slice_get entries rank)) (length entries) (entries_in_order is) start len (λ place. order_of text texts (part place))
           (λ i below. ap (order_of text texts) (same i below)) within;
     }
 
+    -- what belongs at one of them belongs at its rank
     pub part_ranked : AreEntriesOf texts entries → (place : ℕ) → IsNarrowed (λ rank. order_of text texts (slice_get entries rank)) (length entries) start (start + len)
         → BelongsAt text texts part len place → BelongsAt text texts (slice_get entries) (length entries) (start + place)
     part_ranked is place =

@@ -46,9 +46,9 @@ IsKeyAt head tail there = (entry : Entry) × (there ≡ Some entry) × (entry.he
 abbrev pub order_of : List ℕ → List (List ℕ) → Option Entry → Option Ordering
 order_of text texts entry = option_map (λ e. len_cmp (slice_index_or texts e.symbol []) text) entry
 
--- so many places, each with its entry, have entries of an index of these texts, in the order in which another text is
--- searched
-pub record AreInOrder (text : List ℕ) (texts : List (List ℕ)) (entry : ℕ → Option Entry) (count : ℕ) : Type 0 where
+-- what stands at so many places are entries of an index of these texts, and of two of them the text of the earlier is
+-- less than another one, or that of the later greater
+pub record AreSortedEntries (text : List ℕ) (texts : List (List ℕ)) (entry : ℕ → Option Entry) (count : ℕ) : Type 0 where
   pub each : (place : ℕ) (there : Entry) → place < count → entry place ≡ Some there → IsEntryOf texts there
   pub in_order : IsInOrder (λ place. order_of text texts (entry place)) count
 

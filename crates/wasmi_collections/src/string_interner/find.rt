@@ -1,10 +1,10 @@
 //! The search for a text in an interner.
-ghost use Rattle.std.specs.Prelude.{◌≡◌, ℕ, ◌+◌, ◌-◌, ◌*◌, ◌/◌, ◌<◌, ◌≤◌, ◌^◌, [], ◌∷◌, ◌++◌, length, IfOk, IfErr, None, Some, slice_get};
+ghost use Rattle.std.specs.Prelude.{◌≡◌, ◌+◌, ◌-◌, ◌*◌, ◌/◌, ◌<◌, ◌≤◌, ◌^◌, [], ◌∷◌, ◌++◌, length, IfOk, IfErr, None, Some, slice_get};
 ghost use Rattle.std.specs.List.{insert};
 ghost use Rattle.wasmi_collections.specs.BinaryDigits.{digits};
 ghost use Rattle.wasmi_collections.specs.Interner.{symbol_of};
 ghost use Rattle.wasmi_collections.specs.Search.{IsSide};
-ghost use Rattle.wasmi_collections.specs.TextIndex.{AreEntriesOf, AreInOrder, BelongsAt, IsEntryOf, IsKeyAt, order_of};
+ghost use Rattle.wasmi_collections.specs.TextIndex.{AreEntriesOf, AreSortedEntries, BelongsAt, IsEntryOf, IsKeyAt, order_of};
 ghost use Rattle.wasmi_collections.specs.TextKey.{IsKeyOf};
 ghost use Rattle.wasmi_collections.specs.declared.string_interner.entry.Entry.{Entry};
 
@@ -38,8 +38,10 @@ pub(super) fn find<A: Allocator>(
     find_in_index(index, sought, steps)
 }
 
-// As `find`, told by the entries. The last entries of the full blocks are searched first, and then what
-// `find_others` searches. Where no block is full, there is one, which is searched whole.
+// As `find`, but its clauses say where the text stands or belongs among the entries.
+//
+// The last entries of the full blocks are searched first, and then what `find_others` searches. Where no block is full,
+// there is one, which is searched whole.
 fn find_in_index<A: Allocator>(
     index: &Index<A>,
     sought: &Sought<'_, A>,
@@ -111,8 +113,8 @@ fn find_others<A: Allocator>(
 // The symbol of a text that is searched among the entries of so many places, or as an error the place where it
 // belongs.
 //
-// Both keys that the next look may need are read beside the comparison, so that none waits for memory. Not inlined, it
-// would hand its answer on through memory.
+// The keys at both places where the next look may be are read before one is selected, so that reading doesn't wait for
+// the comparison. If it weren't inlined, its result would go through memory.
 #[inline(always)]
 fn find_among<P: Places, A: Allocator>(
     places: &P,
@@ -122,7 +124,7 @@ fn find_among<P: Places, A: Allocator>(
 ) -> Result<Sym, usize>
     requires some { 0 < len }
     requires within { len ≤ P.count places.now }
-    requires sorted { AreInOrder sought.now.text.now sought.now.texts.now (P.entry places.now) len }
+    requires sorted { AreSortedEntries sought.now.text.now sought.now.texts.now (P.entry places.now) len }
     requires countable { steps.old ≤ 2 ^ 63 + 64 }
     ensures there { IfOk result (λ symbol. slice_get sought.now.texts.now symbol ≡ Some sought.now.text.now) }
     ensures absent { IfErr result (λ place. BelongsAt sought.now.text.now sought.now.texts.now (P.entry places.now) len place) }
@@ -130,7 +132,8 @@ fn find_among<P: Places, A: Allocator>(
     ensures some_steps { steps.old < steps.new }
     ensures many_steps { IfErr result (λ _. steps.old + digits (len + 1) ≤ steps.new + 1) }
 {
-    // A counter behind a `&mut` might lie among the entries, so each look would read again where they lie.
+    // Counted in a local: through the `&mut` each step is a store, after which the compiler reads again where the
+    // entries lie.
     let mut taken = mem::replace(steps, Steps::new());
     let mut low = 0;
     let mut half = half_of(len);

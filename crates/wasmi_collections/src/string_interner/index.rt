@@ -110,8 +110,8 @@ impl<A: Allocator> Index<A> {
         self.block(number).last()
     }
 
-    // Makes room for one more entry. Where all blocks are full, they are widened or joined where `widen` does so, and
-    // one more is opened if they are full then.
+    // Makes room for one more entry. Where all blocks are full, `widen` may give the one that stands alone room, or
+    // join them. If they are full then, one more is opened.
     pub(super) fn reserve(&mut self) -> Result<(), ArenaError>
     where
         A: Clone,

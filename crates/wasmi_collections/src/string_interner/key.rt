@@ -20,7 +20,7 @@ const HEAD: u128 = 1 << 64;
 // of two texts differ, they compare as the texts do.
 #[derive(Copy, Clone)]
 pub(super) struct Key {
-    // The length, or 255 for that of a long text, and seven bytes,
+    // The length, or 255 of a long text, and its first seven bytes, which are 0 of a long text,
     pub(super) head: u64,
     // and four bytes more, in a word, so that one of two is selected as the head is.
     pub(super) tail: u64,

@@ -54,7 +54,7 @@ impl<A: Allocator> Places for Tops<'_, A> {
 pub(super) struct Suffix<'a, A: Allocator> {
     pub(super) index: &'a Index<A>,
     pub(super) start: usize,
-    // Each rank, `start` and a place, is a `usize`.
+    // There are fewer than 2^64 entries, so `start` and a place is a `usize`.
     ghost fits: { length index.now.entries < 2 ^ 64 },
 }
 

@@ -53,8 +53,8 @@ pub fn search<P: Probe>(len: usize, probe: &mut P) -> Result<usize, usize>
     Err(low)
 }
 
-// The greatest number that is less than another one, and one less than a power of two. Of so many places each look of a
-// search leaves as many on both sides, so that none is looked at twice, and there are as many wherever an item belongs.
+// The greatest number that is less than another one, and one less than a power of two. Each look into so many places
+// leaves as many on both sides, so a search of them that finds nothing takes as many looks wherever the item belongs.
 #[inline]
 pub(super) fn half_of(len: usize) -> usize
     requires { 0 < len }

@@ -1,7 +1,7 @@
-use Rattle.std.proofs.Common.{◌≡◌, ℕ, ◌+◌, ◌-◌, ◌*◌, ◌∙◌, Option, Ordering, ap, arith, length, refl, slice_get, subst, sym}
+use Rattle.std.proofs.Common.{◌≡◌, ℕ, ◌+◌, ◌-◌, ◌*◌, ◌∙◌, Option, Ordering, arith, length, refl, slice_get, subst, sym}
 use Rattle.wasmi_collections.specs.Search.{IsNarrowed}
 use Rattle.wasmi_collections.specs.TextIndex.{BelongsAt, order_of}
-use Rattle.wasmi_collections.proofs.IndexBlocks.{full_blocks, others_within, reaches, width_least, width_pos}
+use Rattle.wasmi_collections.proofs.IndexBlocks.{full_blocks, full_fits, others_same, others_within, reaches, width_least, width_pos}
 use Rattle.wasmi_collections.proofs.Search.{behind_tops, in_block}
 use Rattle.wasmi_collections.proofs.TextIndex.{entries_in_order, length-entries, part_ranked, part_sorted}
 use Rattle.wasmi_collections.proofs.string_interner.find.find_others.Goals as goal
@@ -16,16 +16,16 @@ find_among-requires-clause-within g c =
     let entries = c.args.index.now.entries in let w = c.args.index.now.width in let wide = c.get-width.result in let number = c.args.number in
     let same = c.get-width.ensures.value ∙ c.width.ensures.value in
     reaches c.block.result.now.entries entries (number * wide) (wide - 1)
-    (λ place below. c.block.ensures.entries place (omega (arith, below, same)) ∙ ap (λ k. slice_get entries (number * k + place)) (sym same))
-    (others_within w (length entries) c.args.full number wide c.width.ensures.width c.requires.full c.if-number-full.true same).0
+    (others_same w number wide (slice_get c.block.result.now.entries) entries same c.block.ensures.entries)
+    (others_within w (length entries) c.args.full number wide c.width.ensures.width c.requires.full c.if-number-full.true same)
 
 pub find_among-requires-clause-sorted : goal.find_among-requires-clause-sorted
 find_among-requires-clause-sorted g c =
     let entries = c.args.index.now.entries in let w = c.args.index.now.width in let wide = c.get-width.result in let number = c.args.number in
     let same = c.get-width.ensures.value ∙ c.width.ensures.value in
     part_sorted c.args.sought.now.text.now c.args.sought.now.texts.now entries (number * wide) (wide - 1) (slice_get c.block.result.now.entries)
-    (λ place below. c.block.ensures.entries place (omega (arith, below, same)) ∙ ap (λ k. slice_get entries (number * k + place)) (sym same))
-    (others_within w (length entries) c.args.full number wide c.width.ensures.width c.requires.full c.if-number-full.true same).0 c.requires.indexed
+    (others_same w number wide (slice_get c.block.result.now.entries) entries same c.block.ensures.entries)
+    (others_within w (length entries) c.args.full number wide c.width.ensures.width c.requires.full c.if-number-full.true same) c.requires.indexed
 
 pub overflow_mul-result : goal.overflow_mul-result
 overflow_mul-result g c =
@@ -33,7 +33,7 @@ overflow_mul-result g c =
     let same = c.get-width.ensures.value ∙ c.width.ensures.value in
     omega (
       arith,
-      (others_within w (length entries) c.args.full c.args.number _ c.width.ensures.width c.requires.full c.if-number-full.true same).0,
+      (others_within w (length entries) c.args.full c.args.number _ c.width.ensures.width c.requires.full c.if-number-full.true same),
       length-entries c.args.sought.now.text.now _ entries c.requires.indexed,
       c.len-len.ensures,
       c.len-len.type_inv,
@@ -45,7 +45,7 @@ overflow_add-result g c =
     let same = c.get-width.ensures.value ∙ c.width.ensures.value in
     omega (
       arith,
-      (others_within w (length entries) c.args.full c.args.number _ c.width.ensures.width c.requires.full c.if-number-full.true same).0,
+      (others_within w (length entries) c.args.full c.args.number _ c.width.ensures.width c.requires.full c.if-number-full.true same),
       c.in-Err.ensures.absent.within,
       length-entries c.args.sought.now.text.now _ entries c.requires.indexed,
       c.len-len.ensures,
@@ -61,8 +61,8 @@ returns-in-Err-clause-absent g c =
     let whole = in_block (λ rank. order_of text texts (slice_get entries rank)) (length entries) (entries_in_order text texts entries c.requires.indexed) w full
     (width_pos w c.width.ensures.width) rows.0 number c.if-number-full.true c.requires.number in
     part_ranked text texts entries (number * wide) (wide - 1) (slice_get c.block.result.now.entries)
-    (λ place below. c.block.ensures.entries place (omega (arith, below, same)) ∙ ap (λ k. slice_get entries (number * k + place)) (sym same))
-    (others_within w (length entries) full number wide c.width.ensures.width c.requires.full c.if-number-full.true same).0
+    (others_same w number wide (slice_get c.block.result.now.entries) entries same c.block.ensures.entries)
+    (others_within w (length entries) full number wide c.width.ensures.width c.requires.full c.if-number-full.true same)
     c.requires.indexed c.in-Err.place (rw same whole) c.in-Err.ensures.absent
 
 -- ---- behind all full blocks
@@ -73,7 +73,7 @@ overflow_sub-start g c =
     let same = c.get-width.ensures.value ∙ c.width.ensures.value in
     omega (
       arith,
-      (others_within w (length entries) c.args.full 0 _ c.width.ensures.width c.requires.full c.requires.some same).1,
+      full_fits w (length entries) c.args.full _ c.width.ensures.width c.requires.full c.requires.some same,
       length-entries c.args.sought.now.text.now _ entries c.requires.indexed,
       c.len-len.ensures,
     )
@@ -91,7 +91,7 @@ find_among-requires-else-number-full-clause-within g c =
     let same = c.get-width.ensures.value ∙ c.width.ensures.value in
     omega (
       arith,
-      (others_within w (length entries) c.args.full 0 _ c.width.ensures.width c.requires.full c.requires.some same).1,
+      full_fits w (length entries) c.args.full _ c.width.ensures.width c.requires.full c.requires.some same,
       length-entries c.args.sought.now.text.now _ entries c.requires.indexed,
       c.len-len.ensures,
     )
@@ -103,7 +103,7 @@ find_among-requires-else-number-full-clause-sorted g c =
     part_sorted text c.args.sought.now.texts.now entries start others (λ place. slice_get entries (start + place)) (λ place below. refl)
     (omega (
       arith,
-      (others_within w (length entries) c.args.full 0 _ c.width.ensures.width c.requires.full c.requires.some same).1,
+      full_fits w (length entries) c.args.full _ c.width.ensures.width c.requires.full c.requires.some same,
       length-entries text _ entries c.requires.indexed,
       c.len-len.ensures,
     )) c.requires.indexed
@@ -116,7 +116,7 @@ returns-in-Err-find_among-clause-absent g c =
     let rows = full_blocks w (length entries) full c.width.ensures.width c.requires.full in
     let order : ℕ → Option Ordering = λ rank. order_of text texts (slice_get entries rank) in
     let long = length-entries text texts entries c.requires.indexed in
-    let one = (others_within w (length entries) full 0 wide c.width.ensures.width c.requires.full c.requires.some same).1 in
+    let one = full_fits w (length entries) full wide c.width.ensures.width c.requires.full c.requires.some same in
     let last : c.args.number ≡ full = omega (arith, c.requires.number.within, c.if-number-full.false) in
     let tops = subst (BelongsAt text texts (λ other. slice_get entries (other * w + (w - 1))) full) last c.requires.number in
     let whole = behind_tops order (length entries) (entries_in_order text texts entries c.requires.indexed) w full (width_pos w c.width.ensures.width) rows.0
