@@ -20,7 +20,7 @@ width_pos w is = omega (arith, is.2, pow_pos is.0)
 pub width_least : (w : ℕ) → IsWidth w → 16 ≤ w
 width_least w is = omega (arith, is.2, pow_mono {i = 4} {j = is.0} is.1.0)
 
-pub width_most : (w : ℕ) → IsWidth w → w ≤ 2 ^ 20
+width_most : (w : ℕ) → IsWidth w → w ≤ 2 ^ 20
 width_most w is = omega (arith, is.2, pow_mono {i = is.0} {j = 20} is.1.1)
 
 -- a rank is so many widths and a place

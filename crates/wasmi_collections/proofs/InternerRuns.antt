@@ -1,10 +1,8 @@
 -- What an interner replies to two texts in a run.
-use Rattle.std.proofs.Common.{◌≡◌, ◌⊎◌, ℕ, zero, suc, ◌≤◌, ◌^◌, List, [], ◌∷◌, length, map, Some, None, slice_get, refl, sym, ap, ◌∙◌, ◌↔◌, inl, inr, arith}
-use Rattle.std.specs.Prelude.{◌++◌, Result, Ok, Err, IfOk, IfErr, OnErr, IsErrOf}
+use Rattle.std.proofs.Common.{◌≡◌, ℕ, zero, suc, List, [], ◌∷◌, map, Some, slice_get, sym, ap, ◌∙◌, ◌↔◌, inl, inr}
+use Rattle.std.specs.Prelude.{◌++◌, Result, Ok, Err, IfOk}
 use Rattle.std.proofs.lemmas.Option.{none-some, same_Some}
 use Rattle.wasmi_arena.specs.declared.error.ArenaError.{ArenaError}
-use Rattle.wasmi_arena.specs.declared.error.ArenaError.TheVariants.{OutOfSystemMemory, NotEnoughKeys}
-use Rattle.wasmi_arena.proofs.Results.{ok-err}
 use Rattle.wasmi_collections.specs.Interner.{symbol_of, Interns, Interning}
 use Rattle.wasmi_collections.specs.InternerSteps.{InternStep, text_to_intern}
 use Rattle.wasmi_collections.specs.Runs.{IsRun}
@@ -34,16 +32,6 @@ reads_with_more [] text other symbol is = absurd (none-some other is)
 reads_with_more (t ∷ ts) text other zero is = is
 reads_with_more (t ∷ ts) text other (suc symbol) is = reads_with_more ts text other symbol is
 
-other_error : OutOfSystemMemory ≡ NotEnoughKeys → ⊥
-other_error e = absurd (cc)
-
-abbrev err_or : {X Y : Type 0} → Y → Result X Y → Y
-err_or y (Ok v) = y
-err_or y (Err v) = v
-
-same_Err : {X Y : Type 0} (x y : Y) (r : Result X Y) → r ≡ Err x → r ≡ Err y → x ≡ y
-same_Err x y r e e' = sym (ap (err_or x) e) ∙ ap (err_or x) e'
-
 -- what a call says of a text, one by one
 module _ (old : List (List ℕ)) (text : List ℕ) (new : List (List ℕ)) where
   pub interning-there : (r : Result ℕ ArenaError) → Interning old text r new → (symbol : ℕ) → symbol_of old text ≡ Some symbol → (r ≡ Ok symbol) × (new ≡ old)
@@ -53,43 +41,6 @@ module _ (old : List (List ℕ)) (text : List ℕ) (new : List (List ℕ)) where
   ]
   interning-there (Err e) told symbol there = absurd (none-some symbol (sym told.0.0 ∙ there))
 
-  pub interning-new : (r : Result ℕ ArenaError) → Interning old text r new → symbol_of old text ≡ None → IfOk r (λ symbol. (symbol ≡ length old) × (new ≡ old ++ text ∷ []))
-  interning-new (Ok s) told absent = elim told [
-    | inl found ↦ absurd (none-some s (sym absent ∙ found.0))
-    | inr added ↦ (added.2, added.3)
-  ]
-  interning-new (Err e) told absent = tt
-
-  pub interning-no_symbol : (r : Result ℕ ArenaError) → Interning old text r new → IsErrOf r NotEnoughKeys ↔ ((symbol_of old text ≡ None) × (2 ^ 32 ≤ length old))
-  interning-no_symbol (Ok s) told = (
-    λ is. absurd (ok-err is),
-    λ full. elim told [
-      | inl found ↦ absurd (none-some s (sym full.0 ∙ found.0))
-      | inr added ↦ absurd (let few = added.1 in omega (arith, few, full.1))
-    ],
-  )
-  interning-no_symbol (Err e) told = (
-    λ is. (
-      told.0.0,
-      elim told.0.1 [
-        | inl keys ↦ keys.1
-        | inr memory ↦ absurd (other_error (sym memory.0 ∙ same_Err e NotEnoughKeys (Err e) refl is))
-      ],
-    ),
-    λ full. elim told.0.1 [
-      | inl keys ↦ ap Err keys.0
-      | inr memory ↦ absurd (let few = memory.1 in omega (arith, few, full.1))
-    ],
-  )
-
-  pub interning-errors : (r : Result ℕ ArenaError) → Interning old text r new → IfErr r (λ error. (error ≡ NotEnoughKeys) ⊎ (error ≡ OutOfSystemMemory))
-  interning-errors (Ok s) told = tt
-  interning-errors (Err e) told = elim told.0.1 [ inl keys ↦ inl keys.0 | inr memory ↦ inr memory.0 ]
-
-  pub interning-err : (r : Result ℕ ArenaError) → Interning old text r new → OnErr r (new ≡ old)
-  interning-err (Ok s) told = tt
-  interning-err (Err e) told = told.1
-
   pub interning-known : (r : Result ℕ ArenaError) → Interning old text r new → IfOk r (λ symbol. symbol_of new text ≡ Some symbol)
   interning-known (Ok s) told = symbol_of-Interns old text s new told
   interning-known (Err e) told = tt
@@ -97,10 +48,6 @@ module _ (old : List (List ℕ)) (text : List ℕ) (new : List (List ℕ)) where
   pub interning-reads : (r : Result ℕ ArenaError) → Interning old text r new → IfOk r (λ symbol. slice_get new symbol ≡ Some text)
   interning-reads (Ok s) told = symbol_of-Some text new s (symbol_of-Interns old text s new told)
   interning-reads (Err e) told = tt
-
-  pub interning-kept : (r : Result ℕ ArenaError) → Interning old text r new → (other : List ℕ) (symbol : ℕ) → symbol_of old other ≡ Some symbol → symbol_of new other ≡ Some symbol
-  interning-kept (Ok s) told other symbol is = kept_by_interning old text s new told other symbol is
-  interning-kept (Err e) told other symbol is = rw told.1 is
 
   pub interning-earlier : (r : Result ℕ ArenaError) → Interning old text r new → (other : List ℕ) (symbol : ℕ) → slice_get old symbol ≡ Some other → slice_get new symbol ≡ Some other
   interning-earlier (Ok s) told other symbol is = elim told [
