@@ -4,8 +4,6 @@ use Rattle.std.proofs.lemmas.List.{nil_from_length}
 use Rattle.std.specs.Option.{MatchOption}
 use Rattle.std.specs.Iterator.{YieldsFirstBy, YieldsLastBy, MakesProgress, item_count}
 use Rattle.wasmi_arena.specs.Ahead.{joined, AreSome, HasAhead}
-use Rattle.wasmi_arena.specs.Bucket.{Bucket}
-use Rattle.wasmi_arena.specs.Table.{IsAhead, items_of}
 
 module _ {T : Type 0} where
   joined-append : (parts : List (List T)) (part : List T) → joined (parts ++ part ∷ []) ≡ joined parts ++ part
@@ -16,57 +14,23 @@ module _ {T : Type 0} where
   AreSome-last [] part some = (some.0, tt)
   AreSome-last (first ∷ parts) part some = let rest = AreSome-last parts part some.1 in (rest.0, (some.0, rest.1))
 
-  module _ (front back : List T) (parts rest : List (List T)) (part : List T) (between : ℕ) (it : HasAhead front parts back between) where
-    -- the first part is entered
-    module _ (first : parts ≡ part ∷ rest) where
-      first_some : (0 < length part) × AreSome rest
-      first_some = rw first at it.filled
+  -- the last part is entered
+  module _ (front back : List T) (parts rest : List (List T)) (part : List T) (between : ℕ) (it : HasAhead front parts back between) (last : parts ≡ rest ++ part ∷ []) where
+    last_some : (0 < length part) × AreSome rest
+    last_some = AreSome-last rest part (rw last at it.filled)
 
-      pub first_counted : between ≡ length part + length (joined rest)
-      first_counted = it.counted ∙ (ap (λ (ps : List (List T)). length (joined ps)) first ∙ length-append part (joined rest))
+    last_counted : between ≡ length (joined rest) + length part
+    last_counted = it.counted ∙ (ap (λ (ps : List (List T)). length (joined ps)) last ∙ (ap length (joined-append rest part) ∙ length-append (joined rest) part))
 
-      pub first_ahead : (left : List T) (count : ℕ) → count ≡ length part → length left ≤ count → HasAhead left rest back (between - count)
-      first_ahead left count counted fewer = let c = first_counted in let most = it.few in record { filled = first_some.1; counted = omega arith; few = omega arith }
+    pub last_ahead : (left : List T) (count : ℕ) → count ≡ length part → length left ≤ count → HasAhead front rest left (between - count)
+    last_ahead left count counted fewer = let c = last_counted in let most = it.few in record { filled = last_some.1; counted = omega arith; few = omega arith }
 
-      pub first_yields : {B : Type 0} (now : B → T) (r : Option B) (left : List T) → length front ≡ 0 → MatchOption r ((length part ≡ 0) × (length left ≡ 0)) (λ x. part ≡ now x ∷ left)
-          → YieldsFirstBy now (λ (xs : List T). xs) (front ++ joined parts ++ back) r (left ++ joined rest ++ back)
-      first_yields now None left none ended = absurd (let some = first_some.0 in let short = ended.0 in omega arith)
-      first_yields now (Some x) left none at = rw (nil_from_length front none) (ap (λ (xs : List T). xs ++ back) (ap joined first ∙ ap (λ (xs : List T). xs ++ joined rest) at))
-
-    -- the last part is entered
-    module _ (last : parts ≡ rest ++ part ∷ []) where
-      last_some : (0 < length part) × AreSome rest
-      last_some = AreSome-last rest part (rw last at it.filled)
-
-      pub last_counted : between ≡ length (joined rest) + length part
-      last_counted = it.counted ∙ (ap (λ (ps : List (List T)). length (joined ps)) last ∙ (ap length (joined-append rest part) ∙ length-append (joined rest) part))
-
-      pub last_ahead : (left : List T) (count : ℕ) → count ≡ length part → length left ≤ count → HasAhead front rest left (between - count)
-      last_ahead left count counted fewer = let c = last_counted in let most = it.few in record { filled = last_some.1; counted = omega arith; few = omega arith }
-
-      pub last_yields : {B : Type 0} (now : B → T) (r : Option B) (left : List T) → length back ≡ 0 → MatchOption r ((length part ≡ 0) × (length left ≡ 0)) (λ x. part ≡ left ++ now x ∷ [])
-          → YieldsLastBy now (λ (xs : List T). xs) (front ++ joined parts ++ back) r (front ++ joined rest ++ left)
-      last_yields now None left none ended = absurd (let some = last_some.0 in let short = ended.0 in omega arith)
-      last_yields now (Some x) left none at =
-          rw (nil_from_length back none, append-nil (front ++ joined parts)) (ap (λ (ps : List (List T)). front ++ joined ps) last ∙ (ap (λ (xs : List T). front ++ xs) (joined-append rest part ∙ ap (λ (xs : List T). joined rest ++ xs) at)
-          ∙ (sym (append_assoc front (joined rest) (left ++ now x ∷ [])) ∙ sym (append_assoc (front ++ joined rest) left (now x ∷ [])))))
-
-  -- where something is left of the first or of the last part, that is called
-  pub front_yields : {front left : List T} {x : T} (middle back : List T) → front ≡ x ∷ left → front ++ middle ++ back ≡ x ∷ (left ++ middle ++ back)
-  front_yields middle back at = ap (λ (xs : List T). xs ++ middle ++ back) at
-
-  pub front_ahead : {front left back : List T} {x : T} {buckets : List (Option (Bucket T))} {between : ℕ} → front ≡ x ∷ left → IsAhead front buckets back between → IsAhead left buckets back between
-  front_ahead at it = record { filled = it.filled; counted = it.counted; few = omega (arith, it.few, ap length at) }
-
-  pub back_yields : (front middle : List T) {back : List T} (left : List T) (x : T) → back ≡ left ++ x ∷ [] → front ++ middle ++ back ≡ front ++ middle ++ left ++ x ∷ []
-  back_yields front middle left x at = ap (λ (xs : List T). front ++ middle ++ xs) at ∙ sym (append_assoc (front ++ middle) left (x ∷ []))
-
-  pub back_ahead : {front back : List T} (left : List T) (x : T) {buckets : List (Option (Bucket T))} {between : ℕ} → back ≡ left ++ x ∷ [] → IsAhead front buckets back between → IsAhead front buckets left between
-  back_ahead left x at it = record { filled = it.filled; counted = it.counted; few = omega (arith, it.few, ap length at, length-append left (x ∷ [])) }
-
-  -- so many are left
-  pub length-ahead : {front back : List T} {buckets : List (Option (Bucket T))} {between : ℕ} → IsAhead front buckets back between → length front + between + length back ≡ length (front ++ items_of buckets ++ back)
-  length-ahead {front} {back} {buckets} it = omega (arith, it.counted, length-append front (items_of buckets), length-append (front ++ items_of buckets) back)
+    pub last_yields : {B : Type 0} (now : B → T) (r : Option B) (left : List T) → length back ≡ 0 → MatchOption r ((length part ≡ 0) × (length left ≡ 0)) (λ x. part ≡ left ++ now x ∷ [])
+        → YieldsLastBy now (λ (xs : List T). xs) (front ++ joined parts ++ back) r (front ++ joined rest ++ left)
+    last_yields now None left none ended = absurd (let some = last_some.0 in let short = ended.0 in omega arith)
+    last_yields now (Some x) left none at =
+        rw (nil_from_length back none, append-nil (front ++ joined parts)) (ap (λ (ps : List (List T)). front ++ joined ps) last ∙ (ap (λ (xs : List T). front ++ xs) (joined-append rest part ∙ ap (λ (xs : List T). joined rest ++ xs) at)
+        ∙ (sym (append_assoc front (joined rest) (left ++ now x ∷ [])) ∙ sym (append_assoc (front ++ joined rest) left (now x ∷ [])))))
 
   -- no more is left than there was
   pub fewer_last : {B : Type 0} (now : B → T) (part left : List T) (r : Option B) → MatchOption r ((length part ≡ 0) × (length left ≡ 0)) (λ x. part ≡ left ++ now x ∷ []) → length left ≤ length part

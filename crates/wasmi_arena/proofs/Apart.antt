@@ -1,7 +1,7 @@
 -- Facts on a table of buckets apart from a vector's own.
 use Rattle.std.proofs.Common.{◌≡◌, ◌≢◌, ℕ, suc, ◌+◌, ◌-◌, ◌<◌, ◌≤◌, List, [], ◌++◌, length, get_or, set, Option, Some, None, ◌∙◌, ap, subst, inl, inr, refl, sym, add-one, arith}
-use Rattle.std.proofs.lemmas.Bool.{cases_eq, cases_lt}
-use Rattle.std.proofs.lemmas.List.{get_or-set_same, get_or-set_other, length-set}
+use Rattle.std.proofs.lemmas.Bool.{cases_lt}
+use Rattle.std.proofs.lemmas.List.{get_or-set_other, length-set}
 use Rattle.wasmi_arena.specs.Bucket.{Bucket, bucket}
 use Rattle.wasmi_arena.specs.Geometry.{size, start, max_len, IsPlace, IsFewest, fewest, room}
 use Rattle.wasmi_arena.specs.Table.{items_of, bucket_filled, IsLaidOut}
@@ -58,34 +58,19 @@ room_filled n filled small all =
     omega arith
 
 module _ {T : Type 0} (buckets : List (Option (Bucket T))) where
-  pub apart_none : (first : ℕ) → length buckets ≡ 27 → AreOpenApart buckets first first
-  apart_none first counted = record { buckets_counted = counted; empty = λ b from to. absurd (omega arith) }
-
-  -- one more bucket is opened
-  pub apart_open : (first last : ℕ) → AreOpenApart buckets first last → last < 27 → AreOpenApart (set buckets last (Some (bucket [] (size last)))) first (last + 1)
-  apart_open first last before below = record {
-    buckets_counted = length-set buckets last (Some (bucket [] (size last))) ∙ before.buckets_counted;
-    empty = λ b from to. elim (cases_eq b last) [
-      | inl same ↦ rw same (get_or-set_same buckets last (Some (bucket [] (size last))) None (rw before.buckets_counted below))
-      | inr other ↦ get_or-set_other buckets last b (Some (bucket [] (size last))) None other ∙ before.empty b from (omega arith)
-    ];
-  }
-
-  -- the first is moved out
+  -- the first of the buckets that are open is moved out
   pub apart_moved : (first last : ℕ) → AreOpenApart buckets first last → AreOpenApart (set buckets first None) (first + 1) last
   apart_moved first last before = record {
     buckets_counted = length-set buckets first None ∙ before.buckets_counted;
     empty = λ b from to. get_or-set_other buckets first b None None (λ same. absurd (omega arith)) ∙ before.empty b (omega arith) to;
   }
 
-  -- some of them
-  pub apart_part : (first last later sooner : ℕ) → AreOpenApart buckets first last → first ≤ later → sooner ≤ last → AreOpenApart buckets later sooner
-  apart_part first last later sooner all low high = record { buckets_counted = all.buckets_counted; empty = λ b from to. all.empty b (omega arith) (omega arith) }
-
   -- the buckets between those for n items and those for m
   module _ (n m : ℕ) (all : AreOpenApart buckets (fewest n) (fewest m)) (few : m ≤ max_len) where
     pub apart_later : (later : ℕ) → n ≤ later → later ≤ m → AreOpenApart buckets (fewest later) (fewest m)
-    apart_later later more within = apart_part (fewest n) (fewest m) (fewest later) (fewest m) all (fewest_mono n later more (omega arith)) (omega arith)
+    apart_later later more within =
+        let low = fewest_mono n later more (omega arith) in
+        record { buckets_counted = all.buckets_counted; empty = λ b from to. all.empty b (omega arith) to }
 
     -- where n have no room
     module _ (more : n < m) (none : room n ≡ 0) where

@@ -1,15 +1,13 @@
 -- Facts on the steps and runs of an arena.
-use Rattle.std.proofs.Common.{◌≡◌, ◌≢◌, ◌↔◌, ◌⊎◌, zero, suc, take, Some, Result, Ok, Err, IfOk, IfErr, OnOk, OnErr, IsErrOf, slice_get, slice_set, arith, ℕ, ◌+◌, ◌<◌, ◌≤◌, List, [], ◌∷◌, ◌++◌, length, inl, inr, refl, ap, ◌∙◌, subst, length-append}
-use Rattle.std.proofs.Math.ListN.{length-set}
+use Rattle.std.proofs.Common.{◌≡◌, ◌≢◌, ◌↔◌, ◌⊎◌, zero, suc, take, Some, Result, Ok, Err, IfOk, IfErr, OnOk, OnErr, IsErrOf, slice_get, arith, ℕ, ◌+◌, ◌<◌, ◌≤◌, List, [], ◌∷◌, ◌++◌, length, inl, inr, refl, ap, ◌∙◌, subst, length-append}
 use Rattle.std.proofs.Math.Nat.{lt_of_not-le}
 use Rattle.std.proofs.lemmas.Bool.{cases_lt}
 use Rattle.std.proofs.lemmas.List.Edits.{length-swap}
 use Rattle.std.proofs.lemmas.Option.{get_or_from_slice_get}
 use Rattle.std.specs.List.{swap}
-use Rattle.std.specs.Result.{IsOkUnless}
 use Rattle.wasmi_arena.specs.Geometry.{max_len, room}
 use Rattle.wasmi_arena.specs.Keys.{Keys}
-use Rattle.wasmi_arena.specs.Arena.{ArenaState, ArenaStep, ArenaRun, ArenaUnchanged, AllocatesItem, RefusesItem, PutsItem, SwapsItems, RefusesSwap, allocs_in, stable_limit, stable_state}
+use Rattle.wasmi_arena.specs.Arena.{ArenaState, ArenaStep, ArenaRun, ArenaUnchanged, AllocatesItem, RefusesItem, SwapsItems, allocs_in, stable_limit, stable_state}
 use Rattle.wasmi_arena.specs.Growth.{RefusesOneMore}
 use Rattle.wasmi_arena.proofs.Geometry.{room-falls}
 use Rattle.wasmi_arena.proofs.Growth.{refuses_one_more}
@@ -68,7 +66,7 @@ module _ {K T V : Type 0} (keys : Keys K) (limit : ℕ) (state : V → ArenaStat
 pub room_of_append : {T : Type 0} (old new : List T) (item : T) → new ≡ old ++ item ∷ [] → length old < max_len → 0 < room (length old) → room (length old) ≡ room (length new) + 1
 room_of_append old new item after below some = rw (after, length-append old (item ∷ [])) (room-falls (length old) below some)
 
--- each call of a stable arena is a step, by its clauses
+-- a stable arena's `alloc` and `swap` are steps, by their clauses
 module _ {K T : Type 0} (keys : Keys K) (old new : List T) where
   unchanged : new ≡ old → ArenaUnchanged (stable_state old) (stable_state new)
   unchanged same = (same, ap (λ (xs : List T). room (length xs)) same)
@@ -90,16 +88,6 @@ module _ {K T : Type 0} (keys : Keys K) (old new : List T) where
   alloc_refused (Ok key) errors full memory same = tt
   alloc_refused (Err error) errors full memory same = (item_refused error (refuses_one_more (stable_limit keys) (length old) error errors full memory), unchanged same)
 
-  pub put_steps : (r : Result T ArenaError) (key : K) (item : T) → IfOk r (λ there. slice_get old (keys.number key) ≡ Some there) → OnOk r (new ≡ slice_set old (keys.number key) item)
-      → IfOk r (λ there. PutsItem keys (stable_limit keys) (stable_state old) key item there (stable_state new))
-  put_steps (Ok there) key item there_is is = record { there_is = there_is; items_are = is; room_is = ap room (ap length is ∙ length-set old (keys.number key) item) }
-  put_steps (Err error) key item there_is is = tt
-
-  pub put_refused : (r : Result T ArenaError) (key : K) → IsOkUnless r KeyOutOfBounds → IsErrOf r KeyOutOfBounds ↔ (length old ≤ keys.number key) → OnErr r (new ≡ old)
-      → IfErr r (λ error. (error ≡ KeyOutOfBounds) × (length old ≤ keys.number key) × ArenaUnchanged (stable_state old) (stable_state new))
-  put_refused (Ok there) key errors past same = tt
-  put_refused (Err error) key errors past same = (errors, past.0 (ap Err errors), unchanged same)
-
   module _ (first second : K) where
     abbrev Aliasing : Result (Unit {0}) ArenaError → Type 0
     Aliasing r = IsErrOf r AliasingPairAccess ↔ (keys.number first ≡ keys.number second)
@@ -118,11 +106,3 @@ module _ {K T : Type 0} (keys : Keys K) (old new : List T) where
           room_is = ap room (ap length is ∙ length-swap old (keys.number first) (keys.number second));
         }
     swap_steps (Err error) aliasing past is = tt
-
-    pub swap_refused : (r : Result (Unit {0}) ArenaError) → Aliasing r → Past r → IfErr r (λ error. (error ≡ AliasingPairAccess) ⊎ (error ≡ KeyOutOfBounds)) → OnErr r (new ≡ old)
-        → IfErr r (λ error. RefusesSwap keys (stable_limit keys) (stable_state old) first second error × ArenaUnchanged (stable_state old) (stable_state new))
-    swap_refused (Ok done) aliasing past errors same = tt
-    swap_refused (Err error) aliasing past errors same = (
-      elim errors [ inl alike ↦ rw alike (aliasing.0 (ap Err alike)) | inr none ↦ rw none ((past.0 (ap Err none)).1) ],
-      unchanged same,
-    )

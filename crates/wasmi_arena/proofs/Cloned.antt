@@ -73,10 +73,6 @@ module _ {T : Type 0} {is_clone : T → T → Type 0} {items part made : List T}
         length_all_zip is_clone part clones each,
       )
 
-  -- of no items there is none
-  pub part_of_none : {P : Type 0} → items ≡ [] → P
-  part_of_none none = absurd (let some = are.0 in omega (arith, counted, ap length none))
-
   -- what holds of all items holds of those of the part
   pub part_all : (P : T → Type 0) → All P items → All P part
   part_all P all =

@@ -12,9 +12,6 @@ module _ {K T : Type 0} (keys : Keys K) where
   length-entries_from from (x ∷ xs) = omega (arith, length-entries_from (from + 1) xs)
 
   -- an item fewer is an entry fewer
-  pub fewer_entries_first : (from to : ℕ) {old new : List T} {item : T} → old ≡ item ∷ new → length (entries_from keys to new) < length (entries_from keys from old)
-  fewer_entries_first from to {old} {new} first = omega (arith, ap length first, length-entries_from from old, length-entries_from to new)
-
   pub fewer_entries_last : (from to : ℕ) {old : List T} (new : List T) (item : T) → old ≡ new ++ item ∷ [] → length (entries_from keys to new) < length (entries_from keys from old)
   fewer_entries_last from to {old} new item last = omega (arith, ap length last, length-append new (item ∷ []), length-entries_from from old, length-entries_from to new)
 

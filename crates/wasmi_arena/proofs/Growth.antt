@@ -29,10 +29,6 @@ module _ {T : Type 0} (P : T → Type 0) where
   pub many_length : (amount : ℕ) (old new : List T) → AppendsMany P amount old new → length new ≡ length old + amount
   many_length amount old new all = omega (arith, ap length all.1, all.2, length-append old all.0)
 
-  -- a limit holds for so many more items if it does for the new length
-  pub many_within : (amount limit : ℕ) (old new : List T) → AppendsMany P amount old new → length old + amount ≤ limit → length new ≤ limit
-  many_within amount limit old new all within = omega (arith, many_length amount old new all)
-
   -- what went into an empty list goes behind another
   pub many_moved : (amount : ℕ) (part old new : List T) → new ≡ old ++ part → AppendsMany P amount [] part → AppendsMany P amount old new
   many_moved amount part old new is all = (all.0, is ∙ ap (λ (xs : List T). old ++ xs) all.1, all.2, all.3)

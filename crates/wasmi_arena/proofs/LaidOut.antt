@@ -8,7 +8,7 @@ use Rattle.std.proofs.lemmas.List.{set-get_or, get_or_default, take_all, length-
 use Rattle.std.proofs.lemmas.Option.{slice_get-get_or, slice_get_cases, get_or_from_slice_get}
 use Rattle.std.proofs.lemmas.List.Edits.{swap_is}
 use Rattle.std.specs.List.{swap}
-use Rattle.wasmi_arena.specs.Geometry.{size, start, max_len, IsPlace, IsFewest, fewest, room}
+use Rattle.wasmi_arena.specs.Geometry.{size, start, max_len, IsPlace, IsFewest, fewest}
 use Rattle.wasmi_arena.specs.Bucket.{Bucket}
 use Rattle.wasmi_arena.specs.StableVec.{bucket_at}
 use Rattle.wasmi_arena.specs.Table.{items_of, items_in, bucket_filled, bucket_with, bucket_cut, with_item, write, bucket_from, IsTable, AreFilled, IsLaidOut, IsAhead}
@@ -55,9 +55,6 @@ module _ {T : Type 0} where
     pub fewest-len : fewest len ≡ fewest (length (items_of buckets))
     fewest-len = ap fewest v.items_counted
 
-    pub open-fewest : open_buckets ≡ fewest (length (items_of buckets))
-    open-fewest = v.fewest_open ∙ fewest-len
-
     pub fewest-le_27 : fewest len ≤ 27
     fewest-le_27 = IsFewest-len.least 27 v.few_items
 
@@ -94,15 +91,8 @@ module _ {T : Type 0} where
     pub len-le_slots : len ≤ slots
     len-le_slots = rw (v.slots_counted, v.fewest_open) IsFewest-len.enough
 
-    -- so many slots are free
-    pub free-room : slots - len ≡ room (length (items_of buckets))
-    free-room = rw (v.slots_counted, v.fewest_open, v.items_counted) refl
-
     pub slots-le_max : slots ≤ max_len
     slots-le_max = rw v.slots_counted (start_mono open_buckets 27 open-le_27)
-
-    pub len-fits : len + 1 < 2 ^ 64
-    len-fits = let few = v.few_items in omega arith
 
     pub open-fits : open_buckets + 1 < 2 ^ 64
     open-fits = let few = open-le_27 in omega arith
@@ -110,12 +100,6 @@ module _ {T : Type 0} where
     -- a vector with a free slot isn't full
     pub free-lt_max : len < slots → length (items_of buckets) < max_len
     free-lt_max free = rw (← v.items_counted) (lt_of_lt_of_le free slots-le_max)
-
-    pub other-lt_max : len ≢ max_len → length (items_of buckets) < max_len
-    other-lt_max other = let few = v.few_items in omega (arith, v.items_counted)
-
-    pub max-le_length : len ≡ max_len → max_len ≤ length (items_of buckets)
-    max-le_length full = omega (arith, v.items_counted)
 
     -- the open buckets
     pub IsTable-open : IsTable 32 (items_of buckets) (take (fewest len) buckets)
@@ -318,41 +302,33 @@ module _ {T : Type 0} where
           let counted : length (items_of buckets) ≡ suc i = omega (arith, v.items_counted, last) in
           (read, sym (take_all (suc i) (items_of buckets) (omega arith)) ∙ (take-suc (items_of buckets) i x (omega arith) ∙ ap (λ (y : T). take i (items_of buckets) ++ y ∷ []) (get_or_from_slice_get (items_of buckets) i x x read)))
 
-    -- no slot of the open buckets is free
-    module _ (full : slots ≤ len) where
-      pub room-full : room (length (items_of buckets)) ≡ 0
-      room-full = omega (arith, v.items_counted, v.slots_counted, ap start open-fewest)
+    -- no slot of the open buckets is free, so the next item goes to the first slot of the next bucket
+    module _ (full : slots ≤ len) (other : len ≢ max_len) where
+      below : len < max_len
+      below = let few = v.few_items in omega arith
 
-      pub no_room : 0 < room (length (items_of buckets)) → ⊥
-      no_room some = let none = room-full in omega arith
+      pub place-full : IsPlace len open_buckets 0
+      place-full = place-next len open_buckets v.few_items v.fewest_open below (rw (← v.slots_counted) full)
 
-      -- so the next item goes to the first slot of the next bucket
-      module _ (other : len ≢ max_len) where
-        below : len < max_len
-        below = let few = v.few_items in omega arith
+      -- which isn't open
+      pub get_or-full : get_or buckets open_buckets None ≡ None
+      get_or-full = get_or-buckets open_buckets place-full.bucket_exists
+          ∙ ap (bucket_from (size open_buckets)) (drop_of_length-le (items_of buckets) {i = start open_buckets} (rw v.fewest_open length-le_slots))
 
-        pub place-full : IsPlace len open_buckets 0
-        place-full = place-next len open_buckets v.few_items v.fewest_open below (rw (← v.slots_counted) full)
+      -- and is opened for them
+      module _ (more : List T) (some : 0 < length more) (fits : length more ≤ size open_buckets) where
+        pub items_of-open_next_with : items_of (set buckets open_buckets (bucket_filled (size open_buckets) None more)) ≡ items_of buckets ++ more
+        items_of-open_next_with = subst (λ (b : Option (Bucket T)). items_of (set buckets open_buckets (bucket_filled (size open_buckets) b more)) ≡ items_of buckets ++ more) get_or-full (items_of-append open_buckets 0 place-full more some (omega (arith, fits)))
 
-        -- which isn't open
-        pub get_or-full : get_or buckets open_buckets None ≡ None
-        get_or-full = get_or-buckets open_buckets place-full.bucket_exists
-            ∙ ap (bucket_from (size open_buckets)) (drop_of_length-le (items_of buckets) {i = start open_buckets} (rw v.fewest_open length-le_slots))
+        pub IsLaidOut-open_next_with : IsLaidOut (set buckets open_buckets (bucket_filled (size open_buckets) None more)) (open_buckets + 1) (start (open_buckets + 1)) (len + length more)
+        IsLaidOut-open_next_with = subst (λ (b : Option (Bucket T)). IsLaidOut (set buckets open_buckets (bucket_filled (size open_buckets) b more)) (open_buckets + 1) (start (open_buckets + 1)) (len + length more)) get_or-full (IsLaidOut-append open_buckets 0 place-full more some (omega (arith, fits)))
 
-        -- and is opened for them
-        module _ (more : List T) (some : 0 < length more) (fits : length more ≤ size open_buckets) where
-          pub items_of-open_next_with : items_of (set buckets open_buckets (bucket_filled (size open_buckets) None more)) ≡ items_of buckets ++ more
-          items_of-open_next_with = subst (λ (b : Option (Bucket T)). items_of (set buckets open_buckets (bucket_filled (size open_buckets) b more)) ≡ items_of buckets ++ more) get_or-full (items_of-append open_buckets 0 place-full more some (omega (arith, fits)))
+      -- or for one
+      pub items_of-open_next : (item : T) → items_of (set buckets open_buckets (bucket_with (size open_buckets) None item)) ≡ items_of buckets ++ item ∷ []
+      items_of-open_next item = items_of-open_next_with (item ∷ []) (omega arith) (omega (arith, size_pos open_buckets))
 
-          pub IsLaidOut-open_next_with : IsLaidOut (set buckets open_buckets (bucket_filled (size open_buckets) None more)) (open_buckets + 1) (start (open_buckets + 1)) (len + length more)
-          IsLaidOut-open_next_with = subst (λ (b : Option (Bucket T)). IsLaidOut (set buckets open_buckets (bucket_filled (size open_buckets) b more)) (open_buckets + 1) (start (open_buckets + 1)) (len + length more)) get_or-full (IsLaidOut-append open_buckets 0 place-full more some (omega (arith, fits)))
-
-        -- or for one
-        pub items_of-open_next : (item : T) → items_of (set buckets open_buckets (bucket_with (size open_buckets) None item)) ≡ items_of buckets ++ item ∷ []
-        items_of-open_next item = items_of-open_next_with (item ∷ []) (omega arith) (omega (arith, size_pos open_buckets))
-
-        pub IsLaidOut-open_next : (item : T) → IsLaidOut (set buckets open_buckets (bucket_with (size open_buckets) None item)) (open_buckets + 1) (start (open_buckets + 1)) (len + 1)
-        IsLaidOut-open_next item = IsLaidOut-open_next_with (item ∷ []) (omega arith) (omega (arith, size_pos open_buckets))
+      pub IsLaidOut-open_next : (item : T) → IsLaidOut (set buckets open_buckets (bucket_with (size open_buckets) None item)) (open_buckets + 1) (start (open_buckets + 1)) (len + 1)
+      IsLaidOut-open_next item = IsLaidOut-open_next_with (item ∷ []) (omega arith) (omega (arith, size_pos open_buckets))
 
   -- the items at i and at j are exchanged, each in the other's slot
   module _ (buckets : List (Option (Bucket T))) (open_buckets slots len : ℕ) (v : IsLaidOut buckets open_buckets slots len) (i b s : ℕ) (place-i : IsPlace i b s) (below-i : i < len) (j d t : ℕ) (place-j : IsPlace j d t) (below : j < len) where

@@ -3,7 +3,6 @@ pub mod Table
 pub mod Refilled
 pub mod Rewritten
 pub mod LaidOut
-pub mod Keys
 pub mod Arena
 pub mod OneAnswer
 pub mod Entries

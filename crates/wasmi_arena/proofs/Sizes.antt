@@ -4,16 +4,12 @@ use mathlib.Core.Path.{◌≡◌, refl}
 use native.Mathlib.Omega.{arith}
 use Prim.Native.Nat.{ℕ, zero, ◌*◌, ◌<◌, ◌^◌}
 use mathlib.Core.Option.{some}
-use mir.Syntax.{Ty, Tys, tnil, ty_array, ty_struct, w64}
-use mir.Val.{Fits}
-use native.Mathlib.Nat.{le_of_lt}
-use Rattle.std.proofs.Math.Nat.{mul-le-mul_right}
+use mir.Syntax.{Ty, Tys, tnil, ty_array, ty_struct}
 use prog.Align.{field_in}
 use prog.Memory.{field_at, size}
 use denote.Param.{copied, number, param, layout}
 use denote.RattleType.{RattleType}
 use Rattle.core.specs.declared.alloc.Allocator as Allocator
-use Rattle.core.specs.contracts.array.slots.IntoIter as ArrayIntoIter
 use Rattle.core.specs.contracts.option.Option as Option
 use Rattle.wasmi_arena.specs.declared.key.ArenaKey as ArenaKey
 use Rattle.wasmi_arena.specs.contracts.bucket.Bucket as Bucket
@@ -32,10 +28,6 @@ fields_of τ = tnil
 field_small : (τs : Tys) (k : ℕ) (τ : Ty) (d : ℕ) → field_at zero τs k ≡ some (τ, d) → size (ty_struct [] τs) < 2 ^ 63 → size τ < 2 ^ 63
 field_small τs k τ d at small = let inside = field_in [] τs k τ d at in omega arith
 
--- the place of an element of a slice
-pub offset_fits : (i n bytes : ℕ) → i < n → n * bytes < 2 ^ 63 → Fits w64 (i * bytes)
-offset_fits i n bytes inside small = record { fits = omega (arith, small, mul-le-mul_right bytes (le_of_lt inside)) }
-
 module _ (T A : RattleType) (alloc : Allocator.Ghosts A.Denot) where
   abbrev MaybeBucket : RattleType
   MaybeBucket = Option.the_row (Bucket.the_row (param 1 T) (param 2 A) alloc)
@@ -49,19 +41,12 @@ module _ (T A : RattleType) (alloc : Allocator.Ghosts A.Denot) where
   abbrev VecIntoIterRow : RattleType
   VecIntoIterRow = StableVecIntoIter.the_row (param 1 T) (param 2 A) alloc
 
-  abbrev BucketsRow : RattleType
-  BucketsRow = ArrayIntoIter.the_row MaybeBucket (number 27)
-
   -- of a vector, its table, and the buckets there
   pub table_small : size (layout VecRow) < 2 ^ 63 → size (layout TableRow) < 2 ^ 63
   table_small = field_small (fields_of (layout VecRow)) 0 (layout TableRow) _ refl
 
   pub array_small : size (layout VecRow) < 2 ^ 63 → 27 * size (layout MaybeBucket) < 2 ^ 63
   array_small small = field_small (fields_of (layout TableRow)) 0 (ty_array (layout MaybeBucket) 27) _ refl (table_small small)
-
-  -- of an iterator over a vector, the buckets that no end has come to
-  pub buckets_small : size (layout VecIntoIterRow) < 2 ^ 63 → size (layout BucketsRow) < 2 ^ 63
-  buckets_small = field_small (fields_of (layout VecIntoIterRow)) 1 (layout BucketsRow) _ refl
 
   module _ (K : RattleType) (keys : ArenaKey.Ghosts K.Denot) where
     abbrev ArenaRow : RattleType

@@ -5,9 +5,9 @@ use Rattle.std.proofs.Math.ListN.{drop_of_length-le}
 use Rattle.std.proofs.Math.Seq.{drop-nil, take-set-lt}
 use Rattle.std.proofs.lemmas.Nat.{pow_pos}
 use Rattle.std.proofs.lemmas.List.{nil_from_length, get_or_default, take_all, take-append-drop, take-append-le, drop-append-le, drop-drop, drop-take, take-take, length-take, length-set, take-set-le, drop-set-lt, drop-set-add, get_or-set_same, set-set}
-use Rattle.std.specs.Iterator.{YieldsFirstRef, YieldsLastRef}
+use Rattle.std.specs.Iterator.{YieldsLastRef}
 use Rattle.std.specs.Borrow.{Bor}
-use Rattle.std.specs.Slice.Iter.{iter_rest, iter_steps, iter_steps_back}
+use Rattle.std.specs.Slice.Iter.{iter_rest, iter_steps_back}
 use Rattle.std.specs.declared.slice.Iter.{Iter}
 use Rattle.wasmi_arena.specs.Bucket.{Bucket}
 use Rattle.wasmi_arena.specs.Table.{items_of, bucket_filled, bucket_cut, with_item, write, bucket_from, IsTable, AreFilled, IsAhead}
@@ -231,7 +231,7 @@ module _ {T : Type 0} where
     pub first_filled : (0 < length bucket.items) × AreFilled rest
     first_filled = rw entered at it.filled
 
-    pub first_counted : between ≡ length bucket.items + length (items_of rest)
+    first_counted : between ≡ length bucket.items + length (items_of rest)
     first_counted = it.counted ∙ (ap (λ (bs : List (Option (Bucket T))). length (items_of bs)) entered ∙ length-append bucket.items (items_of rest))
 
     pub first_ahead : (left : List T) (count : ℕ) → count ≡ length bucket.items → length left ≤ count → IsAhead left rest back (between - count)
@@ -239,32 +239,6 @@ module _ {T : Type 0} where
 
     pub first_items : length front ≡ 0 → (left : List T) (x : T) → bucket.items ≡ x ∷ left → front ++ items_of buckets ++ back ≡ x ∷ (left ++ items_of rest ++ back)
     first_items none left x are = rw (nil_from_length front none) (ap (λ (xs : List T). xs ++ back) (ap items_of entered ∙ ap (λ (xs : List T). xs ++ items_of rest) are))
-
-    -- the bucket is entered and called from the front
-    module _ (s t : Iter T) (r : Option (Bor T)) (whole : iter_rest s ≡ bucket.items) (steps : iter_steps s r t) where
-      enters_by : (r : Option (Bor T)) → iter_steps s r t → length front ≡ 0 → YieldsFirstRef (λ (xs : List T). xs) (front ++ items_of buckets ++ back) r (iter_rest t ++ items_of rest ++ back)
-      enters_by None ended none = absurd (let some = first_filled.0 in let short = ended.0 in omega (arith, ap length whole))
-      enters_by (Some x) at none = first_items none (iter_rest t) x.now (sym whole ∙ at)
-
-      pub first_yields : length front ≡ 0 → YieldsFirstRef (λ (xs : List T). xs) (front ++ items_of buckets ++ back) r (iter_rest t ++ items_of rest ++ back)
-      first_yields none = enters_by r steps none
-
-  -- where no bucket is left, the last one is called
-  pub rest_yields : (front : List T) (buckets : List (Option (Bucket T))) (s t : Iter T) (r : Option (Bor T)) → length front ≡ 0 → length buckets ≡ 0 → iter_steps s r t
-      → YieldsFirstRef (λ (xs : List T). xs) (front ++ items_of buckets ++ iter_rest s) r (front ++ items_of buckets ++ iter_rest t)
-  rest_yields front buckets s t None no_front no_buckets ended = rw (nil_from_length front no_front, nil_from_length buckets no_buckets) (nil_from_length (iter_rest s) ended.0, ap iter_rest ended.1 ∙ nil_from_length (iter_rest s) ended.0)
-  rest_yields front buckets s t (Some x) no_front no_buckets at = rw (nil_from_length front no_front, nil_from_length buckets no_buckets) at
-
-  pub rest_yields_last : (back : List T) (buckets : List (Option (Bucket T))) (s t : Iter T) (r : Option (Bor T)) → length back ≡ 0 → length buckets ≡ 0 → iter_steps_back s r t
-      → YieldsLastRef (λ (xs : List T). xs) (iter_rest s ++ items_of buckets ++ back) r (iter_rest t ++ items_of buckets ++ back)
-  rest_yields_last back buckets s t None no_back no_buckets ended =
-      rw (nil_from_length back no_back, nil_from_length buckets no_buckets) (simp append-nil (nil_from_length (iter_rest s) ended.0, ap iter_rest ended.1 ∙ nil_from_length (iter_rest s) ended.0))
-  rest_yields_last back buckets s t (Some x) no_back no_buckets at = rw (nil_from_length back no_back, nil_from_length buckets no_buckets) (simp append-nil at)
-
-  -- a call from the front leaves no more than there was
-  pub length-steps : (s t : Iter T) (r : Option (Bor T)) → iter_steps s r t → length (iter_rest t) ≤ length (iter_rest s)
-  length-steps s t None ended = omega (arith, ap (λ (u : Iter T). length (iter_rest u)) ended.1)
-  length-steps s t (Some x) at = omega (arith, ap length at)
 
   -- a call from the back leaves no more than there was
   pub length-steps_back : (s t : Iter T) (r : Option (Bor T)) → iter_steps_back s r t → length (iter_rest t) ≤ length (iter_rest s)

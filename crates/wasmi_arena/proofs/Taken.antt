@@ -7,7 +7,7 @@ use Rattle.core.specs.declared.array.slots.IntoIter.{IntoIter}
 use Rattle.std.specs.Iterator.{YieldsFirst, YieldsLast}
 use Rattle.wasmi_arena.specs.Bucket.{Bucket}
 use Rattle.wasmi_arena.specs.Table.{items_of, IsAhead}
-use Rattle.wasmi_arena.proofs.Table.{first_filled, first_items, first_counted, first_ahead, last_filled, last_items, last_counted, last_ahead}
+use Rattle.wasmi_arena.proofs.Table.{first_filled, first_items, first_ahead, last_filled, last_items, last_counted, last_ahead}
 
 module _ {T : Type 0} where
   -- the list itself is what is left
@@ -30,9 +30,6 @@ module _ {T : Type 0} where
           let some = (first_filled front back buckets rest found bucket between it first is).0 in
           absurd (omega (arith, ap length whole, ap length ended.0))
       first_taken left (Some x) at none = first_items front back buckets rest found bucket between it first is (ap length none) left x (sym whole ∙ at)
-
-      pub first_taken_counted : length items ≤ between
-      first_taken_counted = let counted = first_counted front back buckets rest found bucket between it first is in omega (arith, ap length whole)
 
       pub first_taken_ahead : (left : List T) (r : Option T) → YieldsFirst all_left items r left → (count : ℕ) → count ≡ length items → IsAhead left rest back (between - count)
       first_taken_ahead left r step count counted = first_ahead front back buckets rest found bucket between it first is left count (counted ∙ ap length whole) (omega (arith, fewer_first items left r step))

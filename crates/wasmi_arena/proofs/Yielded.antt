@@ -1,5 +1,5 @@
 -- Facts on the items that an iterator yields.
-use Rattle.std.proofs.Common.{◌≡◌, List, [], ◌∷◌, ◌++◌, Option, Some, None, refl, sym, ◌∙◌, ap, subst, append-nil, append_assoc}
+use Rattle.std.proofs.Common.{◌≡◌, List, [], ◌∷◌, ◌++◌, Option, Some, None, refl, sym, ◌∙◌, ap, subst, append_assoc}
 use Rattle.std.specs.Iterator.{Count, IsFinite, Yields, Drains}
 use Rattle.wasmi_arena.specs.Growth.{TakesAll, TakesUpTo, TakesSome}
 
@@ -29,14 +29,7 @@ module _ {U S T : Type 0} (becomes : U → S → Type 0) (steps : S → Option T
     pub can_go_on : can items
     pub finite : IsFinite (left items)
 
-  pub taken_none : (iter : U) (it : S) (old : List T) → becomes iter it → can it → IsFinite (left it) → TakenSoFar iter it old old
-  taken_none iter it old made can_next ends = record { it = it; xs = []; is_made = made; came = refl; are = sym (append-nil old); can_go_on = can_next; finite = ends }
-
   module _ (iter : U) (s : S) (old mid : List T) (so_far : TakenSoFar iter s old mid) where
-    -- the iterator ends
-    pub taken_all : (u : S) → steps s None u → TakesAll becomes steps iter old mid
-    taken_all u end = (so_far.it, so_far.xs, so_far.is_made, (u, (s, so_far.came, end)), so_far.are)
-
     module _ (x : T) (t : S) (step : steps s (Some x) t) where
       -- an item comes that doesn't go in
       pub taken_up_to : TakesUpTo becomes steps iter old mid

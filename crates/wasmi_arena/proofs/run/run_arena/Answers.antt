@@ -1,5 +1,4 @@
 use Rattle.std.proofs.Common.{◌∙◌, length-append, arith, [], ◌∷◌}
-use Rattle.std.proofs.IntoIterSteps.{All-taken}
 use Rattle.wasmi_arena.specs.Arena.{arena_limit}
 use Rattle.wasmi_arena.proofs.Arena.{ArenaRun-append}
 use Rattle.wasmi_arena.proofs.run.run_arena.Goals as goal
@@ -13,9 +12,3 @@ loop-command-preserved g c =
       c.push_reserved.ensures.len ∙ (let counted = so_far.1 in omega (arith, length-append c.loop-command.yielded (c.in-Some.command ∷ []))),
       c.push_reserved.ensures.capacity ∙ so_far.2,
     )
-
-pub returns-clause-run : goal.returns-clause-run
-returns-clause-run g c =
-    let all = All-taken c.into_iter-command-iterator.result c.loop-command.yielded (c.next.new.self, (c.loop-command.command-iterator, c.loop-command.yielded_by, c.in-None.ensures.steps)) in
-    let given = c.into_iter-command-iterator.ensures.into_iter_gives in
-    rw (← given.0, ← all) c.loop-command.invariant.0

@@ -1,10 +1,15 @@
-use Rattle.std.proofs.Common.{◌≡◌, ℕ, ◌-◌, ◌<◌, ◌≤◌, arith, length}
+use Rattle.std.proofs.Common.{◌≡◌, ℕ, ◌-◌, ◌<◌, ◌≤◌, Option, None, Some, true, arith, length}
+use Rattle.std.specs.Option.{SomeIff, is_some}
 use Rattle.wasmi_arena.specs.Geometry.{max_len, fewest, slots}
 use Rattle.wasmi_arena.specs.Keys.{Keys}
 use Rattle.wasmi_arena.specs.Arena.{stable_limit}
 use Rattle.wasmi_arena.proofs.Geometry.{start_mono, fewest-le}
-use Rattle.wasmi_arena.proofs.Keys.{has_key}
 use Rattle.wasmi_arena.proofs.stable_arena.StableArena.fill_last_from.Goals as goal
+
+-- what holds exactly where there is a key
+has_key : {K P : Type 0} (key : K) (found : Option K) → SomeIff found P key → is_some found ≡ true → P
+has_key key None none there = cc
+has_key key (Some k) is there = is.0
 
 -- where the last slot has a key, there is one for each item
 each_keyed : {K : Type 0} (keys : Keys K) (old new n : ℕ) → new ≤ slots old → n ≡ slots old → n - 1 < keys.count → old ≤ stable_limit keys → new ≤ stable_limit keys

@@ -1,13 +1,6 @@
-use Rattle.std.proofs.Common.{refl, ap, inr, rules}
+use Rattle.std.proofs.Common.{refl}
 use Rattle.std.proofs.Math.Nat.{not-le_of_lt}
-use Rattle.std.proofs.Math.ListN.{length-set}
 use Rattle.wasmi_arena.proofs.stable_arena.StableArena.get_mut.Goals as goal
-
-pub item_mut-requires : goal.item_mut-requires
-item_mut-requires g c = (search rules, rw (← c.len.ensures.value) c.if-index-len.true)
-
-pub invariant_of-self-lent : goal.invariant_of-self-lent
-invariant_of-self-lent g c = λ w. rw length-set c.self.invariant
 
 pub returns-then-index-len : goal.returns-then-index-len
 returns-then-index-len g c = (
@@ -17,16 +10,5 @@ returns-then-index-len g c = (
     item = rw (← c.self.view_is, ← c.into_usize-index.ensures.number) c.item_mut.ensures.value;
     out_of_bounds = (λ refused. cc, rw (← c.self.view_is, ← c.into_usize-index.ensures.number, ← c.len.ensures.value) (λ beyond. absurd (not-le_of_lt c.if-index-len.true beyond)));
     errors = tt;
-  },
-)
-
-pub returns-else-index-len : goal.returns-else-index-len
-returns-else-index-len g c = (
-  ap inr c.self.view_is,
-  record {
-    writes_back = tt;
-    item = tt;
-    out_of_bounds = (λ refused. rw (← c.self.view_is, ← c.into_usize-index.ensures.number, ← c.len.ensures.value) c.if-index-len.false, λ beyond. refl);
-    errors = refl;
   },
 )

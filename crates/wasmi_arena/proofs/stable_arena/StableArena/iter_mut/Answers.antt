@@ -4,7 +4,6 @@ use Rattle.wasmi_arena.specs.IterMut.{left}
 use Rattle.wasmi_arena.proofs.Entries.{length-entries_from}
 use Rattle.wasmi_arena.proofs.Refilled.{length-refill}
 use Rattle.wasmi_arena.proofs.FilledParts.{HasBuckets-items, HasBuckets-own}
-use Rattle.wasmi_arena.specs.Geometry.{fewest}
 use Rattle.wasmi_arena.proofs.stable_arena.StableArena.iter_mut.Goals as goal
 
 pub of_whole-requires-clause-buckets : goal.of_whole-requires-clause-buckets
@@ -32,6 +31,3 @@ returns g c =
         bound = c.lend-all.ensures.buckets.few_items;
       },
     )
-
-pub of_whole-requires-clause-open : goal.of_whole-requires-clause-open
-of_whole-requires-clause-open g c = c.open_buckets-open_buckets.ensures ∙ ap fewest (sym c.len-len.ensures.value)

@@ -2,8 +2,7 @@ use Rattle.std.proofs.Common.{ap, ◌∙◌}
 use Rattle.std.proofs.lemmas.Bool.{false≢true}
 use Rattle.wasmi_arena.specs.Bucket.{Bucket}
 use Rattle.wasmi_arena.specs.Geometry.{size}
-use Rattle.wasmi_arena.proofs.Cloned.{cloned_none, cloned_next, part_of_none, part_bucket, part_size, part_fits, part_appended, part_all}
-use Rattle.wasmi_arena.proofs.Sizes.{array_small}
+use Rattle.wasmi_arena.proofs.Cloned.{cloned_none, cloned_next, part_bucket, part_size, part_fits, part_appended, part_all}
 use Rattle.wasmi_arena.proofs.stable_vec.StableVec.clone_in.Goals as goal
 
 pub loop-part-init : goal.loop-part-init
@@ -35,18 +34,3 @@ append_bucket-requires g c =
 
 pub loop-part-preserved : goal.loop-part-preserved
 loop-part-preserved g c = rw c.append_bucket.ensures (cloned_next c.loop-part.invariant c.in-Some.ensures.steps _ c.in_ok-push_clones.ensures.items)
-
-pub returns-in_err-clone-clause-empty : goal.returns-in_err-clone-clause-empty
-returns-in_err-clone-clause-empty g c = part_of_none c.loop-part.invariant c.in-Some.ensures.steps
-
-pub returns-in_err-next-clause-empty : goal.returns-in_err-next-clause-empty
-returns-in_err-next-clause-empty g c = part_of_none c.loop-part.invariant c.in-Some.ensures.steps
-
-pub returns-in_err-push_clones-clause-empty : goal.returns-in_err-push_clones-clause-empty
-returns-in_err-push_clones-clause-empty g c = part_of_none c.loop-part.invariant c.in-Some.ensures.steps
-
-pub array_drop-made-inside-requires-in_err-next : goal.array_drop-made-inside-requires-in_err-next
-array_drop-made-inside-requires-in_err-next g c = array_small g.row.T g.row.B g.B.Allocator assumption
-
-pub array_drop-made-inside-requires-in_err-push_clones : goal.array_drop-made-inside-requires-in_err-push_clones
-array_drop-made-inside-requires-in_err-push_clones g c = array_small g.row.T g.row.B g.B.Allocator assumption

@@ -1,24 +1,10 @@
-use Rattle.std.proofs.Common.{arith, length, inl, inr}
+use Rattle.std.proofs.Common.{length, inl, inr}
 use Rattle.std.proofs.lemmas.Bool.{cases_lt, false≢true}
 use Rattle.std.proofs.lemmas.Result.{err_from_is_err_and}
 use Rattle.wasmi_arena.specs.Geometry.{max_len}
-use Rattle.wasmi_arena.proofs.Growth.{refuses_one_more}
-use Rattle.wasmi_arena.proofs.Yielded.{taken_none, taken_up_to, taken_more, taken_last, taken_all}
+use Rattle.wasmi_arena.proofs.Yielded.{taken_more, taken_last}
 use Rattle.wasmi_arena.proofs.Results.{same_error}
 use Rattle.wasmi_arena.proofs.stable_vec.StableVec.extend.Goals as goal
-
-pub loop-item-init : goal.loop-item-init
-loop-item-init g c =
-    let made = c.into_iter-items.ensures.into_iter_gives in let goes = c.requires c.into_iter-items.result made in
-    taken_none g.U.IntoIterator.into_iter_gives g.U.IntoIter.Iterator.next_gives g.U.IntoIter.Iterator.can_next g.U.IntoIter.Iterator.remaining _ _ _ made goes.0 goes.1
-
-pub returns-in_err-push-clause-err : goal.returns-in_err-push-clause-err
-returns-in_err-push-clause-err g c =
-    let failed = err_from_is_err_and c.from_residual.result c.from_residual.ensures.1 in let refused = c.in_err-push.ensures in
-    rw (failed.1, failed.2, refused.err) (
-      taken_up_to g.U.IntoIterator.into_iter_gives g.U.IntoIter.Iterator.next_gives g.U.IntoIter.Iterator.can_next g.U.IntoIter.Iterator.remaining _ _ _ _ c.loop-item.invariant _ _ c.in-Some.ensures.steps,
-      refuses_one_more max_len (length c.loop-item.self) c.in_err-push.field-0.0 refused.errors refused.full refused.memory,
-    )
 
 pub returns-in_err-push-clause-without_size : goal.returns-in_err-push-clause-without_size
 returns-in_err-push-clause-without_size g c = λ none infallible.
@@ -34,14 +20,6 @@ loop-item-preserved g c =
     taken_more g.U.IntoIterator.into_iter_gives g.U.IntoIter.Iterator.next_gives g.U.IntoIter.Iterator.can_next g.U.IntoIter.Iterator.remaining _ _ _ _ c.loop-item.invariant _ _ c.in-Some.ensures.steps _ _ c.in_ok-push.ensures.ok
     c.in-Some-fill_last_from.rest more.items more.goes.0 more.goes.1.0
 
-pub loop-item-smaller : goal.loop-item-smaller
-loop-item-smaller g c =
-    let on = c.in-Some.ensures.goes.on c.loop-item.invariant.finite in let fewer = on.2 in let most = c.in-Some-fill_last_from.ensures.goes.1.1 in omega arith
-
 pub returns-in-None-clause-ok : goal.returns-in-None-clause-ok
 returns-in-None-clause-ok g c =
     taken_last g.U.IntoIterator.into_iter_gives g.U.IntoIter.Iterator.next_gives g.U.IntoIter.Iterator.can_next g.U.IntoIter.Iterator.remaining _ _ _ _ c.loop-item.invariant _ _ c.in-Some.ensures.steps _ _ c.in_ok-push.ensures.ok c.in-None.ensures.items
-
-pub returns-clause-ok : goal.returns-clause-ok
-returns-clause-ok g c =
-    taken_all g.U.IntoIterator.into_iter_gives g.U.IntoIter.Iterator.next_gives g.U.IntoIter.Iterator.can_next g.U.IntoIter.Iterator.remaining _ _ _ _ c.loop-item.invariant _ c.in_default.ensures.steps

@@ -1,9 +1,7 @@
-use Rattle.std.proofs.Common.{arith, ◌<◌, ◌++◌, length, min, ◌∙◌, sym, ap}
+use Rattle.std.proofs.Common.{arith, ◌<◌, ◌++◌, ◌∙◌, ap}
 use Rattle.std.proofs.Math.Nat.{lt_of_lt_of_le}
 use Rattle.wasmi_arena.specs.Table.{items_of}
 use Rattle.wasmi_arena.proofs.LaidOut.{first_free, open_size, place-open, len-le_slots, slots-le_max, fits-last, items_of-fill, IsLaidOut-fill}
-use Rattle.wasmi_arena.specs.Geometry.{room}
-use Rattle.wasmi_arena.proofs.LaidOut.{free-room}
 use Rattle.wasmi_arena.proofs.stable_vec.StableVec.fill_last.Goals as goal
 
 pub overflow_sub-self-inside : goal.overflow_sub-self-inside
@@ -41,9 +39,3 @@ returns-clause-items g c =
       filled.2,
       filled.3,
     )
-
-pub returns-clause-filled : goal.returns-clause-filled
-returns-clause-filled g c = c.min-filled.ensures ∙ ap (min c.args.amount) (free-room _ _ _ _ c.self.invariant ∙ ap (λ xs. room (length xs)) c.self.view_is)
-
-pub returns-then-filled-eq0-clause-filled : goal.returns-then-filled-eq0-clause-filled
-returns-then-filled-eq0-clause-filled g c = sym c.if-filled-eq0.true ∙ (c.min-filled.ensures ∙ ap (min c.args.amount) (free-room _ _ _ _ c.self.invariant ∙ ap (λ xs. room (length xs)) c.self.view_is))

@@ -5,7 +5,7 @@ use Rattle.wasmi_arena.specs.Geometry.{start}
 use Rattle.wasmi_arena.specs.Table.{items_of}
 use Rattle.wasmi_arena.proofs.Apart.{len_is, open_is}
 use Rattle.wasmi_arena.proofs.LaidOut.{first_free, open_size, place-open, len-le_slots, slots-le_max, free-last, items_of-fill, IsLaidOut-fill}
-use Rattle.wasmi_arena.proofs.Geometry.{fewest_is_least, place_fits}
+use Rattle.wasmi_arena.proofs.Geometry.{place_fits}
 use Rattle.wasmi_arena.proofs.stable_vec.StableVec.fill_last_from.Goals as goal
 
 pub place_in_last-place-requires-clause-below : goal.place_in_last-place-requires-clause-below
@@ -52,6 +52,3 @@ returns-clause-within g c =
 
 pub overflow_add-self : goal.overflow_add-self
 overflow_add-self g c = place_fits c.place_in_last-place.ensures.place _ c.fill_bucket_from-filled.ensures.fits
-
-pub returns-then-self-clause-within : goal.returns-then-self-clause-within
-returns-then-self-clause-within g c = (fewest_is_least _ (rw (c.self.invariant.items_counted, c.self.view_is) at c.self.invariant.few_items)).enough

@@ -1,9 +1,6 @@
 use Rattle.std.proofs.Common.{◌∙◌, refl, sym}
-use Rattle.wasmi_arena.proofs.LaidOut.{index-lt_len, index-lt_max, slot_filled, slice_get-slot, items_of-written, IsLaidOut-written}
+use Rattle.wasmi_arena.proofs.LaidOut.{index-lt_len, slot_filled, slice_get-slot, items_of-written, IsLaidOut-written}
 use Rattle.wasmi_arena.proofs.stable_vec.StableVec.item_mut.Goals as goal
-
-pub place-bucket-requires : goal.place-bucket-requires
-place-bucket-requires g c = index-lt_max _ _ _ _ c.self.invariant (rw c.self.view_is c.requires)
 
 pub slot_mut-requires : goal.slot_mut-requires
 slot_mut-requires g c =

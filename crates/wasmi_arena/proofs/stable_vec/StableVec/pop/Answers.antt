@@ -1,5 +1,4 @@
-use Rattle.std.proofs.Common.{◌≡◌, ℕ, ◌+◌, ◌-◌, ◌<◌, List, [], length, refl, sym, ◌∙◌, ap, arith}
-use Rattle.std.proofs.lemmas.List.{nil_from_length}
+use Rattle.std.proofs.Common.{◌≡◌, ℕ, ◌+◌, ◌-◌, ◌<◌, sym, arith}
 use Rattle.wasmi_arena.proofs.Geometry.{fewest-le, place-le_max}
 use Rattle.wasmi_arena.proofs.LaidOut.{items_of-pop, IsLaidOut-pop, last_in_place, popped}
 use Rattle.wasmi_arena.proofs.stable_vec.StableVec.pop.Goals as goal
@@ -7,9 +6,6 @@ use Rattle.wasmi_arena.proofs.stable_vec.StableVec.pop.Goals as goal
 -- the last index is one below the length
 before_last : {len : ℕ} → 0 < len → len ≡ len - 1 + 1
 before_last some = omega arith
-
-pub pop_from-item-requires-clause-in_table : goal.pop_from-item-requires-clause-in_table
-pop_from-item-requires-clause-in_table g c = rw c.self.invariant.buckets_counted c.place-place.ensures.place.bucket_exists
 
 pub pop_from-item-requires-clause-last : goal.pop_from-item-requires-clause-last
 pop_from-item-requires-clause-last g c =
@@ -38,13 +34,3 @@ pub returns-clause-value : goal.returns-clause-value
 returns-clause-value g c =
     let last = before_last (omega (arith, c.if-self-eq0.false)) in
     rw (← c.self.view_is, ← c.self.invariant.items_counted) (sym (popped _ _ _ _ c.self.invariant _ _ _ c.place-place.ensures.place last _ c.pop_from-item.ensures.item).0)
-
--- no item is left where the length is 0
-none_left : {T : Type 0} (items : List T) (len : ℕ) → len ≡ length items → len ≡ 0 → items ≡ []
-none_left items len counted none = nil_from_length items (sym counted ∙ none)
-
-pub returns-then-self-eq0-clause-rest : goal.returns-then-self-eq0-clause-rest
-returns-then-self-eq0-clause-rest g c = rw (none_left _ _ (c.self.invariant.items_counted ∙ ap length c.self.view_is) c.if-self-eq0.true) refl
-
-pub returns-then-self-eq0-clause-value : goal.returns-then-self-eq0-clause-value
-returns-then-self-eq0-clause-value g c = rw (none_left _ _ (c.self.invariant.items_counted ∙ ap length c.self.view_is) c.if-self-eq0.true) refl

@@ -2,7 +2,6 @@ use Rattle.std.proofs.Common.{◌≡◌, ◌++◌, Some, None, length, get_or, �
 use Rattle.wasmi_arena.specs.Bucket.{bucket}
 use Rattle.wasmi_arena.specs.Table.{bucket_filled}
 use Rattle.wasmi_arena.specs.Geometry.{size}
-use Rattle.wasmi_arena.proofs.Sizes.{offset_fits}
 use Rattle.wasmi_arena.proofs.Table.{read_there}
 use Rattle.wasmi_arena.proofs.stable_vec.grow.fill_bucket_from.Goals as goal
 
@@ -18,6 +17,3 @@ returns-clause-items g c =
       omega (arith, c.push_from.ensures.filled, ap length came.1, length-append c.in-Some.open.items came.0),
       came.2,
     )
-
-pub offset_bounds-buckets-place : goal.offset_bounds-buckets-place
-offset_bounds-buckets-place g c = offset_fits _ _ _ c.requires.in_table assumption

@@ -1,8 +1,7 @@
-use Rattle.std.proofs.Common.{arith, ap, length, refl, ◌∙◌}
+use Rattle.std.proofs.Common.{ap, ◌∙◌}
 use Rattle.wasmi_arena.specs.Entries.{entries_from}
 use Rattle.wasmi_arena.proofs.Ahead.{progress_fewer}
 use Rattle.wasmi_arena.proofs.Entries.{fewer_entries_last, entries_from_last}
-use Rattle.wasmi_arena.proofs.Keys.{last_keyed}
 use Rattle.wasmi_arena.proofs.Sizes.{items_small}
 use Rattle.wasmi_arena.proofs.stable_arena.into_iter.StableArenaIntoIterDoubleEndedIterator.next_back.Goals as goal
 
@@ -16,21 +15,6 @@ returns-clause-steps g c =
 
 pub returns-in_err-item-clause-goes : goal.returns-in_err-item-clause-goes
 returns-in_err-item-clause-goes g c = rw c.from_residual.ensures (record { on = λ _. tt; keeps = tt; rests = λ _. tt })
-
-pub overflow_add-self-inside : goal.overflow_add-self-inside
-overflow_add-self-inside g c = record { fits = (last_keyed g.Key.ArenaKey.keys _ _ _ _ c.self.invariant _ c.len.ensures c.in_ok-item.ensures.steps).0 }
-
-pub unreachable-requires : goal.unreachable-requires
-unreachable-requires g c = c.in-None.ensures (last_keyed g.Key.ArenaKey.keys _ _ _ _ c.self.invariant _ c.len.ensures c.in_ok-item.ensures.steps).1
-
-pub invariant_of-self : goal.invariant_of-self
-invariant_of-self g c = omega (arith, c.self.invariant, ap length c.in_err-item.ensures.steps.1)
-
-pub invariant_of-self-2 : goal.invariant_of-self-2
-invariant_of-self-2 g c = (last_keyed g.Key.ArenaKey.keys _ _ _ _ c.self.invariant _ refl c.in_ok-item.ensures.steps).2
-
-pub next_back-requires : goal.next_back-requires
-next_back-requires g c = (items_small g.row.T g.row.A g.A.Allocator g.row.Key g.Key.ArenaKey assumption, tt)
 
 pub len-requires : goal.len-requires
 len-requires g c = items_small g.row.T g.row.A g.A.Allocator g.row.Key g.Key.ArenaKey assumption

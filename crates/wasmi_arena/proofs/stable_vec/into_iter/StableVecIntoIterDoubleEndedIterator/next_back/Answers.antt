@@ -1,21 +1,10 @@
-use Rattle.std.proofs.Common.{◌∙◌, Some, [], ◌∷◌, ◌++◌, sym, ap, subst}
+use Rattle.std.proofs.Common.{◌∙◌, [], ◌∷◌, ◌++◌, sym, ap, subst}
 use Rattle.std.specs.Array.Iter.{array_into_iter_items}
-use Rattle.wasmi_arena.specs.Ahead.{in_hand}
-use Rattle.wasmi_arena.specs.Table.{AreFilled, items_of}
+use Rattle.wasmi_arena.specs.Table.{AreFilled}
 use Rattle.wasmi_arena.proofs.Table.{filled_last_open}
 use Rattle.wasmi_arena.proofs.Taken.{all_left, last_taken, last_taken_counted, last_taken_ahead, taken_before, taken_before_ahead}
-use Rattle.wasmi_arena.proofs.Ahead.{back_yields, back_ahead, progress_last}
-use Rattle.wasmi_arena.proofs.Sizes.{buckets_small}
+use Rattle.wasmi_arena.proofs.Ahead.{progress_last}
 use Rattle.wasmi_arena.proofs.stable_vec.into_iter.StableVecIntoIterDoubleEndedIterator.next_back.Goals as goal
-
-pub invariant_of-self : goal.invariant_of-self
-invariant_of-self g c = back_ahead _ _ c.in-Some.ensures c.self.invariant
-
-pub returns-in-Some-clause-steps : goal.returns-in-Some-clause-steps
-returns-in-Some-clause-steps g c = rw (← c.self.view_is) (back_yields (in_hand c.self.inside.front) (items_of (array_into_iter_items c.self.inside.buckets)) _ _ c.in-Some.ensures)
-
-pub returns-in-Some-clause-goes : goal.returns-in-Some-clause-goes
-returns-in-Some-clause-goes g c = progress_last (λ x. x) all_left _ (λ _. tt) _ _ (Some c.in-Some.item) (returns-in-Some-clause-steps g c)
 
 pub overflow_sub-self : goal.overflow_sub-self
 overflow_sub-self g c =
@@ -47,6 +36,3 @@ pub unreachable-requires : goal.unreachable-requires
 unreachable-requires g c =
     let left = array_into_iter_items c.next_back.new.self in
     filled_last_open left (subst AreFilled (c.in-Some-None.ensures.steps ∙ ap (λ b. left ++ b ∷ []) c.in-Some-None.field-0-is) c.self.invariant.filled)
-
-pub next_back-requires : goal.next_back-requires
-next_back-requires g c = (buckets_small g.row.T g.row.A g.A.Allocator assumption, tt)

@@ -1,24 +1,8 @@
-use Rattle.std.proofs.Common.{Some, ◌∷◌, sym, ◌∙◌, ap, subst}
+use Rattle.std.proofs.Common.{sym, ap}
 use Rattle.std.specs.Array.Iter.{array_into_iter_items}
-use Rattle.wasmi_arena.specs.Ahead.{in_hand}
-use Rattle.wasmi_arena.specs.Table.{AreFilled, items_of}
-use Rattle.wasmi_arena.proofs.Taken.{all_left, first_taken, first_taken_counted, first_taken_ahead, taken_behind, taken_behind_ahead}
-use Rattle.wasmi_arena.proofs.Ahead.{front_yields, front_ahead, progress_first}
-use Rattle.wasmi_arena.proofs.Sizes.{buckets_small}
+use Rattle.wasmi_arena.proofs.Taken.{all_left, first_taken, first_taken_ahead, taken_behind, taken_behind_ahead}
+use Rattle.wasmi_arena.proofs.Ahead.{progress_first}
 use Rattle.wasmi_arena.proofs.stable_vec.into_iter.StableVecIntoIterIterator.next.Goals as goal
-
-pub invariant_of-self : goal.invariant_of-self
-invariant_of-self g c = front_ahead c.in-Some.ensures c.self.invariant
-
-pub returns-in-Some-clause-steps : goal.returns-in-Some-clause-steps
-returns-in-Some-clause-steps g c = rw (← c.self.view_is) (front_yields (items_of (array_into_iter_items c.self.inside.buckets)) (in_hand c.self.inside.back) c.in-Some.ensures)
-
-pub returns-in-Some-clause-goes : goal.returns-in-Some-clause-goes
-returns-in-Some-clause-goes g c = progress_first (λ x. x) all_left _ (λ _. tt) _ _ (Some c.in-Some.item) (returns-in-Some-clause-steps g c)
-
-pub overflow_sub-self : goal.overflow_sub-self
-overflow_sub-self g c =
-    rw c.len.ensures (first_taken_counted _ _ _ _ _ _ (sym c.in-Some-Some.field-0-is) _ c.self.invariant _ c.into_items-items.ensures c.in-Some-Some.ensures.steps)
 
 pub invariant_of-self-in-Some-Some : goal.invariant_of-self-in-Some-Some
 invariant_of-self-in-Some-Some g c =
@@ -41,10 +25,3 @@ returns-in-None-clause-steps g c =
 
 pub returns-in-None-clause-goes : goal.returns-in-None-clause-goes
 returns-in-None-clause-goes g c = progress_first (λ x. x) all_left _ (λ _. tt) _ _ _ (returns-in-None-clause-steps g c)
-
-pub next-requires : goal.next-requires
-next-requires g c = (buckets_small g.row.T g.row.A g.A.Allocator assumption, tt)
-
-pub unreachable-requires : goal.unreachable-requires
-unreachable-requires g c =
-    let left = array_into_iter_items c.next.new.self in subst AreFilled (c.in-Some-None.ensures.steps ∙ ap (λ b. b ∷ left) c.in-Some-None.field-0-is) c.self.invariant.filled

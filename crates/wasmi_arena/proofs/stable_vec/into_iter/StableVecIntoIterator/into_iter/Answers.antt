@@ -2,7 +2,6 @@ use Rattle.std.proofs.Common.{arith, take, ap, ◌∙◌, refl, sym, []}
 use Rattle.std.proofs.Math.Seq.{take-length}
 use Rattle.wasmi_arena.proofs.Taken.{kept_fewer, kept_open}
 use Rattle.wasmi_arena.proofs.LaidOut.{all_ahead, open-le_27}
-use Rattle.wasmi_arena.proofs.Sizes.{array_small, buckets_small}
 use Rattle.wasmi_arena.proofs.stable_vec.into_iter.StableVecIntoIterator.into_iter.Goals as goal
 
 pub loop-init : goal.loop-init
@@ -24,9 +23,3 @@ pub returns : goal.returns
 returns g c =
     let left = kept_open _ c.loop.buckets c.loop.buckets _ _ (c.loop.invariant.kept, c.loop.invariant.counted) (omega (arith, c.loop.invariant.within)) ∙ ap (take c.self.inside.open_buckets) c.into_iter-buckets.ensures.into_iter_gives.0 in
     record { into_iter_gives = rw (left, ← c.self.view_is) (all_ahead _ _ _ _ c.self.invariant [] [] refl refl).1 }
-
-pub into_iter-buckets-requires : goal.into_iter-buckets-requires
-into_iter-buckets-requires g c = (array_small g.row.T g.row.A g.A.Allocator assumption, buckets_small g.row.T g.row.A g.A.Allocator assumption)
-
-pub next_back-none-requires : goal.next_back-none-requires
-next_back-none-requires g c = (buckets_small g.row.T g.row.A g.A.Allocator assumption, tt)

@@ -1,20 +1,12 @@
-use Rattle.std.proofs.Common.{arith, ap, length, ◌∙◌, Some, Bor}
-use Rattle.std.specs.Slice.Iter.{iter_rest}
-use Rattle.wasmi_arena.specs.Table.{items_of}
-use Rattle.wasmi_arena.proofs.Ahead.{back_yields, progress_last}
-use Rattle.wasmi_arena.proofs.Table.{last_counted, last_ahead, last_yields, rest_yields_last, length-steps_back}
+use Rattle.std.proofs.Common.{arith, ap, length, ◌∙◌, Bor}
+use Rattle.wasmi_arena.proofs.Ahead.{progress_last}
+use Rattle.wasmi_arena.proofs.Table.{last_counted, last_ahead, last_yields, length-steps_back}
 use Rattle.wasmi_arena.proofs.stable_vec.iter.StableVecIterDoubleEndedIterator.next_back.Goals as goal
 
 pub overflow_sub-self : goal.overflow_sub-self
 overflow_sub-self g c =
     let counted = last_counted _ _ _ _ _ _ _ c.self.invariant c.in-Some-next_back.ensures.steps c.in_ok-as_ref-in-Some-next_back.ensures.value in
     rw c.slice-items.ensures (omega arith)
-
-pub returns-in-Some-clause-steps : goal.returns-in-Some-clause-steps
-returns-in-Some-clause-steps g c = rw (← c.self.view_is) (back_yields (iter_rest c.self.inside.front) (items_of (iter_rest c.self.inside.buckets)) _ _ c.in-Some.ensures.steps)
-
-pub returns-in-Some-clause-goes : goal.returns-in-Some-clause-goes
-returns-in-Some-clause-goes g c = progress_last (λ (x : Bor g.row.T.Denot). x.now) (λ items. items) _ (λ _. tt) _ _ (Some c.in-Some.item) (returns-in-Some-clause-steps g c)
 
 pub returns-in_ok-as_ref-in-Some-next_back-clause-steps : goal.returns-in_ok-as_ref-in-Some-next_back-clause-steps
 returns-in_ok-as_ref-in-Some-next_back-clause-steps g c =
@@ -27,10 +19,3 @@ invariant_of-self-in-Some-next_back g c =
 
 pub returns-in_ok-as_ref-in-Some-next_back-clause-goes : goal.returns-in_ok-as_ref-in-Some-next_back-clause-goes
 returns-in_ok-as_ref-in-Some-next_back-clause-goes g c = progress_last (λ (x : Bor g.row.T.Denot). x.now) (λ items. items) _ (λ _. tt) _ _ _ (returns-in_ok-as_ref-in-Some-next_back-clause-steps g c)
-
-pub returns-in-None-clause-steps : goal.returns-in-None-clause-steps
-returns-in-None-clause-steps g c =
-    rw (← c.self.view_is, c.in_default.ensures.steps.1, c.in-None.ensures.steps.1) (rest_yields_last _ _ _ _ _ c.in_default.ensures.steps.0 c.in-None.ensures.steps.0 c.next_back-in-None.ensures.steps)
-
-pub returns-in-None-clause-goes : goal.returns-in-None-clause-goes
-returns-in-None-clause-goes g c = progress_last (λ (x : Bor g.row.T.Denot). x.now) (λ items. items) _ (λ _. tt) _ _ _ (returns-in-None-clause-steps g c)

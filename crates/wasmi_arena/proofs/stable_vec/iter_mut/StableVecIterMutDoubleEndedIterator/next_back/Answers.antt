@@ -1,10 +1,6 @@
 use Rattle.std.proofs.Common.{arith, ap, length, refl, MutBor}
-use Rattle.wasmi_arena.specs.IterMut.{left}
-use Rattle.wasmi_arena.proofs.Ahead.{last_counted, last_ahead, last_yields, fewer_last, progress_last}
+use Rattle.wasmi_arena.proofs.Ahead.{last_ahead, last_yields, fewer_last}
 use Rattle.wasmi_arena.proofs.stable_vec.iter_mut.StableVecIterMutDoubleEndedIterator.next_back.Goals as goal
-
-pub overflow_sub-self : goal.overflow_sub-self
-overflow_sub-self g c = let counted = last_counted _ _ _ _ _ _ c.self.invariant c.in-Some-next_back.ensures.steps in omega arith
 
 pub invariant_of-self-in-Some-next_back : goal.invariant_of-self-in-Some-next_back
 invariant_of-self-in-Some-next_back g c =
@@ -15,6 +11,3 @@ pub returns-in-Some-next_back-clause-steps : goal.returns-in-Some-next_back-clau
 returns-in-Some-next_back-clause-steps g c =
     rw (← c.self.view_is) (last_yields _ _ _ _ _ _ c.self.invariant c.in-Some-next_back.ensures.steps (λ (x : MutBor g.row.T.Denot). x.now) c.next_back-in-Some-next_back.result _ c.in_default.ensures.steps.0
     (rw c.iter_mut-self-inside.ensures.rest at c.next_back-in-Some-next_back.ensures.steps))
-
-pub returns-in-Some-next_back-clause-goes : goal.returns-in-Some-next_back-clause-goes
-returns-in-Some-next_back-clause-goes g c = progress_last (λ (x : MutBor g.row.T.Denot). x.now) left _ (λ _. tt) _ _ _ (returns-in-Some-next_back-clause-steps g c)

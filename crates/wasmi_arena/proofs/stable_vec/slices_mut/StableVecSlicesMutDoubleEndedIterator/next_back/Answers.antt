@@ -1,8 +1,7 @@
-use Rattle.std.proofs.Common.{rules, ◌∷◌, [], ◌++◌, List, MutBor, Some, refl, sym, ap, ◌∙◌, map}
+use Rattle.std.proofs.Common.{rules, ◌∷◌, [], ◌++◌, List, refl, sym, ap, ◌∙◌, map}
 use Rattle.wasmi_arena.specs.IterMut.{left}
 use Rattle.wasmi_arena.specs.Table.{items_in}
 use Rattle.wasmi_arena.proofs.Loans.{back_filled, front_left, back_last}
-use Rattle.wasmi_arena.proofs.Ahead.{progress_last}
 use Rattle.wasmi_arena.proofs.stable_vec.slices_mut.StableVecSlicesMutDoubleEndedIterator.next_back.Goals as goal
 
 pub into_slice-requires-clause-open : goal.into_slice-requires-clause-open
@@ -15,6 +14,3 @@ pub returns-clause-steps : goal.returns-clause-steps
 returns-clause-steps g c =
     ap left (sym c.self.view_is) ∙ (back_last c.self.inside.loan _ _ _ _ _ c.self.invariant (sym c.in_ok-loan.ensures.value) c.cut-rest.ensures (search rules) refl
     ∙ ap (λ (xs : List g.row.T.Denot). map items_in c.cut-rest.result.0.buckets ++ xs ∷ []) (sym c.into_slice.ensures))
-
-pub returns-clause-goes : goal.returns-clause-goes
-returns-clause-goes g c = progress_last (λ (part : MutBor (List g.row.T.Denot)). part.now) left _ (λ _. tt) _ _ (Some c.into_slice.result) (returns-clause-steps g c)
