@@ -1,5 +1,5 @@
--- What is known of a table's answer is known of the map's, which is made of it. Assumes `Logic`.
-use Rattle.std.proofs.Common.{◌≡◌, Bool, true, refl, sym, subst, MutBor}
+-- What a map is once the table, lent on to a place, has come back. Assumes `Logic`.
+use Rattle.std.proofs.Common.{◌≡◌, refl, sym, subst, MutBor}
 use base.Fml.{GName, Fml, fres}
 use base.Logic.{ent, sep}
 use mathlib.Core.List.{[], ◌∷◌}
@@ -10,31 +10,19 @@ use types.Kit.{‵, ◌$◌, ◌∵◌, !, qed, done, keep, move, fpick, fpack, 
 use denote.RattleType.{RattleType}
 use denote.Follow.{follows, follows_so, follows_by, such_by, followed}
 use Rattle.std.specs.Borrow.{name_if_ok, RestsIfErr}
-use Rattle.std.specs.HashMap.{HashMap, get_key}
-use Rattle.std.specs.HashMap.Entry.{entry_key, entry_map_ref, entry_value, IsEntryFor, IsRemovalFor, MatchEntry}
-use Rattle.std.specs.Prelude.{None, Some, Result, Ok, Err, IfOk, IsSome, OnOk, OnErr}
+use Rattle.std.specs.HashMap.Entry.{entry_map_ref}
+use Rattle.std.specs.Prelude.{Result, Ok, Err, IfOk, OnOk, OnErr}
 use Rattle.std.specs.declared.alloc.AllocFailed.{AllocFailed}
 use Rattle.std.specs.declared.collections.hash_map.Entry.{Entry as Place}
 use Rattle.std.specs.declared.cmp.PartialEq as eq
 use Rattle.std.specs.declared.hash.Hash as hash
 use Rattle.std.specs.declared.hash.Hasher as hasher
 use Rattle.std.specs.declared.hash.BuildHasher as builder
-use Rattle.wasmi_map_specs.specs.Maps.{value_at}
-use Rattle.wasmi_hashed.specs.MapEntry.{map_of, place, IsPlaceOf, IsOfInner}
+use Rattle.wasmi_hashed.specs.MapEntry.{place, IsOfInner}
 use Rattle.wasmi_arena.specs.declared.error.ArenaError.{ArenaError}
 use Rattle.wasmi_hashed.specs.declared.map.entry.Entry.{Entry}
 
 module _ {K V S A H : Type 0} {g : eq.Ghosts K} {h : hash.Ghosts K} {b : builder.Ghosts S H} {w : hasher.Ghosts H} where
-  -- of the standard library's clauses
-  pub is_place : {E : Type 0} (same : K → K → Bool) (table : HashMap K V S) (key : K) (r : Result (Place K V S A H g h b w) E)
-      → IfOk r (λ e. entry_value e ≡ None → entry_key e ≡ key) → IfOk r (λ e. same key (entry_key e) ≡ true) → IfOk r (λ e. entry_value e ≡ value_at same table.entries key)
-      → IfOk r (λ e. MatchEntry e (IsSome (value_at same table.entries key) × (get_key same table key ≡ Some (entry_key e))) (value_at same table.entries key ≡ None))
-      → IfOk r (λ e. (entry_map_ref e).now.entries ≡ table.entries) → IfOk r (IsEntryFor same table key) → IfOk r (IsRemovalFor same table key)
-      → IfOk r (IsPlaceOf same (map_of table) key)
-  is_place same table key (Ok e) is_key is_same is_value found entries written removed = (is_key, is_same, is_value, found, entries, written.1, written.3, removed.1)
-  is_place same table key (Err failed) is_key is_same is_value found entries written removed = tt
-
-  -- what the map is once the table, lent on to a place, has come back
   module _ {M : Type 1} {𝓤 : Ura M} (𝓛 : Logic 𝓤) (R T : RattleType) (F : T.Denot → R.Denot) (γ : GName) (part : MutBor T.Denot) (last : R.Denot)
       (P : T.Denot → Type 0) (Q : R.Denot → Type 0) (as_before : (now : T.Denot) → P now → Q (F now)) where
     abbrev Held : Result (Place K V S A H g h b w) (AllocFailed K) → Type 0

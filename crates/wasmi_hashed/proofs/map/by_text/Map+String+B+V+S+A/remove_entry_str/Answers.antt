@@ -2,6 +2,3 @@ use Rattle.wasmi_hashed.proofs.map.by_text.Map+String+B+V+S+A.remove_entry_str.G
 
 pub returns-clause-changes : goal.returns-clause-changes
 returns-clause-changes g c = rw (← c.self.view_is) c.remove_entry.ensures.updates.0
-
-pub returns-clause-changes_key : goal.returns-clause-changes_key
-returns-clause-changes_key g c = λ k same. rw (← c.self.view_is, same) c.remove_entry.ensures.updates.0

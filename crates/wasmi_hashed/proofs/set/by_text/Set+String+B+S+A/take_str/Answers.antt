@@ -2,6 +2,3 @@ use Rattle.wasmi_hashed.proofs.set.by_text.Set+String+B+S+A.take_str.Goals as go
 
 pub returns-clause-changes : goal.returns-clause-changes
 returns-clause-changes g c = rw (← c.self.view_is) c.take.ensures.updates.0
-
-pub returns-clause-changes_key : goal.returns-clause-changes_key
-returns-clause-changes_key g c = λ k same. rw (← c.self.view_is, same) c.take.ensures.updates.0

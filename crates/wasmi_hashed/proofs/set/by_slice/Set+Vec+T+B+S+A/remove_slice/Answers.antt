@@ -1,4 +1,0 @@
-use Rattle.wasmi_hashed.proofs.set.by_slice.Set+Vec+T+B+S+A.remove_slice.Goals as goal
-
-pub returns-clause-changes : goal.returns-clause-changes
-returns-clause-changes g c = rw (← c.self.view_is) c.remove.ensures.updates.0

@@ -1,5 +1,0 @@
-use Rattle.std.proofs.lemmas.Option.{IfSome_then}
-use Rattle.wasmi_ordered.proofs.set.Set.pop_last.Goals as goal
-
-pub returns-clause-changes : goal.returns-clause-changes
-returns-clause-changes g c = rw (← c.self.view_is) (IfSome_then c.pop_last.result c.pop_last.ensures.updates (λ element changes. changes.0))
