@@ -1,17 +1,14 @@
 -- Facts on the values handed in to a deduplicating arena, and on its index.
-use Rattle.std.proofs.Common.{All, ◌≡◌, ℕ, ◌+◌, ◌<◌, ◌≤◌, suc, Bool, true, false, cond, List, [], ◌∷◌, ◌++◌, length, length-append, drop, map, Result, Ok, Err, OnOk, OnErr, MatchOption, Option, Some, None, option_map, find, filter_map, position, slice_get, slice_set, nat_eq, IsPermutation, refl, sym, ap, ◌∙◌, subst, is_some, eqb-true, ◌||◌, true≢false, arith}
+use Rattle.std.proofs.Common.{All, ◌≡◌, ℕ, ◌+◌, ◌<◌, ◌≤◌, suc, Bool, true, false, cond, List, [], ◌∷◌, ◌++◌, length, length-append, map, MatchOption, Option, Some, None, option_map, find, filter_map, position, slice_get, nat_eq, IsPermutation, refl, sym, ap, ◌∙◌, subst, is_some, eqb-true, ◌||◌, true≢false, arith}
 use Rattle.std.specs.Cmp.{IsEquivalence}
 use Rattle.std.specs.Map.{set_value}
 use Rattle.std.specs.List.{AllByRecursion, IsDistinct, list_any, position_from, range_with_len, cons_option}
 use Rattle.std.proofs.lemmas.Bool.{eqb-false}
 use Rattle.std.proofs.lemmas.Iterator.Adapters.{position_from-zero}
-use Rattle.std.proofs.lemmas.List.{length-set, length-drop, length-take-le}
 use Rattle.std.proofs.lemmas.List.Sorted.{length_permutation, list_any-IsPermutation, All-permutation, IsPermutation-push_more, IsPermutation-refl}
 use Rattle.std.proofs.lemmas.List.Elements.{All-nil, All-cons, All-head, All-tail}
 use Rattle.std.proofs.lemmas.Map.Keys.{IsDistinct-cons, IsDistinct-head, IsDistinct-tail}
-use Rattle.wasmi_arena.specs.Arena.{ArenaState}
 use Rattle.wasmi_arena.specs.Keys.{Keys, KeyLaw}
-use Rattle.wasmi_dense.specs.ArenaLoan.{written}
 use Rattle.wasmi_map_specs.specs.Maps.{value_at, ChangesAt}
 use Rattle.wasmi_collections.specs.Dedup.{keyed_from, keyed, value_numbered, in_order, IsIndex, DedupState, AllocatesValue, AllocatesEach}
 
@@ -46,9 +43,6 @@ module _ {T : Type 0} {eq : T → T → Bool} (laws : IsEquivalence eq) where
   -- equal values are found alike
   pub position-congr : (v w : T) → eq v w ≡ true → (xs : List T) → position_from (eq v) 0 xs ≡ position_from (eq w) 0 xs
   position-congr v w same xs = λ i. position_from (λ x. laws.congr v w x same i) 0 xs
-
-  pub position-alike : (v w : T) → eq v w ≡ true → (xs : List T) → position (eq v) xs ≡ position (eq w) xs
-  position-alike v w same xs = position_from-zero (eq v) xs ∙ (position-congr v w same xs ∙ sym (position_from-zero (eq w) xs))
 
   pub all_differ : (v : T) (i : ℕ) (xs : List T) → position_from (eq v) i xs ≡ None → AllByRecursion (λ x. eq v x ≡ false) xs
   all_differ v i [] none = tt
@@ -165,23 +159,7 @@ length-pushed xs ys x y same = omega (arith, same, length-append xs (x ∷ []), 
 pub pushed_le : {T : Type 0} (xs : List T) (x : T) (n count : ℕ) → length xs ≡ n → n < count → length (xs ++ x ∷ []) ≤ count
 pushed_le xs x n count same low = omega (arith, same, low, length-append xs (x ∷ []))
 
--- the key of the position behind all items reads the one that goes there
-pub last_within : {K T : Type 0} (keys : Keys K) (law : KeyLaw keys) (old new : List T) (item : T) (key : K) → new ≡ old ++ item ∷ [] → length old < keys.count → key ≡ keys.key (length old)
-    → keys.number key < length new
-last_within keys law old new item key added low at =
-    omega (arith, low, ap keys.number at, law.numbered (length old) low, ap length added, length-append old (item ∷ []))
-
--- a write under a key keeps the number of items, also where it fails
-pub length-put : {X E : Type 0} {T : Type 0} (r : Result X E) (old new : ArenaState T) (n : ℕ) (item : T) → OnOk r (new.items ≡ slice_set old.items n item) → OnErr r (new ≡ old) → length new.items ≡ length old.items
-length-put (Ok x) old new n item is same = ap length is ∙ length-set old.items n item
-length-put (Err e) old new n item is same = ap (λ (arena : ArenaState _). length arena.items) same
-
--- and so do writes over the first of them
-pub length-written : {T : Type 0} (items last : List T) → length (written items last) ≡ length items
-length-written items last =
-    length-take-le (length items) (last ++ drop (length last) items) (omega (arith, length-append last (drop (length last) items), length-drop (length last) items))
-
-pub map-none : {X Y : Type 0} (f : X → Y) (o : Option X) → None ≡ option_map f o → o ≡ None
+map-none : {X Y : Type 0} (f : X → Y) (o : Option X) → None ≡ option_map f o → o ≡ None
 map-none f None none = refl
 map-none f (Some x) none = absurd (true≢false (sym (ap is_some none)))
 

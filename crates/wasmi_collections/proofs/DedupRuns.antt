@@ -1,13 +1,11 @@
 -- Two values handed in to a deduplicating arena in one run have one key exactly where they are equal.
-use Rattle.std.proofs.Common.{◌≡◌, ◌≢◌, ◌↔◌, ℕ, zero, suc, ◌+◌, ◌<◌, ◌≤◌, Bool, true, false, cond, List, [], ◌∷◌, ◌++◌, length, Option, Some, None, option_map, position, slice_get, inl, inr, refl, sym, ap, ◌∙◌, subst, is_some, true≢false, IsTrue, length-append, unwrap_or, arith}
+use Rattle.std.proofs.Common.{◌≡◌, ◌≢◌, ◌↔◌, ℕ, zero, suc, ◌+◌, ◌<◌, ◌≤◌, Bool, true, false, cond, List, [], ◌∷◌, ◌++◌, length, Some, position, slice_get, inl, inr, refl, sym, ap, ◌∙◌, subst, is_some, true≢false, IsTrue, length-append, unwrap_or, arith}
 use Rattle.std.specs.Cmp.{IsEquivalence}
 use Rattle.std.specs.List.{position_from}
 use Rattle.std.proofs.lemmas.List.{length-set}
 use Rattle.std.proofs.lemmas.Iterator.Adapters.{position_from-zero}
-use Rattle.std.proofs.lemmas.List.Quantifiers.{position-Some}
 use Rattle.wasmi_arena.specs.Keys.{Keys, KeyLaw}
-use Rattle.wasmi_map_specs.specs.Maps.{value_at}
-use Rattle.wasmi_collections.specs.Dedup.{DedupState, IsIndex, AllocatesValue, ReplacesValue, in_order}
+use Rattle.wasmi_collections.specs.Dedup.{DedupState, AllocatesValue, ReplacesValue}
 use Rattle.wasmi_collections.specs.DedupSteps.{DedupStep, HasKey, NoneClears}
 use Rattle.wasmi_collections.specs.Runs.{IsRun}
 use Rattle.wasmi_collections.specs.declared.run.dedup.DedupCommand.{DedupCommand}
@@ -18,10 +16,6 @@ use Rattle.wasmi_collections.proofs.Dedup.{found_last, position-congr}
 
 pub some_is : {X : Type 0} (x y : X) → Some x ≡ Some y → x ≡ y
 some_is x y same = ap (λ o. unwrap_or o x) same
-
--- the key that is found is that of the place
-pub key_at : {K : Type 0} (keys : Keys K) (found : Option ℕ) (key : K) → Some key ≡ option_map keys.key found → (p : ℕ) → found ≡ Some p → key ≡ keys.key p
-key_at keys found key is p at = some_is key (keys.key p) (is ∙ ap (option_map keys.key) at)
 
 module _ {T : Type 0} (p : T → Bool) where
   -- what is found first stays so when more comes behind it
@@ -97,32 +91,6 @@ module _ {K T : Type 0} (keys : Keys K) (law : KeyLaw keys) {eq : T → T → Bo
     is = rw adds.handed_are (stays_found (eq value) 0 has.place old.handed (other ∷ []) has.is);
     key_is = has.key_is;
   }
-
-  -- a value that an index finds under a key is at the key's number
-  pub found-known : (handed : List T) (value : T) (key : K) → length handed ≤ keys.count → option_map keys.key (position (eq value) handed) ≡ Some key → position (eq value) handed ≡ Some (keys.number key)
-  found-known handed value key few is = next (position (eq value) handed) refl is
-    where
-      next : (o : Option ℕ) → position (eq value) handed ≡ o → option_map keys.key o ≡ Some key → o ≡ Some (keys.number key)
-      next None at is = absurd (true≢false (sym (ap is_some is)))
-      next (Some p) at is =
-          let low = (position-Some (eq value) handed p value at).0 in
-          ap Some (sym (law.numbered p (omega (arith, low, few))) ∙ ap keys.number (some_is (keys.key p) key is))
-
-  -- and so is one that the index of an arena finds
-  pub index-known : (index : List (T × K)) (items : ℕ) (value : T) (key : K) → IsIndex keys eq (in_order keys index) index × (length (in_order keys index) ≡ items) × (items ≤ keys.count)
-      → Some key ≡ value_at eq index value → position (eq value) (in_order keys index) ≡ Some (keys.number key)
-  index-known index items value key kept is =
-      found-known (in_order keys index) value key (let same = kept.1 in let low = kept.2 in omega (arith, same, low)) (sym (kept.0.finds value) ∙ sym is)
-
-  pub index-key : (index : List (T × K)) (items : ℕ) (value : T) (key : K) → IsIndex keys eq (in_order keys index) index × (length (in_order keys index) ≡ items) × (items ≤ keys.count)
-      → Some key ≡ value_at eq index value → (p : ℕ) → position (eq value) (in_order keys index) ≡ Some p → key ≡ keys.key p
-  index-key index items value key kept is = key_at keys (position (eq value) (in_order keys index)) key (is ∙ kept.0.finds value)
-
-  pub index-within : (index : List (T × K)) (items : ℕ) (value : T) (key : K) → IsIndex keys eq (in_order keys index) index × (length (in_order keys index) ≡ items) × (items ≤ keys.count)
-      → Some key ≡ value_at eq index value → keys.number key < items
-  index-within index items value key kept is =
-      let low = (position-Some (eq value) (in_order keys index) (keys.number key) value (index-known index items value key kept is)).0 in let same = kept.1 in
-      omega (arith, low, same)
 
   -- a value that has its key is at the key's number
   pub given-known : (old new : DedupState T) (value : T) (key : K) → length old.handed ≤ keys.count → AllocatesValue keys eq clones old value key new → position (eq value) new.handed ≡ Some (keys.number key)

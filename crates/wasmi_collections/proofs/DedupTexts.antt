@@ -1,5 +1,5 @@
 -- An index of texts finds each by its bytes.
-use Rattle.std.proofs.Common.{◌≡◌, ℕ, ◌+◌, ◌<◌, ◌≤◌, Bool, true, false, cond, List, [], ◌∷◌, ◌++◌, length, map, slice_set, Option, Some, None, option_map, refl, sym, ap, ◌∙◌, subst, string_bytes, inl, inr, Result, Ok, Err, IfOk, OnErr, is_some, true≢false, arith}
+use Rattle.std.proofs.Common.{◌≡◌, ℕ, ◌+◌, ◌<◌, ◌≤◌, Bool, true, false, cond, List, [], ◌∷◌, ◌++◌, length, map, slice_set, Option, Some, None, option_map, refl, sym, ap, ◌∙◌, subst, string_bytes, inl, inr, is_some, true≢false, arith}
 use Rattle.std.specs.List.{AllByRecursion, IsDistinct, position, position_from}
 use Rattle.std.specs.Str.{bytes_eq}
 use Rattle.std.specs.String.{string_eq}
@@ -14,7 +14,7 @@ use Rattle.wasmi_map_specs.specs.Seen.{value_seen_as}
 use Rattle.wasmi_collections.specs.Dedup.{DedupState, IsIndex, AllocatesValue, ReplacesValue}
 use Rattle.wasmi_collections.specs.Interner.{symbol_of, AreDistinctTexts}
 use Rattle.wasmi_collections.proofs.Dedup.{position-by_view}
-use Rattle.wasmi_collections.proofs.DedupRuns.{position-stays, some_is}
+use Rattle.wasmi_collections.proofs.DedupRuns.{some_is}
 
 -- a string with this text
 abbrev HasText : Type 0 → List ℕ → Type 0
@@ -95,16 +95,7 @@ module _ {Z : Type 0} where
   not_found handed value p absent is = none-some p (sym absent ∙ (sym (position-by_view bytes_eq string_bytes value handed) ∙ is))
 
   module _ {K : Type 0} (keys : Keys K) (old new : DedupState (String Z)) where
-    -- a text that has a key keeps it, whether a value is taken or refused
-    pub texts_stay : {E : Type 0} (value : String Z) (result : Result K E) → IfOk result (λ key. AllocatesValue keys string_eq same_bytes old value key new) → OnErr result (new ≡ old)
-        → (other : List ℕ) (p : ℕ) → symbol_of (map string_bytes old.handed) other ≡ Some p → symbol_of (map string_bytes new.handed) other ≡ Some p
-    texts_stay value (Ok key) allocates refused other p is = elim allocates [
-      | inl found ↦ ap (λ (s : DedupState (String Z)). symbol_of (map string_bytes s.handed) other) found.3 ∙ is
-      | inr added ↦ ap (λ texts. symbol_of texts other) (ap (map string_bytes) added.handed_are ∙ map-append string_bytes old.handed (value ∷ [])) ∙ position-stays (bytes_eq other) (map string_bytes old.handed) (string_bytes value ∷ []) p is
-    ]
-    texts_stay value (Err error) allocates refused other p is = ap (λ (s : DedupState (String Z)). symbol_of (map string_bytes s.handed) other) refused ∙ is
-
-    -- one that is handed in goes to the end of both lists
+    -- a text that is handed in goes to the end of both lists
     pub texts_allocated : (value : String Z) (key : K) → symbol_of (map string_bytes old.handed) (string_bytes value) ≡ None → AllocatesValue keys string_eq same_bytes old value key new
         → (key ≡ keys.key (length old.handed)) × (map string_bytes new.handed ≡ map string_bytes old.handed ++ string_bytes value ∷ []) × (map string_bytes new.items ≡ map string_bytes old.items ++ string_bytes value ∷ [])
     texts_allocated value key absent given = elim given [

@@ -7,7 +7,7 @@ use Rattle.std.proofs.lemmas.List.{append_assoc, append-nil, drop-set-add, drop-
 use Rattle.std.proofs.lemmas.List.Edits.{insert-append_left, insert-append_right, insert_end, length-insert, length-remove, remove-append_right}
 use Rattle.std.proofs.Math.Seq.{take-suc, take-suc-set, take-append_seam, take-set-lt, drop-append_seam}
 use Rattle.wasmi_collections.specs.declared.string_interner.entry.Entry.{Entry}
-use Rattle.wasmi_collections.specs.IndexBlocks.{BlockState, from_first, with_entries}
+use Rattle.wasmi_collections.specs.IndexBlocks.{BlockState, IsLast, from_first, with_entries}
 
 -- two lists in a row, read from where the second begins
 seam : (xs ys : List Entry) (n : ℕ) → length xs ≡ n → from_first (xs ++ ys) n ≡ ys ++ xs
@@ -201,6 +201,12 @@ set_behind entries n x within =
     ap (λ k. take k (set entries n x)) next
     ∙ (take-suc-set entries n x within
     ∙ (sym (insert_end (take n entries) x) ∙ ap (λ k. insert (take n entries) k x) long))
+
+-- the last of them
+pub last-take : (ring : List Entry) (n : ℕ) (last : Entry) → n < length ring → last ≡ get_or ring n last → IsLast last (take (n + 1) ring)
+last-take ring n last within is =
+    let long : length (take (n + 1) ring) - 1 ≡ n = omega (arith, length-take-le (n + 1) ring (omega (arith, within))) in
+    is ∙ (sym (get_or-take (n + 1) ring n last (omega arith)) ∙ ap (λ k. get_or (take (n + 1) ring) k last) (sym long))
 
 -- a block of them with one more
 pub put_in : (block : BlockState) (ring now : List Entry) (n p : ℕ) (x : Entry) → record { entries = take n ring; width = length ring } ≡ block

@@ -1,6 +1,5 @@
 mod BinaryDigits
 mod Dedup
-mod DedupRefusal
 mod DedupReplace
 mod DedupRuns
 mod Filtered
@@ -11,7 +10,6 @@ mod IndexRing
 mod InternerRuns
 mod InternsEach
 mod LastItem
-mod MapCalls
 mod MapRuns
 mod Results
 mod Runs

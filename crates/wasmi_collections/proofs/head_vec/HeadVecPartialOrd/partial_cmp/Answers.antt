@@ -9,7 +9,3 @@ returns-in-Equal g c =
 pub returns-in_default : goal.returns-in_default
 returns-in_default g c =
     rw (← c.self.view_is, ← c.other.view_is, head_partial_cmp-parts c.self.inside.head c.other.inside.head c.self.inside.rest.items c.other.inside.rest.items c.self.invariant c.other.invariant, ← c.in_ok-order.ensures) (sym (some_then-apart _ _ c.in_default.not-Equal))
-
-pub returns-in_err-order : goal.returns-in_err-order
-returns-in_err-order g c =
-    rw (← c.self.view_is, ← c.other.view_is, head_partial_cmp-parts c.self.inside.head c.other.inside.head c.self.inside.rest.items c.other.inside.rest.items c.self.invariant c.other.invariant, ← c.in_err-order.ensures) c.from_residual.ensures

@@ -1,5 +1,4 @@
 use Rattle.std.proofs.Common.{vec_capacity, ◌∙◌}
-use Rattle.std.proofs.IntoIterSteps.{All-taken}
 use Rattle.wasmi_collections.specs.InternerSteps.{InternStep}
 use Rattle.wasmi_collections.proofs.Runs.{IsRun-append, counts_on}
 use Rattle.wasmi_collections.proofs.run.interner.run_interner.Goals as goal
@@ -12,9 +11,3 @@ loop-command-preserved g c =
       counts_on c.push_reserved.new.self.len _ c.loop-command.yielded c.in-Some.command c.push_reserved.ensures.len so_far.1,
       ◌∙◌ {a = vec_capacity c.push_reserved.new.self} c.push_reserved.ensures.capacity so_far.2,
     )
-
-pub returns-clause-run : goal.returns-clause-run
-returns-clause-run g c =
-    let all = All-taken c.into_iter-command-iterator.result c.loop-command.yielded (c.next.new.self, (c.loop-command.command-iterator, c.loop-command.yielded_by, c.in-None.ensures.steps)) in
-    let given = c.into_iter-command-iterator.ensures.into_iter_gives in
-    rw (← given.0, ← all) c.loop-command.invariant.0
