@@ -7,5 +7,4 @@ pub mod OutputLemmas
 pub mod ReadLemmas
 pub mod ReplyLemmas
 pub mod ResultLemmas
-pub mod Sizes
 pub mod StoreLemmas

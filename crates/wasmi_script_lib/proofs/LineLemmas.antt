@@ -1,18 +1,14 @@
 -- How a line is told apart, and how a text is cut into lines.
-use Rattle.std.proofs.Common.{◌≡◌, ◌≢◌, ℕ, suc, ◌<◌, ◌≤◌, Bool, true, false, cond, List, [], ◌∷◌, ◌++◌, length, take, drop, get_or, Option, None, Some, MatchOption, refl, sym, ap, ◌∙◌, subst, arith, eqb, ltb, lit<, take-append-drop}
-use Rattle.std.specs.Borrow.{Bor}
-use Rattle.std.specs.List.{position_or_len}
-use Rattle.std.specs.Option.{option_map}
+use Rattle.std.proofs.Common.{◌≡◌, ◌≢◌, ℕ, suc, ◌<◌, ◌≤◌, Bool, true, false, cond, List, [], ◌∷◌, ◌++◌, length, take, drop, get_or, Option, None, Some, MatchOption, refl, sym, ap, ◌∙◌, subst, arith, eqb, lit<, take-append-drop}
 use Rattle.std.specs.Str.{bytes_eq, IsUtf8, IsCharBoundary}
 use Rattle.std.specs.Str.Pattern.{FindsChar}
-use Rattle.std.proofs.lemmas.Bool.{false_from_ne_true, lt-ltb, true≢false}
+use Rattle.std.proofs.lemmas.Bool.{false_from_ne_true, true≢false}
 use Rattle.std.proofs.lemmas.Bool.Decides.{nat_tests}
 use Rattle.std.proofs.lemmas.Grind.{common_steps}
 use Rattle.std.proofs.lemmas.Slice.Eq.{bytes_eq-Decides}
 use Rattle.std.proofs.lemmas.Str.{IsCharBoundary-after_ascii}
-use Rattle.std.proofs.lemmas.Str.Pattern.{IsSplitOnceResult, NoCharPasses-char, drop_at_char, split_once_first}
+use Rattle.std.proofs.lemmas.Str.Pattern.{NoCharPasses-char, drop_at_char}
 use Rattle.wasmi_script_lib.specs.Lines.{lines_of, onto_first}
-use Rattle.wasmi_script_lib.specs.Requests.{parts_of}
 
 -- a text that begins with a byte and a space may be cut after the space
 cuts_after_space : (line : List ℕ) (letter : ℕ) → IsUtf8 line → take 2 line ≡ letter ∷ 32 ∷ [] → IsCharBoundary line 2
@@ -27,18 +23,6 @@ cuts_after_space line letter utf8 e =
 pub bytes_eq-no_cut : (line : List ℕ) (letter : ℕ) → IsUtf8 line → ¬ (IsCharBoundary line 2) → bytes_eq (take 2 line) (letter ∷ 32 ∷ []) ≡ false
 bytes_eq-no_cut line letter utf8 none =
     false_from_ne_true _ (λ yes. none (cuts_after_space line letter utf8 ((bytes_eq-Decides (take 2 line) (letter ∷ 32 ∷ [])).0 yes)))
-
--- an argument is cut at its first space
-pub parts_of-split : (argument : List ℕ) (r : Option (Bor (List ℕ) × Bor (List ℕ))) → IsSplitOnceResult 32 argument r
-    → option_map (λ parts. (parts.0.now, parts.1.now)) r ≡ parts_of argument
-parts_of-split argument None h =
-    let all : position_or_len (λ b. eqb b 32) argument ≡ length argument = split_once_first 32 argument None h (lit< tt) in
-    let none : ltb (position_or_len (λ b. eqb b 32) argument) (length argument) ≡ false = grind (arith, nat_tests) in
-    rw none refl
-parts_of-split argument (Some parts) h =
-    let cut = split_once_first 32 argument (Some parts) h (lit< tt) in
-    let some : ltb (position_or_len (λ b. eqb b 32) argument) (length argument) ≡ true = lt-ltb _ _ cut.0 in
-    rw some (λ i. Some (cut.1 i, cut.2 i))
 
 -- no line feed among the bytes
 abbrev pub LacksLineFeed : List ℕ → Type 0

@@ -1,7 +1,13 @@
 -- What a `?` passes on, and which errors aren't the same.
-use Rattle.std.proofs.Common.{◌≡◌, Result, Err, ap, ◌∙◌}
+use Rattle.std.proofs.Common.{◌≡◌, Result, Ok, Err, ap, ◌∙◌}
+use Rattle.std.specs.Result.{IsErrAnd}
 use Rattle.wasmi_arena.specs.declared.error.ArenaError.{ArenaError}
 use Rattle.wasmi_arena.specs.declared.error.ArenaError.TheVariants.{DuplicateItem, KeyOutOfBounds, NotEnoughKeys, OutOfSystemMemory}
+
+-- what a `?` passes on is the error that it met
+pub passed_is : {T E : Type 0} (r : Result T E) (error : E) → IsErrAnd r (λ e. e ≡ error) → r ≡ Err error
+passed_is (Ok x) error is = absurd is
+passed_is (Err e) error is = ap Err is
 
 -- what a `?` passes on was met, and what it met is passed on
 pub was_met : {T U : Type 0} (r : Result T ArenaError) (error x : ArenaError) → r ≡ Err error → r ≡ Err x → ◌≡◌ {A = Result U ArenaError} (Err error) (Err x)

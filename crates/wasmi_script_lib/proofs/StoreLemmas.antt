@@ -31,22 +31,11 @@ Grows-with_new texts text = next (symbol_of texts text)
     next (Some place) = (omega arith, λ i low. refl)
     next None = (omega (arith, length-append texts (text ∷ [])), λ i low. get_or_append_left texts (text ∷ []) [] i low)
 
--- what a call leaves that keeps a text that is there, and puts a new one at the end
-pub with_new-kept : {E : Type 0} (result : Result ℕ E) (old new : List (List ℕ)) (text : List ℕ)
-    → ((place : ℕ) → symbol_of old text ≡ Some place → new ≡ old) → (symbol_of old text ≡ None → OnOk result (new ≡ old ++ text ∷ []))
-    → OnOk result (new ≡ with_new old text)
-with_new-kept (Err error) old new text there absent = tt
-with_new-kept (Ok number) old new text there absent = next (symbol_of old text) refl
-  where
-    next : (o : Option ℕ) → symbol_of old text ≡ o → new ≡ with_new old text
-    next (Some place) is = there place is ∙ sym (ap (texts_with old text) is)
-    next None is = absent is ∙ sym (ap (texts_with old text) is)
-
 slice_get-last : (texts : List (List ℕ)) (text : List ℕ) → slice_get (texts ++ text ∷ []) (length texts) ≡ Some text
 slice_get-last [] text = refl
 slice_get-last (x ∷ xs) text = slice_get-last xs text
 
--- and the number that it gives the text
+-- the number that a call gives a text which keeps it where it is there, and puts it at the end where it is new
 pub with_new-reads : {E : Type 0} (result : Result ℕ E) (old new : List (List ℕ)) (text : List ℕ)
     → ((place : ℕ) → symbol_of old text ≡ Some place → (result ≡ Ok place) × (new ≡ old) × (slice_get old place ≡ Some text))
     → (symbol_of old text ≡ None → IfOk result (λ number. (number ≡ length old) × (new ≡ old ++ text ∷ [])))

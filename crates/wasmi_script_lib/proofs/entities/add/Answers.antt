@@ -26,6 +26,3 @@ pub returns-in-Err-clause-reply : goal.returns-in-Err-clause-reply
 returns-in-Err-clause-reply g c =
     let clause = c.in-Err.ensures in let refused = not_memory c.in-Err.error clause.errors in
     OnOk-both c.reply_error.result (λ added memory. rw (no-entity_key c.args.store.now c.args.name.now (clause.no_key.0 (ap Err (refused memory)))) (subst (λ (e : ArenaError). AddsReply c.args.replies.now c.reply_error.new.replies (error_reply e)) (refused memory) added)) c.reply_error.ensures.reply c.reply_error.ensures.memory
-
-pub add-requires : goal.add-requires
-add-requires g c = assumption

@@ -29,9 +29,3 @@ returns-in_ok-writeln-in-Ok-default-default-None-clause-reply g c =
 
 pub returns-in-Err-clause-reply : goal.returns-in-Err-clause-reply
 returns-in-Err-clause-reply g c = absurd (not_past c.in-Some.key c.args.key (length c.args.store.now.entities) c.in-Some.ensures.there (c.in-Err.ensures.out_of_bounds.0 (ap Err c.in-Err.ensures.errors)))
-
-pub key-requires : goal.key-requires
-key-requires g c = assumption
-
-pub get-requires : goal.get-requires
-get-requires g c = assumption

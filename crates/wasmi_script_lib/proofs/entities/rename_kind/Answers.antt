@@ -51,9 +51,3 @@ returns-in-Err-clause-reply g c =
     let found : slice_get store.entities c.args.key ≡ Some other.0 = sym (ap (slice_get store.entities) at.0) ∙ other.1 in
     rw (found, other.2) (subst (λ (e : ArenaError). AddsReply c.args.replies.now c.reply_error-in-Err.new.replies (error_reply e)) (duplicate memory) added)
     ) c.reply_error-in-Err.ensures.reply c.reply_error-in-Err.ensures.memory
-
-pub key-requires : goal.key-requires
-key-requires g c = assumption
-
-pub rename_kind-requires : goal.rename_kind-requires
-rename_kind-requires g c = assumption

@@ -33,9 +33,3 @@ returns-in-Err-clause-state g c =
 pub returns-in-Err-clause-reply : goal.returns-in-Err-clause-reply
 returns-in-Err-clause-reply g c =
     on_ok_weaker c.reply_error-in-Err.result (λ memory. absurd (not_either c.in-Err.ensures.errors (λ past. not_past c.in-Some.key c.args.key (length c.args.store.now.entities) c.in-Some.ensures.there (c.in-Err.ensures.out_of_bounds.0 (ap Err past))) memory)) c.reply_error-in-Err.ensures.memory
-
-pub key-requires : goal.key-requires
-key-requires g c = assumption
-
-pub set-requires : goal.set-requires
-set-requires g c = assumption

@@ -37,6 +37,3 @@ returns-clause-output g c =
     let parts = split_terminator_parts c.loop-line.line-iterator in
     let none_left = lines_of-end (split_text parts) (split_has_more parts) (rw inv.2 at c.in-None.ensures.steps.0) in
     sym (append-nil (string_bytes c.loop-line.replies)) ∙ rw none_left at inv.3
-
-pub serve-requires : goal.serve-requires
-serve-requires g c = (assumption, assumption)

@@ -15,38 +15,3 @@ returns-in_ok-alloc-in-Some-Alloc-clause-state g c =
     let texts = c.args.texts.now in let store = c.args.store.now in
     let kept = map string_bytes texts.arena in
     rw (← c.in-Some-Alloc.ensures, c.in-Some-Alloc.field-0-is, ← c.in-Some-Alloc.text-is) (ap (with_entities store) c.in_ok-alloc-in-Some-Alloc.ensures.state ∙ of-either (with_entities store) (ltb (length kept) max_len) _ (with_texts texts))
-
--- ---- what the two containers take of memory
-
-pub alloc-requires : goal.alloc-requires
-alloc-requires g c = assumption
-
-pub get-requires : goal.get-requires
-get-requires g c = assumption
-
-pub place-requires : goal.place-requires
-place-requires g c = assumption
-
-pub count-requires : goal.count-requires
-count-requires g c = assumption
-
-pub dedup-requires : goal.dedup-requires
-dedup-requires g c = assumption
-
-pub intern-requires : goal.intern-requires
-intern-requires g c = assumption
-
-pub resolve-requires : goal.resolve-requires
-resolve-requires g c = assumption
-
-pub add-requires : goal.add-requires
-add-requires g c = assumption
-
-pub set-requires : goal.set-requires
-set-requires g c = assumption
-
-pub rename_kind-requires : goal.rename_kind-requires
-rename_kind-requires g c = assumption
-
-pub get-requires-in-Some-GetEntity : goal.get-requires-in-Some-GetEntity
-get-requires-in-Some-GetEntity g c = assumption

@@ -3,18 +3,11 @@ use Rattle.std.specs.declared.string.String.{String}
 use Rattle.std.proofs.lemmas.List.{length-map}
 use Rattle.std.proofs.lemmas.Result.{IfOk-weaker}
 use Rattle.wasmi_collections.specs.Dedup.{DedupState}
-use Rattle.wasmi_script_lib.proofs.StoreLemmas.{with_new-kept, with_new-reads}
+use Rattle.wasmi_script_lib.proofs.StoreLemmas.{with_new-reads}
 use Rattle.wasmi_script_lib.proofs.kinds.Kinds.hand_in.Goals as goal
 
 abbrev texts_of : {A : Type 0} → DedupState (String A) → List (List ℕ)
 texts_of kinds = map string_bytes kinds.handed
-
-pub returns-clause-ok : goal.returns-clause-ok
-returns-clause-ok g c =
-    let old = c.self.inside.texts in let new = c.alloc_str.new.self in
-    rw (← c.self.view_is) (with_new-kept c.alloc_str.result (texts_of old) (texts_of new) c.args.kind.now
-    (λ place is. ap texts_of (c.alloc_str.ensures.there place is).1)
-    (λ absent. IfOk-weaker c.alloc_str.result _ _ (λ key given. (c.texts_handed_in.ensures.allocated old new given.0 key (rw given.1 absent) given.2).1 ∙ ap (λ (text : List ℕ). texts_of old ++ text ∷ []) given.1) (c.alloc_str.ensures.new absent)))
 
 pub returns-clause-reads : goal.returns-clause-reads
 returns-clause-reads g c =

@@ -1,11 +1,8 @@
 use Rattle.std.proofs.Common.{◌≡◌, ℕ, List, [], map, string_bytes, Some, None, slice_set, slice_index_or, is_ok, is_some, ap, sym, refl, ◌∙◌, true≢false}
 use Rattle.std.specs.declared.string.String.{String}
-use Rattle.std.proofs.lemmas.Option.{get_or_from_slice_get, slice_get-get_or, none-some, same_Some}
-use Rattle.wasmi_arena.specs.declared.error.ArenaError.TheVariants.{DuplicateItem}
+use Rattle.std.proofs.lemmas.Option.{get_or_from_slice_get, slice_get-get_or, same_Some}
 use Rattle.wasmi_collections.specs.Dedup.{DedupState}
 use Rattle.wasmi_collections.specs.Interner.{symbol_of}
-use Rattle.wasmi_arena.proofs.Results.{passed_is}
-use Rattle.wasmi_script_lib.proofs.ResultLemmas.{was_met}
 use Rattle.wasmi_script_lib.proofs.StoreLemmas.{either_way, no_place_found, place_found, renamed-again, renamed-set}
 use Rattle.wasmi_script_lib.proofs.kinds.Kinds.rename.Goals as goal
 
@@ -20,18 +17,6 @@ invariant_of-self-in-None g c =
     either_way c.replace.result
     (λ there replaces. let told = c.texts_handed_in.ensures.replaced old c.replace.new.self c.args.number value there (rw c.in_ok-from_str-in-None.ensures.ok absent) replaces in told.1 ∙ (ap (λ (texts : List (List ℕ)). slice_set texts c.args.number (string_bytes value)) c.self.invariant ∙ sym told.0))
     (λ same. rw same c.self.invariant) c.replace.ensures.ok c.replace.ensures.err
-
-pub returns-in_err-replace-in-None-clause-duplicate : goal.returns-in_err-replace-in-None-clause-duplicate
-returns-in_err-replace-in-None-clause-duplicate g c =
-    let old = c.self.inside.texts in
-    let absent : symbol_of (texts_of old) c.args.kind.now ≡ None = no_place_found _ c.in-None.ensures.value in
-    let met = passed_is c.from_residual-in_err-replace-in-None.result c.in_err-replace-in-None.field-0.0 c.from_residual-in_err-replace-in-None.ensures.1 in
-    let value = c.in_ok-from_str-in-None.field-0 in
-    let nowhere = c.strings_by_bytes.ensures old.handed value ∙ (ap (symbol_of (texts_of old)) c.in_ok-from_str-in-None.ensures.ok ∙ absent) in
-    rw (← c.self.view_is) (
-      λ is. absurd (let there = c.in_err-replace-in-None.ensures.duplicate.0 (was_met c.from_residual-in_err-replace-in-None.result c.in_err-replace-in-None.field-0.0 DuplicateItem met is) in none-some there.1.0 (sym nowhere ∙ there.1.1)),
-      λ has. absurd (true≢false (sym has.1 ∙ ap is_some absent)),
-    )
 
 pub returns-in-Some-clause-ok : goal.returns-in-Some-clause-ok
 returns-in-Some-clause-ok g c =
@@ -77,11 +62,3 @@ returns-in_ok-replace-in-None-clause-ok g c =
     let told = c.texts_handed_in.ensures.replaced old c.replace.new.self c.args.number value c.in_ok-replace-in-None.field-0 (rw c.in_ok-from_str-in-None.ensures.ok absent) c.in_ok-replace-in-None.ensures.ok in
     let low = rw (← c.self.view_is) at c.requires in
     rw (← c.self.view_is) (told.0 ∙ (ap (slice_set (texts_of old) c.args.number) c.in_ok-from_str-in-None.ensures.ok ∙ renamed-set (slice_index_or (texts_of old) c.args.number []) c.args.kind.now (texts_of old) c.args.number (c.texts_handed_in.ensures.distinct old.handed c.len.ensures.distinct) (slice_get-get_or (texts_of old) c.args.number [] low)))
-
-pub returns-in_err-replace-in-None-clause-same : goal.returns-in_err-replace-in-None-clause-same
-returns-in_err-replace-in-None-clause-same g c =
-    let old = c.self.inside.texts in
-    let absent : symbol_of (texts_of old) c.args.kind.now ≡ None = no_place_found _ c.in-None.ensures.value in
-    let distinct = c.texts_handed_in.ensures.distinct old.handed c.len.ensures.distinct in
-    let low = rw (← c.self.view_is) at c.requires in
-    rw (← c.self.view_is) (λ same. absurd (none-some c.args.number (sym absent ∙ c.symbols_of_distinct_texts.ensures.stands (texts_of old) c.args.kind.now c.args.number distinct (slice_get-get_or (texts_of old) c.args.number [] low ∙ ap Some same))))

@@ -1,13 +1,10 @@
-use Rattle.std.proofs.Common.{refl, List, Err, ap, sym, subst, inl, inr, ◌∙◌, arith}
+use Rattle.std.proofs.Common.{List, Err, ap, sym, subst, inl, inr, ◌∙◌, arith}
 use Rattle.std.proofs.lemmas.Result.{IfOk-weaker, on_ok_weaker, on_err_weaker}
 use Rattle.wasmi_arena.specs.declared.error.ArenaError.TheVariants.{NotEnoughKeys}
 use Rattle.wasmi_script_lib.specs.Store.{Store, KeepsEntities, store_of, with_entity}
 use Rattle.wasmi_script_lib.specs.declared.store.Named.{Named}
-use Rattle.wasmi_arena.proofs.Results.{passed_is}
-use Rattle.wasmi_script_lib.proofs.ResultLemmas.{is_passed, keys_not_memory, was_met}
+use Rattle.wasmi_script_lib.proofs.ResultLemmas.{is_passed, keys_not_memory, passed_is, was_met}
 use Rattle.wasmi_script_lib.proofs.StoreLemmas.{all_shown_length, full, keys_left, not_full, OnErr-of, shown_added, shown_kept, sound_kept, sound_pushed}
-use denote.Param.{copied}
-use Rattle.wasmi_script_lib.proofs.Sizes.{field_small, store_fields}
 use Rattle.wasmi_script_lib.proofs.store.EntityStore.add.Goals as goal
 
 pub returns-in_err-next_key-clause-no_key : goal.returns-in_err-next_key-clause-no_key
@@ -75,14 +72,3 @@ pub returns-clause-key : goal.returns-clause-key
 returns-clause-key g c =
     let inside = c.self.inside in
     rw (← c.self.view_is) (IfOk-weaker c.alloc.result _ _ (λ key is. is ∙ sym (all_shown_length inside.names inside.kinds inside.properties 0 inside.entities)) c.alloc.ensures.key)
-
-pub next_key-requires : goal.next_key-requires
-next_key-requires g c = field_small (store_fields (copied 0 g.row.A) g.A.Allocator) 0 _ _ refl assumption
-
-pub alloc-requires : goal.alloc-requires
-alloc-requires g c = field_small (store_fields (copied 0 g.row.A) g.A.Allocator) 0 _ _ refl assumption
-
-pub returns-clause-unchanged : goal.returns-clause-unchanged
-returns-clause-unchanged g c =
-    let low = c.in_ok-next_key.ensures.has_key in
-    λ is. absurd (let high = c.alloc.ensures.no_key.0 is in omega (arith, high, low))

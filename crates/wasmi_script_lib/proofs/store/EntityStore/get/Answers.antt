@@ -1,7 +1,5 @@
-use Rattle.std.proofs.Common.{refl, ◌∙◌}
+use Rattle.std.proofs.Common.{◌∙◌}
 use Rattle.wasmi_script_lib.proofs.StoreLemmas.{all_shown_read, err_bound, named_at, ok_bound}
-use denote.Param.{param}
-use Rattle.wasmi_script_lib.proofs.Sizes.{field_small, store_fields}
 use Rattle.wasmi_script_lib.proofs.store.EntityStore.get.Goals as goal
 
 pub text-name-requires : goal.text-name-requires
@@ -28,6 +26,3 @@ pub returns-in-Err-clause-out_of_bounds : goal.returns-in-Err-clause-out_of_boun
 returns-in-Err-clause-out_of_bounds g c =
     let inside = c.self.inside in
     rw (← c.self.view_is) (err_bound inside.names inside.kinds inside.properties c.in-Err.error c.args.key inside.entities c.in-Err.ensures.out_of_bounds)
-
-pub get-requires : goal.get-requires
-get-requires g c = field_small (store_fields (param 0 g.row.A) g.A.Allocator) 0 _ _ refl assumption

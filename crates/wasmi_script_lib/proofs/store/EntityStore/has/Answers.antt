@@ -11,6 +11,3 @@ pub returns-clause-past : goal.returns-clause-past
 returns-clause-past g c =
     let number = c.into_usize.ensures.number in let len = c.len.ensures.value in
     λ is. omega (arith, ltb-false _ _ is, number, len)
-
-pub len-requires : goal.len-requires
-len-requires g c = assumption

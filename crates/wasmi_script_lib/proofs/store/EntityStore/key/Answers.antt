@@ -20,6 +20,3 @@ returns-then-number-len-clause-absent g c =
     let low = c.if-number-len.true in let len = c.len.ensures.value in let most = c.len.ensures.most in
     let few : c.args.number < 2 ^ 32 = omega (arith, low, len, most) in
     is_there c.from_usize.result _ _ c.args.number c.from_usize.ensures few
-
-pub len-requires : goal.len-requires
-len-requires g c = assumption

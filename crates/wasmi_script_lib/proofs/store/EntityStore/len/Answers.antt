@@ -1,7 +1,5 @@
-use Rattle.std.proofs.Common.{refl, ◌∙◌, sym, arith}
+use Rattle.std.proofs.Common.{◌∙◌, sym, arith}
 use Rattle.wasmi_script_lib.proofs.StoreLemmas.{all_shown_length, listed}
-use denote.Param.{param}
-use Rattle.wasmi_script_lib.proofs.Sizes.{field_small, store_fields}
 use Rattle.wasmi_script_lib.proofs.store.EntityStore.len.Goals as goal
 
 pub returns-clause-value : goal.returns-clause-value
@@ -19,6 +17,3 @@ pub returns-clause-listed : goal.returns-clause-listed
 returns-clause-listed g c =
     let inside = c.self.inside in
     rw (← c.self.view_is) (listed inside.names inside.kinds inside.properties 0 inside.entities c.self.invariant.named)
-
-pub len-requires : goal.len-requires
-len-requires g c = field_small (store_fields (param 0 g.row.A) g.A.Allocator) 0 _ _ refl assumption

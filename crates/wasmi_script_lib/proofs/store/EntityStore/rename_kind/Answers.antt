@@ -1,12 +1,10 @@
-use Rattle.std.proofs.Common.{refl, ◌≡◌, ℕ, true, subst, List, [], Err, slice_index_or, ap, length, sym, ◌∙◌}
+use Rattle.std.proofs.Common.{◌≡◌, ℕ, true, subst, List, [], Err, slice_index_or, ap, length, sym, ◌∙◌}
 use Rattle.std.proofs.lemmas.Option.{none-some, same_Some}
 use Rattle.std.proofs.lemmas.List.{length-map}
 use Rattle.std.proofs.lemmas.Result.{on_err_weaker, on_ok_weaker}
 use Rattle.wasmi_script_lib.specs.Store.{Entity, is_other_kind, shown, store_of}
 use Rattle.wasmi_script_lib.proofs.ResultLemmas.{bound_not_duplicate}
 use Rattle.wasmi_script_lib.proofs.StoreLemmas.{IsSound-kinds, all_shown_at, all_shown_past, err_bound, named_at, on_either, one_more, rename_bound, shown_renamed, tells_other}
-use denote.Param.{copied}
-use Rattle.wasmi_script_lib.proofs.Sizes.{field_small, store_fields}
 use Rattle.wasmi_script_lib.proofs.store.EntityStore.rename_kind.Goals as goal
 
 pub returns-in-Ok-clause-ok : goal.returns-in-Ok-clause-ok
@@ -77,6 +75,3 @@ pub returns-in-Err-clause-out_of_bounds : goal.returns-in-Err-clause-out_of_boun
 returns-in-Err-clause-out_of_bounds g c =
     let inside = c.self.inside in
     rw (← c.self.view_is) (err_bound inside.names inside.kinds inside.properties c.in-Err.error c.args.key inside.entities c.in-Err.ensures.out_of_bounds)
-
-pub get-requires : goal.get-requires
-get-requires g c = field_small (store_fields (copied 0 g.row.A) g.A.Allocator) 0 _ _ refl assumption

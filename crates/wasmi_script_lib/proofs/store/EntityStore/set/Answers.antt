@@ -52,6 +52,3 @@ returns-else-has-clause-out_of_bounds g c = (λ is. c.has.ensures.past c.if-has.
 pub returns-else-has-clause-there : goal.returns-else-has-clause-there
 returns-else-has-clause-there g c =
     λ entity at has. absurd (none-some entity (sym (slice_get_past c.args.self.now.entities c.args.key (c.has.ensures.past c.if-has.false)) ∙ at))
-
-pub has-requires : goal.has-requires
-has-requires g c = assumption

@@ -23,9 +23,3 @@ returns-then-has-clause-out_of_bounds g c =
 
 pub returns-else-has-clause-out_of_bounds : goal.returns-else-has-clause-out_of_bounds
 returns-else-has-clause-out_of_bounds g c = (λ is. c.has.ensures.past c.if-has.false, λ past. refl)
-
-pub has-requires : goal.has-requires
-has-requires g c = assumption
-
-pub invariant_of-self : goal.invariant_of-self
-invariant_of-self g c = record { named = c.self.invariant.named; few = rw c.unset.ensures.extent c.self.invariant.few }

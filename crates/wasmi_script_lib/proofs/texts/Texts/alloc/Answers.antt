@@ -1,4 +1,4 @@
-use Rattle.std.proofs.Common.{refl, ℕ, List, [], ◌∷◌, ◌++◌, Err, codes, decimal, string_bytes, ap, sym, subst, ◌∙◌}
+use Rattle.std.proofs.Common.{ℕ, List, [], ◌∷◌, ◌++◌, Err, codes, decimal, string_bytes, ap, sym, subst, ◌∙◌}
 use Rattle.std.proofs.lemmas.List.{length-map}
 use Rattle.std.proofs.lemmas.Result.{on_ok_weaker}
 use Rattle.wasmi_arena.specs.declared.error.ArenaError.{ArenaError}
@@ -8,8 +8,6 @@ use Rattle.wasmi_script_lib.specs.States.{State}
 use Rattle.wasmi_script_lib.specs.declared.texts.Texts.{Texts}
 use Rattle.wasmi_script_lib.proofs.KeptLemmas.{kept-last, no-key}
 use Rattle.wasmi_script_lib.proofs.ReplyLemmas.{OnOk-both, not_memory, word_text}
-use denote.Param.{param}
-use Rattle.wasmi_script_lib.proofs.Sizes.{field_small, texts_fields}
 use Rattle.wasmi_script_lib.proofs.texts.Texts.alloc.Goals as goal
 
 -- what is kept, with these texts for those of `a`
@@ -36,6 +34,3 @@ pub returns-in-Err-clause-reply : goal.returns-in-Err-clause-reply
 returns-in-Err-clause-reply g c =
     let refused = not_memory c.in-Err.error c.in-Err.ensures.errors in
     OnOk-both c.reply_error.result (λ added memory. rw (no-key string_bytes c.args.self.now.arena (c.in-Err.ensures.no_key.0 (ap Err (refused memory)))) (subst (λ (e : ArenaError). AddsReply c.args.replies.now c.reply_error.new.replies (error_reply e)) (refused memory) added)) c.reply_error.ensures.reply c.reply_error.ensures.memory
-
-pub alloc-requires : goal.alloc-requires
-alloc-requires g c = field_small (texts_fields (param 0 g.row.A) g.A.Allocator) 0 _ _ refl assumption

@@ -2,8 +2,6 @@ use Rattle.std.proofs.Common.{decimal, length, string_bytes, sym, ◌∙◌}
 use Rattle.std.proofs.lemmas.List.{length-map}
 use Rattle.wasmi_arena.specs.Geometry.{slots}
 use Rattle.wasmi_script_lib.proofs.ReplyLemmas.{OnOk-same, counts_text}
-use denote.Param.{param}
-use Rattle.wasmi_script_lib.proofs.Sizes.{texts_arena_small, texts_vec_small}
 use Rattle.wasmi_script_lib.proofs.texts.Texts.count.Goals as goal
 
 pub returns : goal.returns
@@ -15,13 +13,3 @@ returns g c =
     let deduped_is = c.len-deduped.ensures.value ∙ sym c.len-deduped.ensures.lists in
     let written = rw (c.len-kept.ensures.value, deduped_is, c.len-interned.ensures.value, c.slots-slots.ensures.value, c.items.ensures) at c.writeln.ensures.bytes in
     simp length-map (OnOk-same _ _ _ _ (counts_text (string_bytes c.args.replies.now) (decimal kept) (decimal deduped) (decimal interned) (decimal (slots kept))) written)
-
-pub len-kept-requires : goal.len-kept-requires
-len-kept-requires g c = texts_arena_small (param 0 g.row.A) g.A.Allocator assumption
-
-pub items-requires : goal.items-requires
-items-requires g c =
-    (texts_arena_small (param 0 g.row.A) g.A.Allocator assumption, texts_vec_small (param 0 g.row.A) g.A.Allocator assumption)
-
-pub slots-slots-requires : goal.slots-slots-requires
-slots-slots-requires g c = texts_vec_small (param 0 g.row.A) g.A.Allocator assumption

@@ -1,10 +1,8 @@
-use Rattle.std.proofs.Common.{refl, Err, [], ◌∷◌, ◌++◌, ap, codes, string_bytes, ◌∙◌}
+use Rattle.std.proofs.Common.{Err, [], ◌∷◌, ◌++◌, ap, codes, string_bytes, ◌∙◌}
 use Rattle.std.proofs.lemmas.Option.{slice_get-map, slice_get_past}
 use Rattle.std.specs.Option.{option_map}
 use Rattle.wasmi_arena.specs.Errors.{text_of}
 use Rattle.wasmi_script_lib.proofs.ReplyLemmas.{OnOk-same, word_text}
-use denote.Param.{param}
-use Rattle.wasmi_script_lib.proofs.Sizes.{field_small, texts_fields}
 use Rattle.wasmi_script_lib.proofs.texts.Texts.get.Goals as goal
 
 pub returns-in-Ok : goal.returns-in-Ok
@@ -20,6 +18,3 @@ returns-in-Err g c =
     let said = c.text.ensures ∙ ap text_of c.in-Err.ensures.errors in
     rw (slice_get-map string_bytes arena c.args.key ∙ ap (option_map string_bytes) (slice_get_past arena c.args.key past))
     (OnOk-same _ _ _ _ (word_text old (codes "error ") c.text.result.now ∙ ap (λ t. old ++ ((codes "error " ++ t) ++ (10 ∷ []))) said) c.writeln-in-Err.ensures.bytes)
-
-pub get-requires : goal.get-requires
-get-requires g c = field_small (texts_fields (param 0 g.row.A) g.A.Allocator) 0 _ _ refl assumption

@@ -1,7 +1,0 @@
-use Rattle.wasmi_script_lib.proofs.store.EntityStore.names.Goals as goal
-
-pub returns-clause-value : goal.returns-clause-value
-returns-clause-value g c = rw (← c.self.view_is) c.len.ensures.value
-
-pub returns-clause-most : goal.returns-clause-most
-returns-clause-most g c = rw (← c.self.view_is) c.len.ensures.most

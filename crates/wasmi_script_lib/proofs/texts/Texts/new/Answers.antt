@@ -1,7 +1,0 @@
-use Rattle.std.proofs.Common.{refl}
-use denote.Param.{copied}
-use Rattle.wasmi_script_lib.proofs.Sizes.{field_small, texts_fields}
-use Rattle.wasmi_script_lib.proofs.texts.Texts.new.Goals as goal
-
-pub new-requires : goal.new-requires
-new-requires g c = field_small (texts_fields (copied 0 g.row.A) g.A.Allocator) 0 _ _ refl assumption
