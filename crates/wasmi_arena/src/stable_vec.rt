@@ -100,6 +100,8 @@ fn place_in_last(len: usize, open_buckets: usize, slots: usize) -> (usize, usize
 }
 
 // Puts `value` into the first free slot of an open bucket, in which `free` slots are.
+//
+// These tell the slot, and not the bucket's length: the push before stored that, so each push would wait for it.
 #[inline]
 fn fill_next<T, A: Allocator>(
     buckets: &mut [Option<Bucket<T, A>>],

@@ -134,8 +134,13 @@ impl<T, A: Allocator> HeadVec<T, A> {
         ensures rest { self.new.items ≡ before_last self.old.items }
         ensures room { self.new.room + length self.new.items ≡ self.old.room + length self.old.items }
     {
-        let head = self.rest.pop();
-        mem::replace(&mut self.head, head)
+        let Some(next) = self.rest.pop() else {
+            return self.head.take();
+        };
+        match &mut self.head {
+            Some(head) => Some(mem::replace(head, next)),
+            None => unreachable!(),
+        }
     }
 }
 

@@ -15,8 +15,8 @@ use std::marker::Model;
 pub(in crate::string_interner) struct Block<A: Allocator> {
     ring: Ring<A>,
     len: usize,
-    // The last of them, if there are any. Of full blocks a search reads these first, and no ring; so does an
-    // insertion that passes on what a block has too many.
+    // The last of them, if there are any. Of full blocks a search reads these first, and no ring, and `turn` passes
+    // this one on.
     last: Entry,
 }
 
@@ -120,7 +120,8 @@ impl<A: Allocator> Block<A> {
         ensures entries { self.new.entries ++ result ∷ [] ≡ entry ∷ self.old.entries }
         ensures width { self.new.width ≡ self.old.width }
     {
-        // What the ring takes out is `last`, which is at hand. Its slot may be in no cache, and isn't read.
+        // What the ring takes out is `last`, which is at hand. Since it goes unused, no code reads its slot, which may
+        // be in no cache.
         let out = self.last;
         let _last = self.ring.turn(entry);
         self.last = self.ring.at(self.ring.len() - 1);
