@@ -17,5 +17,6 @@ mod Search
 mod SetRuns
 mod TextIndex
 mod TextKey
+mod TextRest
 mod Texts
 mod WithSymbols

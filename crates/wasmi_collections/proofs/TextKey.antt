@@ -1,5 +1,5 @@
 -- Facts on the keys of texts.
-use Rattle.std.proofs.Common.{◌≡◌, ℕ, zero, suc, ◌+◌, ◌*◌, ◌/◌, ◌^◌, ◌<◌, ◌≤◌, ◌⊎◌, inl, inr, List, [], ◌∷◌, length, get_or, refl, ap, sym, arith, Bool, true, false, Some, not, nat_eq, nat_lt, ◌&&◌, ◌||◌, Less, Equal, Greater}
+use Rattle.std.proofs.Common.{◌≡◌, ℕ, zero, suc, ◌+◌, ◌*◌, ◌/◌, ◌^◌, ◌<◌, ◌≤◌, ◌⊎◌, inl, inr, List, [], ◌∷◌, length, get_or, take, refl, ap, sym, ◌∙◌, arith, Bool, true, false, Some, not, nat_eq, nat_lt, ◌&&◌, ◌||◌, Less, Equal, Greater}
 use Rattle.std.specs.Cmp.{nat_cmp_is}
 use Rattle.std.specs.Cmp.Lexicographic.{slice_cmp}
 use Rattle.std.specs.Int.{w32, w64, from_be_bytes}
@@ -7,6 +7,7 @@ use Rattle.std.specs.Ordering.{nat_cmp}
 use Rattle.std.proofs.lemmas.Bool.{cases_lt, le-ltb, lt-ltb}
 use Rattle.std.proofs.lemmas.Bool.Decides.{nat_tests}
 use Rattle.std.proofs.lemmas.Grind.{same_number_lists}
+use Rattle.std.proofs.lemmas.List.{get_or-take, length-take}
 use borrow.Author.Count.{below_more}
 use Rattle.wasmi_collections.proofs.TextIndex.{turned}
 use Rattle.wasmi_collections.specs.LenOrder.{len_cmp}
@@ -14,10 +15,10 @@ use Rattle.wasmi_collections.specs.LenOrderLaws.{len_cmp-Equal}
 use Rattle.wasmi_collections.specs.Search.{IsSide}
 use Rattle.wasmi_collections.specs.TextKey.{leading, key_of, IsKeyOf}
 
-less : (a b : ℕ) → a < b → nat_cmp a b ≡ Less
+pub less : (a b : ℕ) → a < b → nat_cmp a b ≡ Less
 less a b below = sym (nat_cmp_is a b Less below)
 
-same : (a b : ℕ) → a ≡ b → nat_cmp a b ≡ Equal
+pub same : (a b : ℕ) → a ≡ b → nat_cmp a b ≡ Equal
 same a b is = sym (nat_cmp_is a b Equal is)
 
 -- the first bytes that differ decide
@@ -30,13 +31,13 @@ first_decides (a ∷ x) (b ∷ y) (suc i) before below long =
 
 module _ (x y : List ℕ) (of_x : (place : ℕ) → get_or x place 0 < 256) (of_y : (place : ℕ) → get_or y place 0 < 256) where
   -- equal numbers are of equal bytes
-  same_bytes : (n : ℕ) → leading n x ≡ leading n y → (k : ℕ) → k < n → get_or x k 0 ≡ get_or y k 0
+  pub same_bytes : (n : ℕ) → leading n x ≡ leading n y → (k : ℕ) → k < n → get_or x k 0 ≡ get_or y k 0
   same_bytes zero is k below = absurd (omega (arith, below))
   same_bytes (suc n) is k below =
       below_more (λ k. get_or x k 0 ≡ get_or y k 0) n (same_bytes n (omega (arith, is, of_x n, of_y n))) (omega (arith, is, of_x n, of_y n)) k (omega (arith, below))
 
   -- numbers order as the bytes do
-  leading_less : (n : ℕ) → leading n x < leading n y → length x ≡ length y → slice_cmp nat_cmp x y ≡ Less
+  pub leading_less : (n : ℕ) → leading n x < leading n y → length x ≡ length y → slice_cmp nat_cmp x y ≡ Less
   leading_less zero below long = absurd (omega (arith, below))
   leading_less (suc n) below long = next (cases_lt (leading n x) (leading n y)) (λ sooner. leading_less n sooner long)
     where
@@ -92,6 +93,28 @@ module _ (x y : List ℕ) (of_x : (place : ℕ) → get_or x place 0 < 256) (of_
       next (inl small) (inr large) = absurd (grind (arith, nat_tests, below, is, large))
       next (inr large) (inr large_too) = absurd (grind (arith, nat_tests, below, large))
 
+  -- texts that aren't long are of one length, and begin alike, where their keys are equal
+  same_start : key_of x ≡ key_of y → key_of y < 255 * 2 ^ 88 → (length x ≡ length y) × (take 11 x ≡ take 11 y) × (length y * 2 ^ 88 ≤ key_of y) × (key_of y < (length y + 1) * 2 ^ 88)
+  unfolding key_of
+  same_start is below = next (cases_lt (length x) 255) (cases_lt (length y) 255)
+    where
+      next : (length x < 255) ⊎ (255 ≤ length x) → (length y < 255) ⊎ (255 ≤ length y) → (length x ≡ length y) × (take 11 x ≡ take 11 y) × (length y * 2 ^ 88 ≤ key_of y) × (key_of y < (length y + 1) * 2 ^ 88)
+      next (inl small) (inl small_too) =
+          let key : key_of y ≡ length y * 2 ^ 88 + leading 11 y = rw (lt-ltb (length y) 255 small_too) refl in
+          let keys : length x * 2 ^ 88 + leading 11 x ≡ length y * 2 ^ 88 + leading 11 y = rw (lt-ltb (length x) 255 small, lt-ltb (length y) 255 small_too) at is in
+          let long : length x ≡ length y = omega (arith, keys, leading_small x of_x, leading_small y of_y) in (
+            long,
+            same_number_lists (take 11 x) (take 11 y) (omega (arith, long, length-take 11 x, length-take 11 y))
+                (λ k within.
+                let few : k < 11 = omega (arith, within, length-take 11 x) in
+                get_or-take 11 x k 0 few ∙ (same_bytes x y of_x of_y 11 (omega (arith, keys, long)) k few ∙ sym (get_or-take 11 y k 0 few))),
+            omega (arith, key),
+            omega (arith, key, leading_small y of_y),
+          )
+      next (inr large) (inl small) = absurd (grind (arith, nat_tests, below, is, large))
+      next (inl small) (inr large) = absurd (grind (arith, nat_tests, below, large))
+      next (inr large) (inr large_too) = absurd (grind (arith, nat_tests, below, large_too))
+
 module _ (head tail : ℕ) (x : List ℕ) (of_x : IsKeyOf head tail x) (other_head other_tail : ℕ) (y : List ℕ) (of_y : IsKeyOf other_head other_tail y) where
   when_less : key_of x < key_of y → len_cmp x y ≡ Less
   when_less below = key_less x y of_x.bytes of_y.bytes below
@@ -119,6 +142,16 @@ module _ (head tail : ℕ) (x : List ℕ) (of_x : IsKeyOf head tail x) (other_he
   key_tells_equal same_head same_tail few =
       let keys : key_of x ≡ key_of y = omega (arith, same_head, same_tail, of_x.upper, of_y.upper, of_x.lower, of_y.lower) in
       (len_cmp-Equal x y).1 (key_same x y of_x.bytes of_y.bytes keys (grind (arith, nat_tests, few, keys, of_y.upper)))
+
+  -- equal keys of twelve to 27 bytes are of texts of one such length that begin alike
+  pub key_tells_start : head ≡ other_head → tail ≡ other_tail → false ≡ nat_lt other_head (12 * 2 ^ 56) → true ≡ nat_lt other_head (28 * 2 ^ 56)
+      → (length x ≡ length y) × (take 11 x ≡ take 11 y) × (11 < length y) × (length y < 28)
+  key_tells_start same_head same_tail more few =
+      let keys : key_of x ≡ key_of y = omega (arith, same_head, same_tail, of_x.upper, of_y.upper, of_x.lower, of_y.lower) in
+      let below : key_of y < 28 * 2 ^ 88 = grind (arith, nat_tests, few, of_y.upper) in
+      let above : 12 * 2 ^ 88 ≤ key_of y = grind (arith, nat_tests, more, of_y.upper) in
+      let start = same_start x y of_x.bytes of_y.bytes keys (omega (arith, below)) in
+      (start.0, start.1, omega (arith, above, start.3), omega (arith, below, start.2))
 
 module _ (text : List ℕ) where
   key_of-large : 255 ≤ length text → key_of text ≡ 255 * 2 ^ 88

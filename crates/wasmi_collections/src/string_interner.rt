@@ -20,6 +20,7 @@ mod key;
 mod len_order;
 mod places;
 mod probe;
+mod rest;
 mod sought;
 mod steps;
 mod texts;

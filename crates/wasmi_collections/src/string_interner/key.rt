@@ -5,7 +5,7 @@ ghost use Rattle.wasmi_collections.specs.TextKey.{IsKeyOf};
 use super::choice::Choice;
 
 // How many bytes of a text its key has.
-const BYTES: usize = 11;
+pub(super) const BYTES: usize = 11;
 
 // From this length on all texts have one key.
 const LONG: usize = 255;
@@ -79,6 +79,14 @@ impl Key {
         ensures { result ≡ nat_lt self.now.head (12 * 2 ^ 56) }
     {
         self.head < (BYTES as u64 + 1) * ONE
+    }
+
+    // Whether at most two words of eight bytes of a text with this key are not in it.
+    #[inline]
+    pub(super) fn lacks_few(&self) -> bool
+        ensures { result ≡ nat_lt self.now.head (28 * 2 ^ 56) }
+    {
+        self.head < (BYTES as u64 + 17) * ONE
     }
 }
 

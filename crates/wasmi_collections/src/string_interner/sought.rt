@@ -1,5 +1,5 @@
 //! A text that is searched.
-ghost use Rattle.std.specs.Prelude.{◌≡◌, ℕ, ◌<◌, List, [], length, IfSome, None, Some, slice_index_or};
+ghost use Rattle.std.specs.Prelude.{◌≡◌, ℕ, ◌<◌, List, [], length, take, IfSome, None, Some, slice_index_or};
 ghost use Rattle.wasmi_collections.specs.LenOrder.{len_cmp};
 ghost use Rattle.wasmi_collections.specs.Search.{IsSide};
 ghost use Rattle.wasmi_collections.specs.TextIndex.{IsEntryOf};
@@ -8,6 +8,7 @@ ghost use Rattle.wasmi_collections.specs.TextKey.{IsKeyOf};
 use super::choice::Choice;
 use super::entry::Entry;
 use super::key::Key;
+use super::rest::side_of_rest;
 use super::texts::Texts;
 use super::{LenOrder, Sym};
 use std::alloc::Allocator;
@@ -59,6 +60,9 @@ impl<'a, A: Allocator> Sought<'a, A> {
         if self.key.has_all() {
             return None;
         }
+        if self.key.lacks_few() {
+            return side_of_few(self.texts, entry.symbol(), self.text);
+        }
         side_of_text(self.texts, entry.symbol(), self.text)
     }
 }
@@ -76,4 +80,18 @@ fn side_of_text<A: Allocator>(texts: &Texts<A>, symbol: Sym, text: &str) -> Opti
         Ordering::Equal => None,
         Ordering::Greater => Some(Choice::new(false)),
     }
+}
+
+// As `side_of_text`, of a text whose key lacks few bytes, and another with that key.
+#[inline(never)]
+fn side_of_few<A: Allocator>(texts: &Texts<A>, symbol: Sym, text: &str) -> Option<Choice>
+    requires at { symbol < length texts.now }
+    requires long { length (slice_index_or texts.now symbol []) ≡ length text.now }
+    requires more { 11 < length text.now }
+    requires few { length text.now < 28 }
+    requires alike { take 11 (slice_index_or texts.now symbol []) ≡ take 11 text.now }
+    ensures { IsSide (Some (len_cmp (slice_index_or texts.now symbol []) text.now)) result }
+{
+    let other = texts.get(symbol.into_usize());
+    side_of_rest(other.as_bytes(), text.as_bytes())
 }
