@@ -1,5 +1,5 @@
 -- Facts on the keys of texts.
-use Rattle.std.proofs.Common.{◌≡◌, ℕ, zero, suc, ◌+◌, ◌*◌, ◌/◌, ◌^◌, ◌<◌, ◌≤◌, ◌⊎◌, inl, inr, List, [], ◌∷◌, length, get_or, take, refl, ap, sym, ◌∙◌, arith, Bool, true, false, Some, not, nat_eq, nat_lt, ◌&&◌, ◌||◌, Less, Equal, Greater}
+use Rattle.std.proofs.Common.{◌≡◌, ℕ, zero, suc, ◌+◌, ◌*◌, ◌/◌, ◌^◌, ◌<◌, ◌≤◌, ◌⊎◌, inl, inr, List, [], ◌∷◌, length, get_or, refl, ap, sym, arith, Bool, true, false, Some, not, nat_eq, nat_lt, ◌&&◌, ◌||◌, Less, Equal, Greater}
 use Rattle.std.specs.Cmp.{nat_cmp_is}
 use Rattle.std.specs.Cmp.Lexicographic.{slice_cmp}
 use Rattle.std.specs.Int.{w32, w64, from_be_bytes}
@@ -7,7 +7,6 @@ use Rattle.std.specs.Ordering.{nat_cmp}
 use Rattle.std.proofs.lemmas.Bool.{cases_lt, le-ltb, lt-ltb}
 use Rattle.std.proofs.lemmas.Bool.Decides.{nat_tests}
 use Rattle.std.proofs.lemmas.Grind.{same_number_lists}
-use Rattle.std.proofs.lemmas.List.{get_or-take, length-take}
 use borrow.Author.Count.{below_more}
 use Rattle.wasmi_collections.proofs.TextIndex.{turned}
 use Rattle.wasmi_collections.specs.LenOrder.{len_cmp}
@@ -48,8 +47,45 @@ module _ (x y : List ℕ) (of_x : (place : ℕ) → get_or x place 0 < 256) (of_
           first_decides x y n (same_bytes n is) (omega (arith, below, is)) long
 
 -- eleven bytes are below 256 ^ 11
-leading_small : (x : List ℕ) → ((place : ℕ) → get_or x place 0 < 256) → leading 11 x < 2 ^ 88
+pub leading_small : (x : List ℕ) → ((place : ℕ) → get_or x place 0 < 256) → leading 11 x < 2 ^ 88
 leading_small x bytes = omega (arith, bytes 0, bytes 1, bytes 2, bytes 3, bytes 4, bytes 5, bytes 6, bytes 7, bytes 8, bytes 9, bytes 10)
+
+module _ (text : List ℕ) where
+  key_of-large : 255 ≤ length text → key_of text ≡ 255 * 2 ^ 88
+  unfolding key_of
+  key_of-large large = rw (le-ltb (length text) 255 large) refl
+
+  key_of-small : length text < 255 → key_of text ≡ length text * 2 ^ 88 + leading 11 text
+  unfolding key_of
+  key_of-small small = rw (lt-ltb (length text) 255 small) refl
+
+  -- a key of fewer bytes has them all
+  pub key_of-below : key_of text < 255 * 2 ^ 88 → key_of text ≡ length text * 2 ^ 88 + leading 11 text
+  key_of-below below = next (cases_lt (length text) 255)
+    where
+      next : (length text < 255) ⊎ (255 ≤ length text) → key_of text ≡ length text * 2 ^ 88 + leading 11 text
+      next (inl small) = key_of-small small
+      next (inr large) = absurd (omega (arith, below, key_of-large large))
+
+  -- the key of a text of at least 255 bytes
+  pub large_key : ((place : ℕ) → get_or text place 0 < 256) → 255 ≤ length text → IsKeyOf (255 * 2 ^ 56) 0 text
+  large_key bytes large = record { bytes = bytes; upper = omega (arith, key_of-large large); lower = omega (arith, key_of-large large) }
+
+  -- the key of another, from its first bytes
+  pub small_key : (first : List ℕ) (eight four : ℕ) → ((place : ℕ) → get_or text place 0 < 256) → length text < 255 → ((place : ℕ) → place < 11 → get_or first place 0 ≡ get_or text place 0)
+      → eight ≡ from_be_bytes w64 (get_or first 0 0 ∷ get_or first 1 0 ∷ get_or first 2 0 ∷ get_or first 3 0 ∷ get_or first 4 0 ∷ get_or first 5 0 ∷ get_or first 6 0 ∷ get_or first 7 0 ∷ [])
+      → four ≡ from_be_bytes w32 (get_or first 7 0 ∷ get_or first 8 0 ∷ get_or first 9 0 ∷ get_or first 10 0 ∷ [])
+      → IsKeyOf (length text * 2 ^ 56 + eight / 256) four text
+  small_key first eight four bytes small same_first upper lower =
+      let eights : eight ≡ leading 7 text * 256 + get_or text 7 0 =
+      omega (arith, upper, same_first 0 (omega arith), same_first 1 (omega arith), same_first 2 (omega arith), same_first 3 (omega arith), same_first 4 (omega arith), same_first 5 (omega arith), same_first 6 (omega arith), same_first 7 (omega arith)) in
+      let sevens : eight / 256 ≡ leading 7 text = omega (arith, eights, bytes 7) in
+      let fours : leading 7 text * 2 ^ 32 + four ≡ leading 11 text =
+      omega (arith, lower, same_first 7 (omega arith), same_first 8 (omega arith), same_first 9 (omega arith), same_first 10 (omega arith)) in
+      let below : four < 2 ^ 32 =
+      omega (arith, lower, same_first 7 (omega arith), same_first 8 (omega arith), same_first 9 (omega arith), same_first 10 (omega arith), bytes 7, bytes 8, bytes 9, bytes 10) in
+      let key = key_of-small small in
+      record { bytes = bytes; upper = omega (arith, key, sevens, fours, below); lower = omega (arith, key, sevens, fours, below) }
 
 module _ (x y : List ℕ) (of_x : (place : ℕ) → get_or x place 0 < 256) (of_y : (place : ℕ) → get_or y place 0 < 256) where
   by_lengths : length x < length y → len_cmp x y ≡ Less
@@ -60,14 +96,13 @@ module _ (x y : List ℕ) (of_x : (place : ℕ) → get_or x place 0 < 256) (of_
 
   -- texts order as their keys do
   key_less : key_of x < key_of y → len_cmp x y ≡ Less
-  unfolding key_of
   key_less below = next (cases_lt (length x) 255) (cases_lt (length y) 255)
     where
       next : (length x < 255) ⊎ (255 ≤ length x) → (length y < 255) ⊎ (255 ≤ length y) → len_cmp x y ≡ Less
       next (inl small) (inl small_too) = ends (cases_lt (length x) (length y))
         where
           keys : length x * 2 ^ 88 + leading 11 x < length y * 2 ^ 88 + leading 11 y
-          keys = rw (lt-ltb (length x) 255 small, lt-ltb (length y) 255 small_too) at below
+          keys = omega (arith, below, key_of-small x small, key_of-small y small_too)
 
           ends : (length x < length y) ⊎ (length y ≤ length x) → len_cmp x y ≡ Less
           ends (inl shorter) = by_lengths shorter
@@ -75,45 +110,22 @@ module _ (x y : List ℕ) (of_x : (place : ℕ) → get_or x place 0 < 256) (of_
               let long : length x ≡ length y = omega (arith, keys, longer, leading_small x of_x, leading_small y of_y) in
               by_bytes long (omega (arith, keys, long))
       next (inl small) (inr large) = by_lengths (omega (arith, small, large))
-      next (inr large) (inl small) = absurd (grind (arith, nat_tests, below, large, small, leading_small y of_y))
-      next (inr large) (inr large_too) = absurd (grind (arith, nat_tests, below, large, large_too))
+      next (inr large) (inl small) = absurd (omega (arith, below, key_of-large x large, key_of-small y small, small, leading_small y of_y))
+      next (inr large) (inr large_too) = absurd (omega (arith, below, key_of-large x large, key_of-large y large_too))
 
-  -- texts of at most eleven bytes are equal where their keys are
-  key_same : key_of x ≡ key_of y → key_of x < 12 * 2 ^ 88 → x ≡ y
-  unfolding key_of
-  key_same is below = next (cases_lt (length x) 255) (cases_lt (length y) 255)
-    where
-      next : (length x < 255) ⊎ (255 ≤ length x) → (length y < 255) ⊎ (255 ≤ length y) → x ≡ y
-      next (inl small) (inl small_too) =
-          let keys : length x * 2 ^ 88 + leading 11 x ≡ length y * 2 ^ 88 + leading 11 y = rw (lt-ltb (length x) 255 small, lt-ltb (length y) 255 small_too) at is in
-          let few : length x * 2 ^ 88 + leading 11 x < 12 * 2 ^ 88 = rw (lt-ltb (length x) 255 small) at below in
-          let long : length x ≡ length y = omega (arith, keys, leading_small x of_x, leading_small y of_y) in
-          same_number_lists x y long (λ k within. same_bytes x y of_x of_y 11 (omega (arith, keys, long)) k (omega (arith, few, within)))
-      next (inr large) (inl small) = absurd (grind (arith, nat_tests, below, large))
-      next (inl small) (inr large) = absurd (grind (arith, nat_tests, below, is, large))
-      next (inr large) (inr large_too) = absurd (grind (arith, nat_tests, below, large))
+  -- texts that aren't long are of one length, and begin with the same bytes, where their keys are equal
+  pub same_parts : key_of x ≡ key_of y → key_of y < 255 * 2 ^ 88 → (length x ≡ length y) × (leading 11 x ≡ leading 11 y)
+  same_parts is below =
+      let key_x = key_of-below x (omega (arith, is, below)) in
+      let key_y = key_of-below y below in
+      let long : length x ≡ length y = omega (arith, is, key_x, key_y, leading_small x of_x, leading_small y of_y) in
+      (long, omega (arith, is, key_x, key_y, long))
 
-  -- texts that aren't long are of one length, and begin alike, where their keys are equal
-  same_start : key_of x ≡ key_of y → key_of y < 255 * 2 ^ 88 → (length x ≡ length y) × (take 11 x ≡ take 11 y) × (length y * 2 ^ 88 ≤ key_of y) × (key_of y < (length y + 1) * 2 ^ 88)
-  unfolding key_of
-  same_start is below = next (cases_lt (length x) 255) (cases_lt (length y) 255)
-    where
-      next : (length x < 255) ⊎ (255 ≤ length x) → (length y < 255) ⊎ (255 ≤ length y) → (length x ≡ length y) × (take 11 x ≡ take 11 y) × (length y * 2 ^ 88 ≤ key_of y) × (key_of y < (length y + 1) * 2 ^ 88)
-      next (inl small) (inl small_too) =
-          let key : key_of y ≡ length y * 2 ^ 88 + leading 11 y = rw (lt-ltb (length y) 255 small_too) refl in
-          let keys : length x * 2 ^ 88 + leading 11 x ≡ length y * 2 ^ 88 + leading 11 y = rw (lt-ltb (length x) 255 small, lt-ltb (length y) 255 small_too) at is in
-          let long : length x ≡ length y = omega (arith, keys, leading_small x of_x, leading_small y of_y) in (
-            long,
-            same_number_lists (take 11 x) (take 11 y) (omega (arith, long, length-take 11 x, length-take 11 y))
-                (λ k within.
-                let few : k < 11 = omega (arith, within, length-take 11 x) in
-                get_or-take 11 x k 0 few ∙ (same_bytes x y of_x of_y 11 (omega (arith, keys, long)) k few ∙ sym (get_or-take 11 y k 0 few))),
-            omega (arith, key),
-            omega (arith, key, leading_small y of_y),
-          )
-      next (inr large) (inl small) = absurd (grind (arith, nat_tests, below, is, large))
-      next (inl small) (inr large) = absurd (grind (arith, nat_tests, below, large))
-      next (inr large) (inr large_too) = absurd (grind (arith, nat_tests, below, large_too))
+  -- so texts of at most eleven bytes are equal where their keys are
+  key_same : key_of x ≡ key_of y → key_of y < 12 * 2 ^ 88 → x ≡ y
+  key_same is below =
+      let parts = same_parts is (omega (arith, below)) in
+      same_number_lists x y parts.0 (λ k within. same_bytes x y of_x of_y 11 parts.1 k (omega (arith, below, key_of-below y (omega (arith, below)), within, parts.0)))
 
 module _ (head tail : ℕ) (x : List ℕ) (of_x : IsKeyOf head tail x) (other_head other_tail : ℕ) (y : List ℕ) (of_y : IsKeyOf other_head other_tail y) where
   when_less : key_of x < key_of y → len_cmp x y ≡ Less
@@ -137,47 +149,11 @@ module _ (head tail : ℕ) (x : List ℕ) (of_x : IsKeyOf head tail x) (other_he
   key_tells_side true is differ = ap Some (key_tells_less is)
   key_tells_side false is differ = ap Some (key_tells_greater differ is)
 
+  -- equal parts are of one key
+  pub same_key : head ≡ other_head → tail ≡ other_tail → key_of x ≡ key_of y
+  same_key same_head same_tail = omega (arith, same_head, same_tail, of_x.upper, of_y.upper, of_x.lower, of_y.lower)
+
   -- equal keys of at most eleven bytes are of one text
   pub key_tells_equal : head ≡ other_head → tail ≡ other_tail → true ≡ nat_lt other_head (12 * 2 ^ 56) → len_cmp x y ≡ Equal
   key_tells_equal same_head same_tail few =
-      let keys : key_of x ≡ key_of y = omega (arith, same_head, same_tail, of_x.upper, of_y.upper, of_x.lower, of_y.lower) in
-      (len_cmp-Equal x y).1 (key_same x y of_x.bytes of_y.bytes keys (grind (arith, nat_tests, few, keys, of_y.upper)))
-
-  -- equal keys of twelve to 27 bytes are of texts of one such length that begin alike
-  pub key_tells_start : head ≡ other_head → tail ≡ other_tail → false ≡ nat_lt other_head (12 * 2 ^ 56) → true ≡ nat_lt other_head (28 * 2 ^ 56)
-      → (length x ≡ length y) × (take 11 x ≡ take 11 y) × (11 < length y) × (length y < 28)
-  key_tells_start same_head same_tail more few =
-      let keys : key_of x ≡ key_of y = omega (arith, same_head, same_tail, of_x.upper, of_y.upper, of_x.lower, of_y.lower) in
-      let below : key_of y < 28 * 2 ^ 88 = grind (arith, nat_tests, few, of_y.upper) in
-      let above : 12 * 2 ^ 88 ≤ key_of y = grind (arith, nat_tests, more, of_y.upper) in
-      let start = same_start x y of_x.bytes of_y.bytes keys (omega (arith, below)) in
-      (start.0, start.1, omega (arith, above, start.3), omega (arith, below, start.2))
-
-module _ (text : List ℕ) where
-  key_of-large : 255 ≤ length text → key_of text ≡ 255 * 2 ^ 88
-  unfolding key_of
-  key_of-large large = rw (le-ltb (length text) 255 large) refl
-
-  key_of-small : length text < 255 → key_of text ≡ length text * 2 ^ 88 + leading 11 text
-  unfolding key_of
-  key_of-small small = rw (lt-ltb (length text) 255 small) refl
-
-  -- the key of a text of at least 255 bytes
-  pub large_key : ((place : ℕ) → get_or text place 0 < 256) → 255 ≤ length text → IsKeyOf (255 * 2 ^ 56) 0 text
-  large_key bytes large = record { bytes = bytes; upper = omega (arith, key_of-large large); lower = omega (arith, key_of-large large) }
-
-  -- the key of another, from its first bytes
-  pub small_key : (first : List ℕ) (eight four : ℕ) → ((place : ℕ) → get_or text place 0 < 256) → length text < 255 → ((place : ℕ) → place < 11 → get_or first place 0 ≡ get_or text place 0)
-      → eight ≡ from_be_bytes w64 (get_or first 0 0 ∷ get_or first 1 0 ∷ get_or first 2 0 ∷ get_or first 3 0 ∷ get_or first 4 0 ∷ get_or first 5 0 ∷ get_or first 6 0 ∷ get_or first 7 0 ∷ [])
-      → four ≡ from_be_bytes w32 (get_or first 7 0 ∷ get_or first 8 0 ∷ get_or first 9 0 ∷ get_or first 10 0 ∷ [])
-      → IsKeyOf (length text * 2 ^ 56 + eight / 256) four text
-  small_key first eight four bytes small same_first upper lower =
-      let eights : eight ≡ leading 7 text * 256 + get_or text 7 0 =
-      omega (arith, upper, same_first 0 (omega arith), same_first 1 (omega arith), same_first 2 (omega arith), same_first 3 (omega arith), same_first 4 (omega arith), same_first 5 (omega arith), same_first 6 (omega arith), same_first 7 (omega arith)) in
-      let sevens : eight / 256 ≡ leading 7 text = omega (arith, eights, bytes 7) in
-      let fours : leading 7 text * 2 ^ 32 + four ≡ leading 11 text =
-      omega (arith, lower, same_first 7 (omega arith), same_first 8 (omega arith), same_first 9 (omega arith), same_first 10 (omega arith)) in
-      let below : four < 2 ^ 32 =
-      omega (arith, lower, same_first 7 (omega arith), same_first 8 (omega arith), same_first 9 (omega arith), same_first 10 (omega arith), bytes 7, bytes 8, bytes 9, bytes 10) in
-      let key = key_of-small small in
-      record { bytes = bytes; upper = omega (arith, key, sevens, fours, below); lower = omega (arith, key, sevens, fours, below) }
+      (len_cmp-Equal x y).1 (key_same x y of_x.bytes of_y.bytes (same_key same_head same_tail) (grind (arith, nat_tests, few, of_y.upper)))

@@ -1,5 +1,5 @@
 -- What an index keeps of a text beside its symbol.
-use Rattle.std.specs.Prelude.{ℕ, zero, suc, ◌≡◌, ◌+◌, ◌*◌, ◌/◌, ◌%◌, ◌^◌, ◌<◌, nat_lt, cond, List, length, slice_index}
+use Rattle.std.specs.Prelude.{ℕ, zero, suc, ◌≡◌, ◌+◌, ◌*◌, ◌/◌, ◌%◌, ◌^◌, ◌<◌, nat_lt, cond, List, length, slice_index, take}
 
 -- the first n bytes as one number, the first of them the highest, and 0 for each that is missing
 abbrev pub leading : ℕ → List ℕ → ℕ
@@ -16,3 +16,10 @@ pub record IsKeyOf (head tail : ℕ) (text : List ℕ) : Type 0 where
   pub bytes : (place : ℕ) → slice_index text place < 256
   pub upper : head ≡ key_of text / 2 ^ 32
   pub lower : tail ≡ key_of text % 2 ^ 32
+
+-- texts of one length, of 12 to 27 bytes, that begin with the same eleven
+pub record BeginAlike (text other : List ℕ) : Type 0 where
+  pub long : length text ≡ length other
+  pub more : 11 < length other
+  pub few : length other < 28
+  pub start : take 11 text ≡ take 11 other

@@ -86,7 +86,7 @@ impl Key {
     pub(super) fn lacks_few(&self) -> bool
         ensures { result ≡ nat_lt self.now.head (28 * 2 ^ 56) }
     {
-        self.head < (BYTES as u64 + 17) * ONE
+        self.head < (BYTES as u64 + 2 * 8 + 1) * ONE
     }
 }
 

@@ -1,32 +1,38 @@
 //! How texts compare behind the bytes that their key has.
-ghost use Rattle.std.specs.Prelude.{◌≡◌, ◌+◌, ◌<◌, ◌≤◌, ◌==◌, cond, Some, length, take, drop};
+ghost use Rattle.std.specs.Prelude.{◌≡◌, ◌+◌, ◌≤◌, ◌==◌, cond, Some, length, drop};
+ghost use Rattle.std.specs.Ordering.{nat_cmp};
 ghost use Rattle.wasmi_collections.specs.LenOrder.{len_cmp};
 ghost use Rattle.wasmi_collections.specs.Search.{IsSide};
-ghost use Rattle.wasmi_collections.specs.TextKey.{leading};
+ghost use Rattle.wasmi_collections.specs.TextKey.{leading, BeginAlike};
 
 use super::choice::Choice;
 use super::key::BYTES;
 
-// Whether the first of two texts is less, and nothing where they are equal. They are of one length, and begin with as
-// many of the same bytes as a key has; two words, which may overlap, have all bytes behind these.
+// Whether the first of two texts is less, and nothing where they are equal.
 #[inline]
 pub(super) fn side_of_rest(one: &[u8], other: &[u8]) -> Option<Choice>
-    requires long { length one.now ≡ length other.now }
-    requires more { 11 < length other.now }
-    requires few { length other.now < 28 }
-    requires alike { take 11 one.now ≡ take 11 other.now }
+    requires { BeginAlike one.now other.now }
     ensures { IsSide (Some (len_cmp one.now other.now)) result }
 {
-    let last = other.len() - 8;
-    let first = last.min(BYTES);
-    let (word, other_word) = first_apart(
-        (word_at(one, first), word_at(other, first)),
-        (word_at(one, last), word_at(other, last)),
-    );
+    let (word, other_word) = words_apart(one, other);
     if word == other_word {
         return None;
     }
     Some(Choice::new(word < other_word))
+}
+
+// A word of each text, which compare as the texts do. All bytes that a key lacks are in two words, which may overlap.
+#[inline]
+fn words_apart(one: &[u8], other: &[u8]) -> (u64, u64)
+    requires { BeginAlike one.now other.now }
+    ensures { nat_cmp result.0 result.1 ≡ len_cmp one.now other.now }
+{
+    let last = other.len() - 8;
+    let first = last.min(BYTES);
+    first_apart(
+        (word_at(one, first), word_at(other, first)),
+        (word_at(one, last), word_at(other, last)),
+    )
 }
 
 // The first pair where its numbers differ, and the second where not.

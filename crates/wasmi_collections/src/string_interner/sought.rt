@@ -1,9 +1,9 @@
 //! A text that is searched.
-ghost use Rattle.std.specs.Prelude.{◌≡◌, ℕ, ◌<◌, List, [], length, take, IfSome, None, Some, slice_index_or};
+ghost use Rattle.std.specs.Prelude.{◌≡◌, ℕ, ◌<◌, List, [], length, IfSome, None, Some, slice_index_or};
 ghost use Rattle.wasmi_collections.specs.LenOrder.{len_cmp};
 ghost use Rattle.wasmi_collections.specs.Search.{IsSide};
 ghost use Rattle.wasmi_collections.specs.TextIndex.{IsEntryOf};
-ghost use Rattle.wasmi_collections.specs.TextKey.{IsKeyOf};
+ghost use Rattle.wasmi_collections.specs.TextKey.{IsKeyOf, BeginAlike};
 
 use super::choice::Choice;
 use super::entry::Entry;
@@ -86,10 +86,7 @@ fn side_of_text<A: Allocator>(texts: &Texts<A>, symbol: Sym, text: &str) -> Opti
 #[inline(never)]
 fn side_of_few<A: Allocator>(texts: &Texts<A>, symbol: Sym, text: &str) -> Option<Choice>
     requires at { symbol < length texts.now }
-    requires long { length (slice_index_or texts.now symbol []) ≡ length text.now }
-    requires more { 11 < length text.now }
-    requires few { length text.now < 28 }
-    requires alike { take 11 (slice_index_or texts.now symbol []) ≡ take 11 text.now }
+    requires alike { BeginAlike (slice_index_or texts.now symbol []) text.now }
     ensures { IsSide (Some (len_cmp (slice_index_or texts.now symbol []) text.now)) result }
 {
     let other = texts.get(symbol.into_usize());
