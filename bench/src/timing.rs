@@ -154,7 +154,7 @@ pub fn time(row: &Row, n: u64) -> Times {
     } else {
         (TURNS, MOST_TURNS)
     };
-    let rounds = (row.operations / n).max(1);
+    let rounds = (row.operations / n).max(row.least_rounds);
     let [mut ours, mut theirs, mut plain, mut kit] = [Side::UNTIMED; 4];
     for turn in 0..=most_turns {
         ours.turn(|n, rounds| (row.ours)(n, rounds), n, rounds);
