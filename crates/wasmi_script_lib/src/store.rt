@@ -148,7 +148,7 @@ impl<A: Allocator> EntityStore<A> {
     /// Fails with `NotEnoughKeys` if there are 4,294,967,264 entities, or the name is new and there are 2^32
     /// names, and then nothing has changed; and with `OutOfSystemMemory` if there is no memory, and then the
     /// entities are as before, but the name and the kind may be there. Expected time as of
-    /// [`get_or_intern`](StringInterner::get_or_intern) and [`alloc`](DedupArena::alloc).
+    /// [`get_or_intern`](StringInterner::get_or_intern) and [`alloc`](wasmi_collections::DedupArena::alloc).
     pub fn add(&mut self, name: &str, kind: &str) -> Result<EntityKey, ArenaError>
     where
         A: Copy,
