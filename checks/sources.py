@@ -35,7 +35,7 @@ class Repository:
                 text = re.sub(r'--.*', '', read(path))
                 self.names.update(re.findall(r'(?m)^\s*(?:(?:abbrev|unfoldable|pub|record|data|mod(?:ule)?) )+([^\s(){}:]+)', text))
                 self.names.update(re.findall(r'(?m)^\s*([^\s(){}:=]+)\s*:\s', text))
-                self.names.update(WORD.findall(' '.join(re.findall(r'(?m)^use .*', text))))
+                self.names.update(WORD.findall(' '.join(re.findall(r'(?m)^use (?!Rattle\.wasmi_).*', text))))
         self.tests = {f.name for f in self.functions if f.test}
         self.by_crate = {crate: [f for f in self.functions if f.crate == crate] for crate in self.crates}
         for f in self.functions:
@@ -45,7 +45,7 @@ class Repository:
     def source(self, path, crate):
         text, at, attributes = re.sub(r'(?m)^\s*//.*$', '', read(path)), 0, ''
         for uses in re.findall(r'(?m)^\s*(?:pub(?:\(.*?\))? )?(?:ghost )?use [^;]*;', text):
-            self.names.update(WORD.findall(uses))
+            self.names.update(() if re.search(r'use (Rattle\.wasmi_|wasmi_|crate\b|super\b)', uses) else WORD.findall(uses))
             self.exported.update(WORD.findall(uses) if uses.strip().startswith('pub use') else ())
             of = re.match(r'\s*ghost use Rattle\.(\w+)\.specs\.[A-Z]\w*\.\{([^}]*)\}', uses)
             if of and of[1] in LIBRARIES:
