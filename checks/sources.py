@@ -33,7 +33,8 @@ class Repository:
                 self.source(path, path.split('/')[1])
             elif path.endswith('.antt'):
                 text = re.sub(r'--.*', '', read(path))
-                self.names.update(re.findall(r'(?m)^\s*(?:(?:abbrev|unfoldable|pub|record|data|mod(?:ule)?) )+([^\s(){}:]+)', text))
+                before = r'(?:(?:abbrev|unfoldable|pub|record|data|mod(?:ule)?) )+'
+                self.names.update(re.findall(rf'(?m)^\s*{before}([^\s(){{}}:]+)', text))
                 self.names.update(re.findall(r'(?m)^\s*([^\s(){}:=]+)\s*:\s', text))
                 self.names.update(WORD.findall(' '.join(re.findall(r'(?m)^use (?!Rattle\.wasmi_).*', text))))
         self.tests = {f.name for f in self.functions if f.test}
@@ -66,12 +67,15 @@ class Repository:
             kind, trait = WORD.findall(head[-1])[0], WORD.findall(head[0])[-1] if len(head) == 2 else None
         elif what and what != 'fn':
             self.types.add(kind)
+        says = re.compile(r'(?ms)^    ghost (?!laws|total|matches|respects)\w+ = \{.*?\};')  # the others are proofs
+        ghosts = '' if trait in (None, 'Model') else ' '.join(says.findall(text))
         for part in re.split(r'(?m)^(?=(?:    )?(?:pub(?:\(.*?\))? )?(?:const |unsafe )*fn )', text):
             if of := re.match(r'( *)(pub(?:\(.*?\))? )?(?:const |unsafe )*fn (\w+)', part):
                 head = part.split(f'\n{of[1]}{{')[0]
                 self.functions.append(types.SimpleNamespace(
                     crate=crate, file=path, kind=None if what == 'fn' else kind, trait=trait, name=of[3], test=test,
-                    public=of[2] == 'pub ', cited=set(WORD.findall(re.sub(r'(?s)^.*?\b(?:ensures|requires|$)', '', head))),
+                    cited=set(WORD.findall(ghosts + re.sub(r'(?s)^.*?(?:\bensures|\brequires|$)', ' ', head, count=1))),
+                    public=of[2] == 'pub ',
                     clauses=set(re.findall(r'\b(?:ensures|requires)\*?\s*(\w*)\s*\{', head)), line=line))
                 self.names |= self.functions[-1].clauses | {of[3]}
             line += part.count('\n')
