@@ -2,7 +2,7 @@
 import os, re, types
 
 TOP = os.path.dirname(os.path.dirname(os.path.abspath(__file__)))
-LIBRARIES = ['wasmi_' + name for name in 'arena dense map_specs ordered hashed collections script_lib'.split()]
+LIBRARIES = ['wasmi_' + name for name in 'arena dense map_specs ordered hashed interner collections script_lib'.split()]
 WORD = re.compile(r'[^\W\d][\w-]*')
 ANGLES = re.compile(r'<(?:[^<>]|<(?:[^<>]|<[^<>]*>)*>)*>')
 
@@ -27,6 +27,7 @@ class Repository:
         lines = [line for line in read('checks/words').split('\n') if not line.startswith('#')]
         self.words = {word for line in lines for word in ([line[2:]] if line.startswith(': ') else line.split())}
         self.names, self.exported, self.types = {*self.crates, *self.words}, set(), set()
+        self.private, self.handed_on = set(), {}
         for path in sorted(self.files):
             self.names |= {part.split('.')[0] for part in path.split('/')}
             if path.startswith('crates/') and path.endswith('.rt'):
@@ -37,20 +38,23 @@ class Repository:
                 self.names.update(re.findall(rf'(?m)^\s*{before}([^\s(){{}}:]+)', text))
                 self.names.update(re.findall(r'(?m)^\s*([^\s(){}:=]+)\s*:\s', text))
                 self.names.update(WORD.findall(' '.join(re.findall(r'(?m)^use (?!Rattle\.wasmi_).*', text))))
+                for other, module in re.findall(r'(?m)^pub use Rattle\.(wasmi_\w+)\.specs\.(\w+)$', text):
+                    self.handed_on[path.split('/')[1], module] = other
         self.tests = {f.name for f in self.functions if f.test}
         self.by_crate = {crate: [f for f in self.functions if f.crate == crate] for crate in self.crates}
         for f in self.functions:
             way = {f.kind or f.name, f.file.split('/')[3].split('.')[0]}
-            f.public = bool(f.trait) or f.public and (f.crate not in LIBRARIES or not way.isdisjoint(self.exported | {'lib'}))
+            f.public = bool(f.trait) and (f.crate, f.kind) not in self.private or f.public and (f.crate not in LIBRARIES or not way.isdisjoint(self.exported | {'lib'}))
 
     def source(self, path, crate):
         text, at, attributes = re.sub(r'(?m)^\s*//.*$', '', read(path)), 0, ''
         for uses in re.findall(r'(?m)^\s*(?:pub(?:\(.*?\))? )?(?:ghost )?use [^;]*;', text):
             self.names.update(() if re.search(r'use (Rattle\.wasmi_|wasmi_|crate\b|super\b)', uses) else WORD.findall(uses))
             self.exported.update(WORD.findall(uses) if uses.strip().startswith('pub use') else ())
-            of = re.match(r'\s*ghost use Rattle\.(\w+)\.specs\.[A-Z]\w*\.\{([^}]*)\}', uses)
+            of = re.match(r'\s*ghost use Rattle\.(\w+)\.specs\.([A-Z]\w*)\.\{([^}]*)\}', uses)
             if of and of[1] in LIBRARIES:
-                self.imports.setdefault(path, {}).update({word.strip(): of[1] for word in of[2].split(',')})
+                from_crate = self.handed_on.get((of[1], of[2]), of[1])
+                self.imports.setdefault(path, {}).update({word.strip(): from_crate for word in of[3].split(',')})
         self.exported.update(re.findall(r'(?m)^pub mod (\w+)', text))
         self.names.update(re.findall(r'\b(?:macro_rules!|mod) (\w+)', text), re.findall(r'(?m)^ +(?:pub )?(\w+): ', text))
         if crate in ('wasmi_replay', 'wasmi_script_lib') or path.endswith('/error.rt'):  # the words of lines and errors
@@ -67,6 +71,7 @@ class Repository:
             kind, trait = WORD.findall(head[-1])[0], WORD.findall(head[0])[-1] if len(head) == 2 else None
         elif what and what != 'fn':
             self.types.add(kind)
+            self.private |= set() if of[1] else {(crate, kind)}
         says = re.compile(r'(?ms)^    ghost (?!laws|total|matches|respects)\w+ = \{.*?\};')  # the others are proofs
         ghosts = '' if trait in (None, 'Model') else ' '.join(says.findall(text))
         for part in re.split(r'(?m)^(?=(?:    )?(?:pub(?:\(.*?\))? )?(?:const |unsafe )*fn )', text):

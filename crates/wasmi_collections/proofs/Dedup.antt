@@ -9,21 +9,12 @@ use Rattle.std.proofs.lemmas.List.Sorted.{length_permutation, list_any-IsPermuta
 use Rattle.std.proofs.lemmas.List.Elements.{All-nil, All-cons, All-head, All-tail}
 use Rattle.std.proofs.lemmas.Map.Keys.{IsDistinct-cons, IsDistinct-head, IsDistinct-tail}
 use Rattle.wasmi_arena.specs.Keys.{Keys, KeyLaw}
+use Rattle.wasmi_interner.proofs.Symbols.{found_last}
 use Rattle.wasmi_map_specs.specs.Maps.{value_at, ChangesAt}
 use Rattle.wasmi_collections.specs.Dedup.{keyed_from, keyed, value_numbered, in_order, IsIndex, DedupState, AllocatesValue, AllocatesEach}
 
--- a value behind a list is found there where none before it is
+-- a value behind a list is found before it where it is
 module _ {T : Type 0} (p : T → Bool) (x : T) where
-  pub found_last : (i : ℕ) (xs : List T) → position_from p i xs ≡ None → p x ≡ true → position_from p i (xs ++ x ∷ []) ≡ Some (i + length xs)
-  found_last i [] none hit = grind (arith, hit)
-  found_last i (y ∷ ys) none hit = next (p y) none (found_last (i + 1) ys)
-    where
-      next : (b : Bool) → cond b (Some i) (position_from p (i + 1) ys) ≡ None
-          → (position_from p (i + 1) ys ≡ None → p x ≡ true → position_from p (i + 1) (ys ++ x ∷ []) ≡ Some (i + 1 + length ys))
-          → cond b (Some i) (position_from p (i + 1) (ys ++ x ∷ [])) ≡ Some (i + suc (length ys))
-      next true none rest = absurd (true≢false (ap is_some none))
-      next false none rest = rest none hit ∙ ap Some (omega arith)
-
   found_before : (i : ℕ) (xs : List T) → p x ≡ false → position_from p i (xs ++ x ∷ []) ≡ position_from p i xs
   found_before i [] miss = ap (λ b. cond b (Some i) None) miss
   found_before i (y ∷ ys) miss = ap (λ (o : Option ℕ). cond (p y) (Some i) o) (found_before (i + 1) ys miss)

@@ -12,7 +12,8 @@ use Rattle.wasmi_collections.specs.declared.run.dedup.DedupCommand.{DedupCommand
 use Rattle.wasmi_collections.specs.declared.run.dedup.DedupCommand.TheVariants.{Alloc, Put, Replace, Has, Clear}
 use Rattle.wasmi_collections.specs.declared.run.dedup.DedupReply.{DedupReply}
 use Rattle.wasmi_collections.specs.declared.run.dedup.DedupReply.TheVariants.{Key, Old, Has as HasReply, Done, Refused}
-use Rattle.wasmi_collections.proofs.Dedup.{found_last, position-congr}
+use Rattle.wasmi_collections.proofs.Dedup.{position-congr}
+use Rattle.wasmi_interner.proofs.Symbols.{found_last}
 
 pub some_is : {X : Type 0} (x y : X) → Some x ≡ Some y → x ≡ y
 some_is x y same = ap (λ o. unwrap_or o x) same

@@ -12,7 +12,7 @@ use Rattle.std.proofs.lemmas.List.Quantifiers.{position-Some}
 use Rattle.wasmi_arena.specs.Keys.{Keys, KeyLaw}
 use Rattle.wasmi_map_specs.specs.Seen.{value_seen_as}
 use Rattle.wasmi_collections.specs.Dedup.{DedupState, IsIndex, AllocatesValue, ReplacesValue}
-use Rattle.wasmi_collections.specs.Interner.{symbol_of, AreDistinctTexts}
+use Rattle.wasmi_interner.specs.Interner.{symbol_of, AreDistinctTexts}
 use Rattle.wasmi_collections.proofs.Dedup.{position-by_view}
 use Rattle.wasmi_collections.proofs.DedupRuns.{some_is}
 

@@ -1,6 +1,6 @@
 -- The steps of an interner, what each command may be replied to, and what it leaves.
 use Rattle.std.specs.Prelude.{◌≡◌, ℕ, List, length, Option, Some, None, string_bytes}
-use Rattle.wasmi_collections.specs.Interner.{symbol_of, Interns, RefusesText}
+use Rattle.wasmi_interner.specs.Interner.{symbol_of, Interns, RefusesText}
 use Rattle.wasmi_collections.specs.declared.run.interner.InternCommand.{InternCommand}
 use Rattle.wasmi_collections.specs.declared.run.interner.InternCommand.TheVariants.{Intern, Find, Len}
 use Rattle.wasmi_collections.specs.declared.run.interner.InternReply.{InternReply}

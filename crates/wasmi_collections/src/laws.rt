@@ -22,16 +22,15 @@ mod interner;
 
 use crate::HeadVec;
 use crate::run::{AnyMap, AnySet};
-pub use appended::{
-    appended_texts, appended_values, strings_by_bytes, symbols_of_distinct_texts, texts_handed_in,
-};
-pub use interner::{
-    binary_digits, equal_in_length_order, equal_symbols_of_equal_texts, interned_texts,
-    length_order,
-};
+pub use appended::{appended_values, strings_by_bytes, texts_handed_in};
+pub use interner::equal_symbols_of_equal_texts;
 use std::cmp::Ordering;
 use std::hash::Hash;
 use wasmi_arena::ArenaKey;
+pub use wasmi_interner::laws::{
+    appended_texts, binary_digits, equal_in_length_order, interned_texts, length_order,
+    symbols_of_distinct_texts,
+};
 
 /// The order of head vectors, case by case.
 pub fn head_vec_order<T: Ord>()

@@ -17,10 +17,10 @@ mod head_vec;
 pub mod laws;
 pub mod ordered;
 pub mod run;
-pub mod string_interner;
 
 pub use arena::{Arena, ComponentVec, DedupArena, StableArena, StableVec};
 pub use head_vec::HeadVec;
-pub use string_interner::StringInterner;
 pub use wasmi_hashed::hash;
+pub use wasmi_interner as string_interner;
+pub use wasmi_interner::StringInterner;
 pub use wasmi_ordered::{Map, Set, map, set};

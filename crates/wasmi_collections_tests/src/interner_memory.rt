@@ -1,5 +1,5 @@
 //! The memory of interners: how much is asked for, and each request refused in turn.
-use crate::interner::{HINTS, scattered};
+use crate::interner::{APART, HINTS, ONE_HASH, ONE_HOME, numbered};
 use crate::or_abort::OrAbort;
 use std::alloc::{AllocError, Global};
 use std::process::Abort;
@@ -18,7 +18,7 @@ const NAMES: [&str; 10] = [
 // A text for which there is no room behind those.
 const LONG: &str = "a name that is longer than the room behind others";
 
-// Whether the texts are so many of the names, from the first on.
+// Whether there are so many texts, the names from the first on.
 fn has_first(interner: &StringInterner<Logged<'_>>, len: usize) -> bool {
     let known = (0u32..).zip(NAMES).take(len).all(|(number, name)| {
         let symbol = Sym::from_u32(number);
@@ -58,9 +58,123 @@ fn a_refused_text_changes_nothing(rt: HostRuntime) {
         }
         assert_equal!(rt; log.amiss(), 0);
     }
-    // Four for the bytes of the texts as they grow, three for the list of where they lie, one for the first
-    // block of the index, and one for the list of blocks.
-    assert_equal!(rt; refusals, 9);
+    // Four for the bytes of the texts as they grow, and three for the list of where they lie. That slots are refused
+    // is no error.
+    assert_equal!(rt; refusals, 7);
+}
+
+// How many of so many texts are refused. Each of the others has its symbol then, and is found.
+fn refused_among(
+    rt: &impl Abort,
+    interner: &mut StringInterner<Logged<'_>>,
+    alloc: Global,
+    around: (&str, &str),
+    texts: u32,
+) -> u64 {
+    let mut refused = 0u64;
+    for number in 0..texts {
+        let text = numbered(rt, alloc, around, number);
+        let len = interner.len();
+        match interner.get_or_intern(text.as_str()) {
+            Ok(symbol) => assert_equal!(*rt;
+                (interner.get(text.as_str()), interner.resolve(symbol)),
+                (Some(symbol), Some(text.as_str()))
+            ),
+            Err(error) => {
+                assert_equal!(*rt; error, ArenaError::OutOfSystemMemory);
+                assert_equal!(*rt; (interner.get(text.as_str()), interner.len()), (None, len));
+                refused = refused.wrapping_add(1);
+            }
+        }
+    }
+    refused
+}
+
+// The slots are doubled four times, or six. Of so many requests so many are errors where they are refused: all but those
+// for the slots. For 41 texts five are for the list of where they lie and seven for their bytes. What finds no slot in
+// one home needs the list of blocks and one of sixteen entries. For 300 of one hash eight and ten are for the texts, and
+// beside the list of blocks five as the first block gets its 256 entries, and one for the second.
+#[test]
+fn each_request_refused_as_slots_are_doubled(rt: HostRuntime) {
+    for (around, texts, requests, errors) in [
+        (APART, 41, 17, 12),
+        (ONE_HOME, 41, 19, 14),
+        (ONE_HASH, 300, 32, 25),
+    ] {
+        let (mut met, mut refused) = (0u64, 0u64);
+        for nth in 1..35u64 {
+            for is_last in [true, false] {
+                let log = Log::new();
+                {
+                    let mut interner = StringInterner::new(Logged::new(rt.alloc(), &log));
+                    if is_last {
+                        log.refuse_once(nth);
+                    } else {
+                        log.refuse_from(nth);
+                    }
+                    let count = refused_among(&rt, &mut interner, rt.alloc(), around, texts);
+                    if is_last {
+                        met = met.wrapping_add(u64::from(nth <= log.requests()));
+                        refused = refused.wrapping_add(count);
+                    }
+                    log.refuse_none();
+                    for _ in 0..2 {
+                        let count = refused_among(&rt, &mut interner, rt.alloc(), around, texts);
+                        assert_equal!(rt; (count, interner.len()), (0, texts as usize), "at {nth}");
+                    }
+                }
+                assert_equal!(rt; log.amiss(), 0);
+            }
+        }
+        assert_equal!(rt; (met, refused), (requests, errors), "of {}", around.0);
+    }
+}
+
+// So many slots of eight bytes, and a clone of the handle for them, when a text comes behind so many. The texts have
+// room from before. Where slots are refused from the second time on, the first 39 take 32 texts, whatever their homes.
+#[test]
+fn slots_are_doubled_in_turn(rt: HostRuntime) {
+    let log = Log::new();
+    let mut interner = with_texts(&rt, Logged::new(rt.alloc(), &log), rt.alloc(), APART, 100);
+    for (refused, doubled) in [
+        (
+            0..0,
+            [(0, 39), (5, 47), (10, 63), (20, 95), (40, 159), (80, 287)],
+        ),
+        (
+            1..32,
+            [(0, 39), (32, 47), (33, 63), (34, 95), (40, 159), (80, 287)],
+        ),
+    ] {
+        interner.clear();
+        for number in 0..100u32 {
+            let is_refused = refused.contains(&number);
+            if is_refused {
+                log.refuse_from(1);
+            } else {
+                log.refuse_none();
+            }
+            let text = numbered(&rt, rt.alloc(), APART, number);
+            let (bytes, clones) = (log.bytes(), log.clones());
+            let symbol = interner.get_or_intern(text.as_str()).or_abort(&rt);
+            assert_equal!(rt; symbol.into_u32(), number);
+            let slots: u64 = doubled
+                .iter()
+                .find(|row| row.0 == number)
+                .map_or(0, |row| row.1);
+            if !is_refused {
+                let asked = (
+                    log.bytes().wrapping_sub(bytes),
+                    log.clones().wrapping_sub(clones),
+                );
+                assert_equal!(rt; asked, (slots.wrapping_mul(8), u64::from(slots != 0)), "behind {number}");
+            }
+        }
+        for number in 0..100 {
+            let text = numbered(&rt, rt.alloc(), APART, number);
+            assert_equal!(rt; interner.get(text.as_str()), Some(Sym::from_u32(number)));
+        }
+    }
 }
 
 // An interner of so many texts.
@@ -68,76 +182,83 @@ fn with_texts<'l>(
     rt: &impl Abort,
     handle: Logged<'l>,
     alloc: Global,
+    around: (&str, &str),
     texts: u32,
 ) -> StringInterner<Logged<'l>> {
     let mut interner = StringInterner::new(handle);
     for number in 0..texts {
-        let text = scattered(rt, alloc, number);
+        let text = numbered(rt, alloc, around, number);
         let _symbol = interner.get_or_intern(text.as_str()).or_abort(rt);
     }
     interner
 }
 
-// Behind 16,384 texts one more asks for sixteen blocks in the place of 32 and for their list, for a longer one and
-// one more block, and for a longer list of where texts lie.
+// Behind 4,096 texts of one hash one more asks for eight blocks in the place of sixteen and for their list, for a longer
+// one and one more block, and for more room for where texts lie and for their bytes.
 #[test]
-fn refused_blocks_of_the_index_are_joined_later(rt: HostRuntime) {
+fn refused_blocks_of_the_rest_are_joined_later(rt: HostRuntime) {
     let mut refusals = 0u64;
-    for nth in 1..22 {
+    for nth in 1..15 {
         let log = Log::new();
         {
             let handle = Logged::new(rt.alloc(), &log);
-            let mut interner = with_texts(&rt, handle, rt.alloc(), 16384);
+            let mut interner = with_texts(&rt, handle, rt.alloc(), ONE_HASH, 4096);
+            let more = numbered(&rt, rt.alloc(), ONE_HASH, 4096);
             log.refuse_once(nth);
-            if interner.get_or_intern("memory").is_err() {
-                assert_equal!(rt; (interner.get("memory"), interner.len()), (None, 16384));
+            if interner.get_or_intern(more.as_str()).is_err() {
+                assert_equal!(rt; (interner.get(more.as_str()), interner.len()), (None, 4096));
                 refusals = refusals.wrapping_add(1);
             }
-            let symbol = interner.get_or_intern("memory").or_abort(&rt);
-            assert_equal!(rt; symbol.into_u32(), 16384);
+            let symbol = interner.get_or_intern(more.as_str()).or_abort(&rt);
+            assert_equal!(rt; symbol.into_u32(), 4096);
             // Each of them once, and then each 64th.
-            for number in 0..16384 {
+            for number in 0..4096 {
                 if 1 < nth && number % 64 != 0 {
                     continue;
                 }
-                let text = scattered(&rt, rt.alloc(), number);
+                let text = numbered(&rt, rt.alloc(), ONE_HASH, number);
                 let found = interner.get(text.as_str());
                 assert_equal!(rt; found, Some(Sym::from_u32(number)), "at {nth}");
             }
         }
         assert_equal!(rt; log.amiss(), 0);
     }
-    assert_equal!(rt; refusals, 20);
+    assert_equal!(rt; refusals, 13);
 }
 
-// Where all blocks of the index are full, the next text widens the only one, opens one more, or has them joined. So
-// many requests it makes, for so many bytes, and so many clones of the handle; and so many blocks of memory are held
-// then. Once all are cleared, the first text takes a block of sixteen entries.
+// Where all blocks of the rest are full, the next text of one hash widens the only one, opens one more, or has them
+// joined; and the texts get twice their room. So many requests it makes, for so many bytes, and so many clones of the
+// handle; and so many blocks of memory are held then. Once all are cleared, the first text takes 39 slots, and the
+// second a block of sixteen entries.
 #[test]
-fn blocks_of_the_index_widen_in_turn(rt: HostRuntime) {
+fn blocks_of_the_rest_widen_in_turn(rt: HostRuntime) {
     for (texts, asked, held) in [
-        (16, (2, 1024, 0), 4),
-        (256, (2, 12_288, 1), 5),
-        (16_384, (20, 805_888, 18), 20),
-        (65_536, (36, 3_184_640, 34), 36),
+        (16, (3, 1792, 0), 5),
+        (256, (3, 26_624, 1), 6),
+        (4096, (13, 431_232, 10), 13),
+        (16_384, (21, 1_714_432, 18), 21),
     ] {
         let log = Log::new();
         {
             let handle = Logged::new(rt.alloc(), &log);
-            let mut interner = with_texts(&rt, handle, rt.alloc(), texts);
+            let mut interner = with_texts(&rt, handle, rt.alloc(), ONE_HASH, texts);
+            let more = numbered(&rt, rt.alloc(), ONE_HASH, texts);
             let (requests, bytes, clones) = (log.requests(), log.bytes(), log.clones());
-            let _symbol = interner.get_or_intern("memory").or_abort(&rt);
-            let more = (
+            let _symbol = interner.get_or_intern(more.as_str()).or_abort(&rt);
+            let made = (
                 log.requests().wrapping_sub(requests),
                 log.bytes().wrapping_sub(bytes),
                 log.clones().wrapping_sub(clones),
             );
             let blocks = log.given().wrapping_sub(log.returned());
-            assert_equal!(rt; (more, blocks), (asked, held), "behind {texts}");
+            assert_equal!(rt; (made, blocks), (asked, held), "behind {texts}");
             interner.clear();
-            let bytes = log.bytes();
-            let _symbol = interner.get_or_intern("memory").or_abort(&rt);
-            assert_equal!(rt; log.bytes().wrapping_sub(bytes), 256, "after {texts}");
+            for (number, size) in [(0, 312), (1, 128)] {
+                let text = numbered(&rt, rt.alloc(), ONE_HASH, number);
+                let bytes = log.bytes();
+                let _symbol = interner.get_or_intern(text.as_str()).or_abort(&rt);
+                assert_equal!(rt; log.bytes().wrapping_sub(bytes), size, "after {texts}");
+            }
         }
         assert_equal!(rt; log.amiss(), 0);
     }
@@ -193,16 +314,30 @@ fn a_third_text_is_refused(rt: HostRuntime) {
     assert_equal!(rt; interner.get_or_intern(LONG).or_abort(&rt), Sym::from_u32(2));
 }
 
-// One for the texts, one for where they lie, and two for the index.
+// An interner of the names and two texts of one hash.
+fn with_rest<'l>(rt: &impl Abort, handle: Logged<'l>, alloc: Global) -> StringInterner<Logged<'l>> {
+    let mut interner = with_names(handle).or_abort(rt);
+    for number in 0..2 {
+        let text = numbered(rt, alloc, ONE_HASH, number);
+        let _symbol = interner.get_or_intern(text.as_str()).or_abort(rt);
+    }
+    interner
+}
+
+// One for the texts, one for where they lie, and one for the slots. Two more for the rest.
 #[test]
-fn a_clone_asks_for_four_blocks(rt: HostRuntime) {
+fn a_clone_asks_for_five_blocks(rt: HostRuntime) {
     let log = Log::new();
     let handle = Logged::new(rt.alloc(), &log);
-    let interner = with_names(handle).or_abort(&rt);
-    let before = log.requests();
-    let copy = interner.clone().or_abort(&rt);
-    assert_equal!(rt; log.requests().wrapping_sub(before), 4);
-    assert_equal!(rt; &copy, &interner);
+    for (interner, blocks) in [
+        (with_names(handle).or_abort(&rt), 3),
+        (with_rest(&rt, handle, rt.alloc()), 5),
+    ] {
+        let before = log.requests();
+        let copy = interner.clone().or_abort(&rt);
+        assert_equal!(rt; log.requests().wrapping_sub(before), blocks);
+        assert_equal!(rt; &copy, &interner);
+    }
 }
 
 #[test]
@@ -220,12 +355,12 @@ fn a_refused_clone_leaves_its_source(rt: HostRuntime) {
     let log = Log::new();
     {
         let handle = Logged::new(rt.alloc(), &log);
-        let interner = with_names(handle).or_abort(&rt);
-        for nth in 1..5 {
+        let interner = with_rest(&rt, handle, rt.alloc());
+        for nth in 1..6 {
             log.refuse_once(nth);
             let refused = interner.clone().err();
             assert_equal!(rt; refused, Some(ArenaError::OutOfSystemMemory), "at {nth}");
-            assert!(rt; has_first(&interner, 10), "at {nth}");
+            assert!(rt; has_first(&interner, 12), "at {nth}");
         }
         assert_equal!(rt; &interner.clone().or_abort(&rt), &interner);
     }
@@ -308,17 +443,18 @@ fn an_empty_interner_is_cloned(rt: HostRuntime) {
     assert_equal!(rt; copy.get_or_intern("b").or_abort(&rt), Sym::from_u32(0));
 }
 
-// Nor does a new one, but for a block that it opens.
+// Nor does a new one, but for slots or a block that it opens.
 #[test]
 fn a_text_clones_no_handle(rt: HostRuntime) {
     let log = Log::new();
     let mut interner = with_names(Logged::new(rt.alloc(), &log)).or_abort(&rt);
+    interner.get_or_intern("import").or_abort(&rt);
     let clones = log.clones();
     for hint in HINTS {
         interner
             .get_or_intern_with_hint("global", hint)
             .or_abort(&rt);
     }
-    interner.get_or_intern("import").or_abort(&rt);
+    interner.get_or_intern("export").or_abort(&rt);
     assert_equal!(rt; log.clones(), clones);
 }

@@ -1,24 +1,15 @@
-//! Laws of lists to whose end one more value or text goes.
-ghost use Rattle.std.specs.Prelude.{◌≡◌, ◌∷◌, ◌++◌, [], ℕ, List, length, map, position, None, Some, String, slice_get, slice_set};
+//! Laws of values that go to the end of a list, and of those that are strings.
+ghost use Rattle.std.specs.Prelude.{◌≡◌, ◌∷◌, ◌++◌, [], ℕ, List, length, map, position, None, Some, String, slice_set};
 ghost use Rattle.std.specs.List.{IsDistinct};
 ghost use Rattle.std.specs.Str.{bytes_eq};
 ghost use Rattle.std.specs.String.{string_bytes, string_eq};
 ghost use Rattle.wasmi_collections.specs.Dedup.{DedupState, AllocatesValue, ReplacesValue};
-ghost use Rattle.wasmi_collections.specs.Interner.{symbol_of, AreDistinctTexts};
+ghost use Rattle.wasmi_interner.specs.Interner.{symbol_of, AreDistinctTexts};
 
 use std::alloc::Allocator;
 use wasmi_arena::ArenaKey;
 
-/// A text that wasn't there is found at the end once it was put there, and its symbol is the number of texts
-/// before. Other texts keep their symbols.
-pub fn appended_texts()
-    ensures last { (texts : List (List ℕ)) (text : List ℕ) → symbol_of texts text ≡ None
-        → symbol_of (texts ++ text ∷ []) text ≡ Some (length texts) }
-    ensures kept { (texts : List (List ℕ)) (text other : List ℕ) (symbol : ℕ)
-        → symbol_of texts other ≡ Some symbol → symbol_of (texts ++ text ∷ []) other ≡ Some symbol }
-{}
-
-/// The same of values: one that wasn't there is found at the end, and others are found where they were.
+/// A value that wasn't there is found at the end once it was put there, and others are found where they were.
 pub fn appended_values<T: Eq>()
     ensures last { (values : List T) (value : T) → position (T.eq value) values ≡ None
         → position (T.eq value) (values ++ value ∷ []) ≡ Some (length values) }
@@ -32,14 +23,6 @@ pub fn appended_values<T: Eq>()
 pub fn strings_by_bytes<B: Allocator>()
     ensures { (texts : List (String B)) (text : String B) → position (string_eq text) texts
         ≡ symbol_of (map string_bytes texts) (string_bytes text) }
-{}
-
-/// Among distinct texts the symbol of a text is the one position at which it stands.
-pub fn symbols_of_distinct_texts()
-    ensures reads { (texts : List (List ℕ)) (text : List ℕ) (symbol : ℕ)
-        → symbol_of texts text ≡ Some symbol → slice_get texts symbol ≡ Some text }
-    ensures stands { (texts : List (List ℕ)) (text : List ℕ) (symbol : ℕ) → AreDistinctTexts texts
-        → slice_get texts symbol ≡ Some text → symbol_of texts text ≡ Some symbol }
 {}
 
 /// What becomes of the texts of a `DedupArena<_, String>`, if a new one is handed in, or takes the place of

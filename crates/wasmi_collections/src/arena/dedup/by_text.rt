@@ -2,7 +2,7 @@
 ghost use Rattle.std.specs.Prelude.{ℕ, List, String, ◌≡◌, ◌<◌, ◌≤◌, ◌↔◌, length, map, None, Some, Ok, IfSome, IfOk, IfErr, OnErr, IsErrOf, ◌⊎◌, option_map};
 ghost use Rattle.std.specs.String.{string_bytes, string_eq};
 ghost use Rattle.wasmi_collections.specs.Dedup.{AllocatesValue};
-ghost use Rattle.wasmi_collections.specs.Interner.{symbol_of};
+ghost use Rattle.wasmi_interner.specs.Interner.{symbol_of};
 
 use super::DedupArena;
 use std::alloc::Allocator;

@@ -1,6 +1,6 @@
 use Rattle.std.proofs.Common.{Some, sym, ap, ◌∙◌, [], ◌∷◌, ◌++◌, arith}
 use Rattle.std.proofs.lemmas.Iterator.Adapters.{position_from-zero}
-use Rattle.wasmi_collections.proofs.Dedup.{found_last}
+use Rattle.wasmi_interner.proofs.Symbols.{found_last}
 use Rattle.wasmi_collections.proofs.DedupRuns.{position-stays}
 use Rattle.wasmi_collections.proofs.laws.appended.appended_values.Goals as goal
 

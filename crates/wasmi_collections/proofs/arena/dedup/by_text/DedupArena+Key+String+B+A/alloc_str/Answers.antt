@@ -1,7 +1,7 @@
 use Rattle.std.proofs.Common.{◌≡◌, position, Some, map, string_bytes, sym, ap, ◌∙◌}
 use Rattle.std.proofs.lemmas.Result.{IfOk-weaker}
 use Rattle.std.specs.Str.{bytes_eq}
-use Rattle.wasmi_collections.specs.Interner.{symbol_of}
+use Rattle.wasmi_interner.specs.Interner.{symbol_of}
 use Rattle.wasmi_collections.proofs.Dedup.{position-by_view}
 use Rattle.std.specs.String.{string_eq}
 use Rattle.wasmi_collections.proofs.arena.dedup.by_text.DedupArena+Key+String+B+A.alloc_str.Goals as goal

@@ -1,8 +1,0 @@
-use Rattle.wasmi_collections.proofs.TextIndex.{symbol_of-at, symbol_of-Some}
-use Rattle.wasmi_collections.proofs.laws.appended.symbols_of_distinct_texts.Goals as goal
-
-pub returns-clause-reads : goal.returns-clause-reads
-returns-clause-reads c texts text symbol is = symbol_of-Some text texts symbol is
-
-pub returns-clause-stands : goal.returns-clause-stands
-returns-clause-stands c texts text symbol distinct at = symbol_of-at text texts symbol distinct at

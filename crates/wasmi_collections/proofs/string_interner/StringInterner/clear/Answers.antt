@@ -1,6 +1,0 @@
-use Rattle.std.proofs.Common.{arith}
-use Rattle.wasmi_collections.proofs.TextIndex.{AreEntriesOf-nil}
-use Rattle.wasmi_collections.proofs.string_interner.StringInterner.clear.Goals as goal
-
-pub invariant_of-self : goal.invariant_of-self
-invariant_of-self g c = rw (c.clear.ensures, c.clear-2.ensures) (AreEntriesOf-nil, omega arith)

@@ -1,6 +1,0 @@
-use Rattle.std.proofs.Common.{arith}
-use Rattle.wasmi_collections.proofs.TextIndex.{AreEntriesOf-nil}
-use Rattle.wasmi_collections.proofs.string_interner.StringInterner.new.Goals as goal
-
-pub invariant_of-result : goal.invariant_of-result
-invariant_of-result g c = rw (c.new.ensures, c.new-2.ensures) (AreEntriesOf-nil, omega arith)

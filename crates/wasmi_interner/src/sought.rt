@@ -1,0 +1,140 @@
+//! A text that is searched.
+ghost use Rattle.std.specs.Prelude.{◌≡◌, ℕ, ◌+◌, ◌<◌, ◌≤◌, ◌^◌, ◌↔◌, List, [], length, IfSome, IsTrue, Some, slice_get};
+ghost use Rattle.std.specs.List.{All};
+ghost use Rattle.wasmi_interner.specs.BinaryDigits.{digits};
+ghost use Rattle.wasmi_interner.specs.Hash.{hash_of};
+ghost use Rattle.wasmi_interner.specs.Index.{orders_with, order_with, AreSymbolsOf};
+ghost use Rattle.wasmi_interner.specs.LenOrder.{len_cmp};
+ghost use Rattle.wasmi_interner.specs.Search.{IsFound, IsSearchable};
+
+use crate::entry::{Entries, Entry};
+use crate::hash::hash_of_text;
+use crate::texts::Texts;
+use crate::{LenOrder, Probe, Steps, Sym, search};
+use std::alloc::Allocator;
+use std::cmp::Ordering;
+use std::mem;
+
+// A text that is searched among the texts of an interner, and its hash.
+#[derive(Drop)]
+pub(crate) struct Sought<'a, A: Allocator> {
+    pub(crate) texts: &'a Texts<A>,
+    text: &'a str,
+    pub(crate) hash: u32,
+    ghost hashed: { hash ≡ hash_of text.now },
+}
+
+impl<'a, A: Allocator> Sought<'a, A> {
+    // A text that is searched among these.
+    #[inline]
+    pub(crate) fn new(texts: &'a Texts<A>, text: &'a str) -> Self
+        ensures texts { result.texts.now ≡ texts.now }
+        ensures text { result.text.now ≡ text.now }
+    {
+        Sought {
+            texts,
+            text,
+            hash: hash_of_text(text),
+        }
+    }
+
+    // Whether it is the text of a symbol. A step.
+    #[inline]
+    pub(crate) fn is_text_of(&self, symbol: Sym, steps: &mut Steps) -> bool
+        requires within { symbol < length self.now.texts.now }
+        requires countable { steps.old ≤ 2 ^ 63 }
+        ensures same { IsTrue result ↔ (slice_get self.now.texts.now symbol ≡ Some self.now.text.now) }
+        ensures counted { steps.new ≡ steps.old + 1 }
+    {
+        let entry = Entry {
+            hash: self.hash,
+            symbol,
+        };
+        self.place_among(&entry, 1, steps).is_ok()
+    }
+
+    // The first symbol, if it is that of this text. A step, if there are texts.
+    #[inline]
+    pub(crate) fn is_first(&self, steps: &mut Steps) -> Option<Sym>
+        requires { steps.old ≤ 2 ^ 63 }
+        ensures there { IfSome result (λ symbol. slice_get self.now.texts.now symbol ≡ Some self.now.text.now) }
+        ensures few_steps { steps.new ≤ steps.old + digits (length self.now.texts.now) }
+        ensures some_steps { 0 < length self.now.texts.now → steps.old < steps.new }
+    {
+        if self.texts.len() == 0 {
+            return None;
+        }
+        let first = Sym::from_u32(0);
+        if self.is_text_of(first, steps) {
+            Some(first)
+        } else {
+            None
+        }
+    }
+
+    // The place of its entry among these, or as an error the place where it belongs. A step for each look.
+    #[inline]
+    pub(crate) fn place_among<E: Entries>(
+        &self,
+        entries: &E,
+        len: usize,
+        steps: &mut Steps,
+    ) -> Result<usize, usize>
+        requires len { len ≡ length (E.entries entries.now) }
+        requires symbols { AreSymbolsOf self.now.texts.now (E.entries entries.now) }
+        requires in_order { IsSearchable (orders_with self.now.texts.now self.now.hash self.now.text.now (E.entries entries.now)) }
+        requires countable { steps.old ≤ 2 ^ 63 }
+        ensures found { IsFound (orders_with self.now.texts.now self.now.hash self.now.text.now (E.entries entries.now)) result }
+        ensures few_steps { steps.new ≤ steps.old + digits len }
+        ensures some_steps { 0 < len → steps.old < steps.new }
+    {
+        // Counted in a local: through the `&mut` each step is a store, after which the compiler reads again where the
+        // entries lie.
+        let mut probe = Comparison {
+            sought: self,
+            entries,
+            steps: mem::replace(steps, Steps::new()),
+        };
+        let found = search(len, &mut probe);
+        *steps = probe.steps;
+        found
+    }
+
+    // How the text of an entry compares with it, their hashes first.
+    #[inline]
+    fn compare(&self, entry: Entry) -> Ordering
+        requires { entry.symbol < length self.now.texts.now }
+        ensures { result ≡ order_with self.now.texts.now self.now.hash self.now.text.now entry }
+    {
+        match entry.hash.cmp(&self.hash) {
+            Ordering::Equal => {}
+            order => return order,
+        }
+        let other = self.texts.get(entry.symbol.into_usize());
+        if other == self.text {
+            return Ordering::Equal;
+        }
+        LenOrder::new(other).cmp(&LenOrder::new(self.text))
+    }
+}
+
+// A text that is searched among entries, and how many of these it was compared with.
+#[derive(Drop)]
+struct Comparison<'a, E: Entries, A: Allocator> {
+    sought: &'a Sought<'a, A>,
+    entries: &'a E,
+    steps: Steps,
+    ghost symbols: { AreSymbolsOf sought.now.texts.now (E.entries entries.now) },
+}
+
+impl<E: Entries, A: Allocator> Probe for Comparison<'_, E, A> {
+    ghost orders = { λ probe. orders_with probe.sought.now.texts.now probe.sought.now.hash probe.sought.now.text.now (E.entries probe.entries.now) };
+
+    ghost looks = { λ probe. probe.steps };
+
+    #[inline]
+    fn look(&mut self, at: usize) -> Ordering {
+        self.steps.tick();
+        self.sought.compare(self.entries.at(at))
+    }
+}
