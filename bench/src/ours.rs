@@ -32,6 +32,14 @@ unsafe extern "C" {
     pub safe fn wasmi_bench_hashed_map_get_str(n: u64, rounds: u64) -> u64;
     pub safe fn wasmi_bench_intern_new(n: u64, rounds: u64) -> u64;
     pub safe fn wasmi_bench_intern_again(n: u64, rounds: u64) -> u64;
+    pub safe fn wasmi_bench_intern_new_paths(n: u64, rounds: u64) -> u64;
+    pub safe fn wasmi_bench_intern_again_paths(n: u64, rounds: u64) -> u64;
+    pub safe fn wasmi_bench_intern_new_mangled(n: u64, rounds: u64) -> u64;
+    pub safe fn wasmi_bench_intern_again_mangled(n: u64, rounds: u64) -> u64;
+    pub safe fn wasmi_bench_intern_new_identifiers(n: u64, rounds: u64) -> u64;
+    pub safe fn wasmi_bench_intern_again_identifiers(n: u64, rounds: u64) -> u64;
+    pub safe fn wasmi_bench_intern_new_ascending(n: u64, rounds: u64) -> u64;
+    pub safe fn wasmi_bench_intern_stream(n: u64, rounds: u64) -> u64;
     pub safe fn wasmi_bench_resolve(n: u64, rounds: u64) -> u64;
     pub safe fn wasmi_bench_component_set_new(n: u64, rounds: u64) -> u64;
     pub safe fn wasmi_bench_component_set(n: u64, rounds: u64) -> u64;

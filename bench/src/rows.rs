@@ -2,9 +2,10 @@
 
 use crate::tables::{
     dedup_again, dedup_new, dedup_replace, dedup_replace_written, intern_again, intern_new,
-    map_append, map_entry, map_get, map_get_str, map_insert, map_iter, resolve, set_contains,
-    set_insert, set_iter, set_union,
+    intern_new_ascending, intern_stream, map_append, map_entry, map_get, map_get_str, map_insert,
+    map_iter, resolve, set_contains, set_insert, set_iter, set_union,
 };
+use crate::tables::{Identifiers, MadeUp, Mangled, Paths};
 use crate::tables::{
     OrderedMap, OrderedNames, OrderedSet, PlainDedup, PlainInterner, PlainTable, PlainTableNames,
     PlainTableSet, PlainTree, PlainTreeNames, PlainTreeSet, RustDedup, RustInterner,
@@ -180,8 +181,16 @@ pub const ROWS: &[Row] = &[
     Row { operations: 1 << 16, most: 1 << 12, ..row("`DedupArena` replace, items written to before", Round::Reads, ours::wasmi_bench_dedup_replace_written, dedup_replace_written, dedup_replace_written) },
     names("Ordered `Map` get by text, random", Round::Reads, ours::wasmi_bench_ordered_map_get_str, map_get_str::<OrderedNames>, map_get_str::<PlainTreeNames>),
     names("Hashed `Map` get by text, random", Round::Reads, ours::wasmi_bench_hashed_map_get_str, map_get_str::<PlainTableNames>, map_get_str::<PlainTableNames>),
-    Row { most: 1 << 20, ..names("`StringInterner` intern, new names", Round::Reads, ours::wasmi_bench_intern_new, intern_new::<RustInterner>, intern_new::<PlainInterner>) },
+    Row { most: 1 << 20, ..names("`StringInterner` intern, new made-up names", Round::Reads, ours::wasmi_bench_intern_new, intern_new::<RustInterner, MadeUp>, intern_new::<PlainInterner, MadeUp>) },
+    Row { most: 1 << 20, ..names("`StringInterner` intern, new paths", Round::Reads, ours::wasmi_bench_intern_new_paths, intern_new::<RustInterner, Paths>, intern_new::<PlainInterner, Paths>) },
+    Row { most: 1 << 20, ..names("`StringInterner` intern, new mangled names", Round::Reads, ours::wasmi_bench_intern_new_mangled, intern_new::<RustInterner, Mangled>, intern_new::<PlainInterner, Mangled>) },
+    Row { most: 1 << 20, ..names("`StringInterner` intern, new identifiers", Round::Reads, ours::wasmi_bench_intern_new_identifiers, intern_new::<RustInterner, Identifiers>, intern_new::<PlainInterner, Identifiers>) },
+    Row { most: 1 << 20, ..names("`StringInterner` intern, new paths, ascending", Round::Reads, ours::wasmi_bench_intern_new_ascending, intern_new_ascending::<RustInterner>, intern_new_ascending::<PlainInterner>) },
     // At the most names a round is short beside the filling before it.
-    Row { most: 1 << 20, least_rounds: 8, ..names("`StringInterner` intern, names that are there", Round::Reads, ours::wasmi_bench_intern_again, intern_again::<RustInterner>, intern_again::<PlainInterner>) },
+    Row { most: 1 << 20, least_rounds: 8, ..names("`StringInterner` intern, made-up names that are there", Round::Reads, ours::wasmi_bench_intern_again, intern_again::<RustInterner, MadeUp>, intern_again::<PlainInterner, MadeUp>) },
+    Row { most: 1 << 20, least_rounds: 8, ..names("`StringInterner` intern, paths that are there", Round::Reads, ours::wasmi_bench_intern_again_paths, intern_again::<RustInterner, Paths>, intern_again::<PlainInterner, Paths>) },
+    Row { most: 1 << 20, least_rounds: 8, ..names("`StringInterner` intern, mangled names that are there", Round::Reads, ours::wasmi_bench_intern_again_mangled, intern_again::<RustInterner, Mangled>, intern_again::<PlainInterner, Mangled>) },
+    Row { most: 1 << 20, least_rounds: 8, ..names("`StringInterner` intern, identifiers that are there", Round::Reads, ours::wasmi_bench_intern_again_identifiers, intern_again::<RustInterner, Identifiers>, intern_again::<PlainInterner, Identifiers>) },
+    Row { most: 1 << 20, ..names("`StringInterner` intern, identifiers, few often", Round::Reads, ours::wasmi_bench_intern_stream, intern_stream::<RustInterner>, intern_stream::<PlainInterner>) },
     Row { operations: 1 << 24, ..names("`StringInterner` resolve, random", Round::Reads, ours::wasmi_bench_resolve, resolve::<RustInterner>, resolve::<PlainInterner>) },
 ];

@@ -3,14 +3,19 @@
 mod dedup;
 mod interner;
 mod maps;
+mod names;
 mod sets;
 mod texts;
 
 pub use dedup::{
     dedup_again, dedup_new, dedup_replace, dedup_replace_written, DedupRows, PlainDedup, RustDedup,
 };
-pub use interner::{intern_again, intern_new, resolve, InternerRows, PlainInterner, RustInterner};
+pub use interner::{
+    intern_again, intern_new, intern_new_ascending, intern_stream, resolve, InternerRows,
+    PlainInterner, RustInterner,
+};
 pub use maps::{map_append, map_entry, map_get, map_insert, map_iter, MapRows};
+pub use names::{Identifiers, MadeUp, Mangled, Names, Paths};
 pub use sets::{set_contains, set_insert, set_iter, set_union, SetRows};
 pub use texts::{map_get_str, OrderedNames, PlainTableNames, PlainTreeNames, TextRows};
 

@@ -1,6 +1,6 @@
 //! The rows of interners.
 
-use super::key_of;
+use super::names::{ascending, names, Identifiers, MadeUp, Names, Paths};
 use crate::rows::next_index;
 use std::collections::HashMap;
 use wasmi_collections::string_interner::{StringInterner, Sym};
@@ -52,10 +52,6 @@ impl InternerRows for PlainInterner {
     }
 }
 
-pub(super) fn names(n: u64) -> Vec<String> {
-    (0..n).map(|i| format!("name{}", key_of(i))).collect()
-}
-
 #[inline(never)]
 fn fill<I: InternerRows>(interner: &mut I, names: &[String], before: u64) -> u64 {
     names
@@ -63,16 +59,41 @@ fn fill<I: InternerRows>(interner: &mut I, names: &[String], before: u64) -> u64
         .fold(before, |sum, name| sum.wrapping_add(interner.intern(name)))
 }
 
-pub fn intern_new<I: InternerRows>(n: u64, rounds: u64) -> u64 {
-    let names = names(n);
-    (0..rounds).fold(1, |sum, _| fill(&mut I::default(), &names, sum))
+fn new<I: InternerRows>(names: &[String], rounds: u64) -> u64 {
+    (0..rounds).fold(1, |sum, _| fill(&mut I::default(), names, sum))
 }
 
-pub fn intern_again<I: InternerRows>(n: u64, rounds: u64) -> u64 {
-    let names = names(n);
+pub fn intern_new<I: InternerRows, K: Names>(n: u64, rounds: u64) -> u64 {
+    new::<I>(&names::<K>(n), rounds)
+}
+
+pub fn intern_new_ascending<I: InternerRows>(n: u64, rounds: u64) -> u64 {
+    new::<I>(&ascending::<Paths>(n), rounds)
+}
+
+pub fn intern_again<I: InternerRows, K: Names>(n: u64, rounds: u64) -> u64 {
+    let names = names::<K>(n);
     let mut interner = I::default();
     let sum = fill(&mut interner, &names, 1);
     (0..rounds).fold(sum, |sum, _| fill(&mut interner, &names, sum))
+}
+
+#[inline(never)]
+fn ask<I: InternerRows>(interner: &mut I, names: &[String], n: u64, before: u64) -> u64 {
+    let len = names.len() as u64;
+    let (mut state, mut sum) = (1, before);
+    for _ in 0..n {
+        let one = next_index(&mut state, len);
+        let other = next_index(&mut state, len);
+        let name = &names[(one * other) >> len.trailing_zeros()];
+        sum = sum.wrapping_add(interner.intern(name));
+    }
+    sum
+}
+
+pub fn intern_stream<I: InternerRows>(n: u64, rounds: u64) -> u64 {
+    let names = names::<Identifiers>(n / 16);
+    (0..rounds).fold(1, |sum, _| ask(&mut I::default(), &names, n, sum))
 }
 
 #[inline(never)]
@@ -87,6 +108,6 @@ fn read<I: InternerRows>(interner: &I, n: u64, before: u64) -> u64 {
 
 pub fn resolve<I: InternerRows>(n: u64, rounds: u64) -> u64 {
     let mut interner = I::default();
-    let sum = fill(&mut interner, &names(n), 1);
+    let sum = fill(&mut interner, &names::<MadeUp>(n), 1);
     (0..rounds).fold(sum, |sum, _| read(&interner, n, sum))
 }

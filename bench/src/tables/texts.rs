@@ -1,6 +1,6 @@
 //! The rows of maps whose keys are names, which are looked up by a text.
 
-use super::interner::names;
+use super::names::{names, MadeUp};
 use crate::rows::next_index;
 use std::collections::{BTreeMap, HashMap};
 
@@ -42,9 +42,9 @@ fn get_all<M: TextRows>(map: &M, names: &[String], n: u64, before: u64) -> u64 {
 }
 
 pub fn map_get_str<M: TextRows>(n: u64, rounds: u64) -> u64 {
-    let keys = names(n);
+    let keys = names::<MadeUp>(n);
     let mut map = M::default();
-    for (name, value) in names(n).into_iter().zip(0..) {
+    for (name, value) in names::<MadeUp>(n).into_iter().zip(0..) {
         map.put(name, value);
     }
     (0..rounds).fold(1, |sum, _| get_all(&map, &keys, n, sum))

@@ -1,22 +1,11 @@
 //! The rows of `StringInterner`.
 
-use crate::random::{key_of, next_index};
+use crate::names::{Kind, names};
+use crate::random::next_index;
 use std::alloc::Global;
-use std::fmt::Write;
 use wasmi_arena::ArenaError;
 use wasmi_collections::StringInterner;
 use wasmi_collections::string_interner::Sym;
-
-// `n` names, no two alike, and in no order.
-pub(crate) fn names(alloc: Global, n: u64) -> Result<Vec<String>, ArenaError> {
-    let mut names = Vec::new(alloc);
-    for i in 0..n {
-        let mut name = String::new(alloc);
-        write!(name, "name{}", key_of(i))?;
-        names.push(name)?;
-    }
-    Ok(names)
-}
 
 // Interns all of them, and adds their symbols.
 #[inline(never)]
@@ -29,8 +18,14 @@ fn fill(interner: &mut StringInterner, names: &[String], before: u64) -> Result<
     Ok(sum)
 }
 
-pub fn intern_new(alloc: Global, n: u64, rounds: u64) -> Result<u64, ArenaError> {
-    let names = names(alloc, n)?;
+pub fn intern_new(
+    alloc: Global,
+    kind: Kind,
+    ascending: bool,
+    n: u64,
+    rounds: u64,
+) -> Result<u64, ArenaError> {
+    let names = names(alloc, kind, n, ascending)?;
     let mut sum = 1;
     for _ in 0..rounds {
         let mut interner = StringInterner::new(alloc);
@@ -39,8 +34,8 @@ pub fn intern_new(alloc: Global, n: u64, rounds: u64) -> Result<u64, ArenaError>
     Ok(sum)
 }
 
-pub fn intern_again(alloc: Global, n: u64, rounds: u64) -> Result<u64, ArenaError> {
-    let names = names(alloc, n)?;
+pub fn intern_again(alloc: Global, kind: Kind, n: u64, rounds: u64) -> Result<u64, ArenaError> {
+    let names = names(alloc, kind, n, false)?;
     let mut interner = StringInterner::new(alloc);
     let mut sum = fill(&mut interner, names.as_slice(), 1)?;
     for _ in 0..rounds {
@@ -63,11 +58,46 @@ fn read(interner: &StringInterner, n: u64, before: u64) -> u64 {
 }
 
 pub fn resolve(alloc: Global, n: u64, rounds: u64) -> Result<u64, ArenaError> {
-    let names = names(alloc, n)?;
+    let names = names(alloc, Kind::MadeUp, n, false)?;
     let mut interner = StringInterner::new(alloc);
     let mut sum = fill(&mut interner, names.as_slice(), 1)?;
     for _ in 0..rounds {
         sum = read(&interner, n, sum);
+    }
+    Ok(sum)
+}
+
+// Interns as many names as a number, some of them often: of two random places, one times the other.
+#[inline(never)]
+fn ask(
+    interner: &mut StringInterner,
+    names: &[String],
+    n: u64,
+    before: u64,
+) -> Result<u64, ArenaError> {
+    let mut state: u64 = 1;
+    let mut sum = before;
+    let len = names.len() as u64;
+    for _ in 0..n {
+        let one = next_index(&mut state, len) as u64;
+        let other = next_index(&mut state, len) as u64;
+        if let Some(name) = names.get(
+            (one.wrapping_mul(other) >> len.trailing_zeros().min(63)) as usize,
+        ) {
+            let symbol = interner.get_or_intern(name.as_str())?;
+            sum = sum.wrapping_add(symbol.into_u32() as u64);
+        }
+    }
+    Ok(sum)
+}
+
+// A sixteenth as many names.
+pub fn intern_stream(alloc: Global, n: u64, rounds: u64) -> Result<u64, ArenaError> {
+    let names = names(alloc, Kind::Identifier, n / 16, false)?;
+    let mut sum = 1;
+    for _ in 0..rounds {
+        let mut interner = StringInterner::new(alloc);
+        sum = ask(&mut interner, names.as_slice(), n, sum)?;
     }
     Ok(sum)
 }

@@ -15,12 +15,14 @@ mod hashed_rows;
 mod head_rows;
 mod interner_rows;
 mod map_rows;
+mod names;
 mod ordered_rows;
 mod random;
 mod set_rows;
 mod text_rows;
 mod vec_rows;
 
+use names::Kind;
 use std::alloc::Global;
 
 /// Pushes `n` items into an empty vector and drops it.
@@ -197,16 +199,64 @@ pub extern "C" fn wasmi_bench_hashed_map_get_str(alloc: Global, n: u64, rounds: 
     text_rows::get::<wasmi_hashed::Map<String, u64>>(alloc, n, rounds).unwrap_or(0)
 }
 
-/// Interns `n` names in an empty interner, no two alike, and drops it.
+/// Interns `n` made-up names in an empty interner, no two alike, and drops it.
 #[unsafe(no_mangle)]
 pub extern "C" fn wasmi_bench_intern_new(alloc: Global, n: u64, rounds: u64) -> u64 {
-    interner_rows::intern_new(alloc, n, rounds).unwrap_or(0)
+    interner_rows::intern_new(alloc, Kind::MadeUp, false, n, rounds).unwrap_or(0)
 }
 
-/// Interns `n` names that are there.
+/// Interns `n` made-up names that are there.
 #[unsafe(no_mangle)]
 pub extern "C" fn wasmi_bench_intern_again(alloc: Global, n: u64, rounds: u64) -> u64 {
-    interner_rows::intern_again(alloc, n, rounds).unwrap_or(0)
+    interner_rows::intern_again(alloc, Kind::MadeUp, n, rounds).unwrap_or(0)
+}
+
+/// Interns `n` paths in an empty interner, no two alike, and drops it.
+#[unsafe(no_mangle)]
+pub extern "C" fn wasmi_bench_intern_new_paths(alloc: Global, n: u64, rounds: u64) -> u64 {
+    interner_rows::intern_new(alloc, Kind::Path, false, n, rounds).unwrap_or(0)
+}
+
+/// Interns `n` paths that are there.
+#[unsafe(no_mangle)]
+pub extern "C" fn wasmi_bench_intern_again_paths(alloc: Global, n: u64, rounds: u64) -> u64 {
+    interner_rows::intern_again(alloc, Kind::Path, n, rounds).unwrap_or(0)
+}
+
+/// Interns `n` mangled names in an empty interner, no two alike, and drops it.
+#[unsafe(no_mangle)]
+pub extern "C" fn wasmi_bench_intern_new_mangled(alloc: Global, n: u64, rounds: u64) -> u64 {
+    interner_rows::intern_new(alloc, Kind::Mangled, false, n, rounds).unwrap_or(0)
+}
+
+/// Interns `n` mangled names that are there.
+#[unsafe(no_mangle)]
+pub extern "C" fn wasmi_bench_intern_again_mangled(alloc: Global, n: u64, rounds: u64) -> u64 {
+    interner_rows::intern_again(alloc, Kind::Mangled, n, rounds).unwrap_or(0)
+}
+
+/// Interns `n` identifiers in an empty interner, no two alike, and drops it.
+#[unsafe(no_mangle)]
+pub extern "C" fn wasmi_bench_intern_new_identifiers(alloc: Global, n: u64, rounds: u64) -> u64 {
+    interner_rows::intern_new(alloc, Kind::Identifier, false, n, rounds).unwrap_or(0)
+}
+
+/// Interns `n` identifiers that are there.
+#[unsafe(no_mangle)]
+pub extern "C" fn wasmi_bench_intern_again_identifiers(alloc: Global, n: u64, rounds: u64) -> u64 {
+    interner_rows::intern_again(alloc, Kind::Identifier, n, rounds).unwrap_or(0)
+}
+
+/// Interns `n` paths in ascending order in an empty interner, and drops it.
+#[unsafe(no_mangle)]
+pub extern "C" fn wasmi_bench_intern_new_ascending(alloc: Global, n: u64, rounds: u64) -> u64 {
+    interner_rows::intern_new(alloc, Kind::Path, true, n, rounds).unwrap_or(0)
+}
+
+/// Interns `n` identifiers in an empty interner, of which few come often, and drops it.
+#[unsafe(no_mangle)]
+pub extern "C" fn wasmi_bench_intern_stream(alloc: Global, n: u64, rounds: u64) -> u64 {
+    interner_rows::intern_stream(alloc, n, rounds).unwrap_or(0)
 }
 
 /// Resolves `n` symbols that jump about.

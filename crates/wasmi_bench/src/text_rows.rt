@@ -1,6 +1,6 @@
 //! The rows of maps whose keys are names, which are looked up by a text.
 
-use crate::interner_rows::names;
+use crate::names::{Kind, names};
 use crate::random::next_index;
 use std::alloc::Global;
 use wasmi_arena::ArenaError;
@@ -64,10 +64,10 @@ fn get_all<M: TextRows>(map: &M, names: &[String], n: u64, before: u64) -> u64 {
 }
 
 pub fn get<M: TextRows + Drop>(alloc: Global, n: u64, rounds: u64) -> Result<u64, ArenaError> {
-    let keys = names(alloc, n)?;
+    let keys = names(alloc, Kind::MadeUp, n, false)?;
     let mut map = M::empty(alloc);
     let mut value: u64 = 0;
-    for name in names(alloc, n)? {
+    for name in names(alloc, Kind::MadeUp, n, false)? {
         map.put(name, value)?;
         value = value.wrapping_add(1);
     }
