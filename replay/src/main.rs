@@ -72,6 +72,7 @@ impl Run {
         let mut equal = true;
         println!("| Container | Seed | Calls | Answers compared | Differences | The first |");
         println!("|---|---|---|---|---|---|");
+        let mut left = CONTAINERS.len() * seeds.len();
         for container in CONTAINERS {
             for seed in seeds {
                 let input = generate(container, *seed, self.calls);
@@ -83,6 +84,8 @@ impl Run {
                 let comparison = self.one(container, *seed, &input)?;
                 equal &= comparison.differences == 0;
                 print_row(container, *seed, self.calls, &comparison);
+                left -= 1;
+                eprintln!("{container} at seed {seed} compared, {left} left");
             }
         }
         let mut all_made = true;

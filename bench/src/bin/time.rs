@@ -3,10 +3,10 @@
 //! times them too: the lesser time counts. `time --lines` WORD prints the times alone.
 
 use std::error::Error;
-use std::process::{Command, ExitCode};
+use std::process::{Command, ExitCode, Stdio};
 use std::{env, fs};
 use wasmi_bench_driver::chart::chart;
-use wasmi_bench_driver::rows::{ROWS, SIZES};
+use wasmi_bench_driver::rows::{Row, ROWS, SIZES};
 use wasmi_bench_driver::timing::{settle_heap, time, Times};
 
 type Outcome<T> = Result<T, Box<dyn Error>>;
@@ -39,11 +39,13 @@ fn main() -> ExitCode {
 
 fn measure(word: &str) -> Vec<Entry> {
     settle_heap();
+    let rows: Vec<&Row> = ROWS.iter().filter(|row| row.name.contains(word)).collect();
     let mut entries = Vec::new();
-    for row in ROWS.iter().filter(|row| row.name.contains(word)) {
+    for (row, left) in rows.iter().zip((0..rows.len()).rev()) {
         for n in SIZES.into_iter().filter(|n| *n <= row.most) {
             entries.push((row.name, n, time(row, n)));
         }
+        eprintln!("{} timed, {left} left", row.name);
     }
     entries
 }
@@ -57,7 +59,10 @@ fn print_lines(entries: &[Entry]) {
 fn print_tables(file: &str, word: &str, other: Option<&String>) -> Outcome<()> {
     let mut entries = measure(word);
     if let Some(program) = other {
-        let output = Command::new(program).args(["--lines", word]).output()?;
+        let output = Command::new(program)
+            .args(["--lines", word])
+            .stderr(Stdio::inherit())
+            .output()?;
         let lines = String::from_utf8(output.stdout)?;
         if lines.lines().count() != entries.len() {
             return Err(format!("{program} timed other rows").into());

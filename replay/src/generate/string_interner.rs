@@ -70,19 +70,40 @@ impl Generator {
     }
 
     /// A text without spaces: mostly of few letters, or with a number that may have been there, after a front that
-    /// makes it short or long. Lengths about 8 are frequent, where the Rust crate compares texts in another way.
+    /// makes it short or long, or as a name of one of three kinds. Lengths about 8 are frequent, where the Rust crate
+    /// compares texts in another way.
     fn text(&mut self, target: usize) -> String {
         let count = match self.random.below(4) {
             0 => self.random.below(3),
             1 => 6 + self.random.below(4),
             _ => {
                 let number = self.random.below((target + target / 2).max(6));
-                let front = self.random.one_of(&["", "f", "local_", "näme"]);
-                return format!("{front}{number}");
+                return match self.random.below(8) {
+                    0 => path(number),
+                    1 => mangled(number),
+                    2 => format!("value{}_{}", number % 7, number / 7),
+                    _ => format!(
+                        "{}{number}",
+                        self.random.one_of(&["", "f", "local_", "näme"])
+                    ),
+                };
             }
         };
         (0..count)
             .map(|_| self.random.one_of(&["a", "b", "B", "\u{e9}", "\u{1f980}"]))
             .collect()
     }
+}
+
+// The path of a file. Neighbours have one folder and one length.
+fn path(number: usize) -> String {
+    let (project, folder, file) = (number / 1024, number / 32 % 32, number % 32);
+    format!("/opt/build/src/project{project:03}/lib/folder{folder:02}/include/file{file:02}.hpp")
+}
+
+// The symbol of a linker, of one of four lengths.
+fn mangled(number: usize) -> String {
+    let parts = "6module8function".repeat(number % 4);
+    let hash = (number as u64).wrapping_mul(0x9e37_79b9_7f4a_7c15);
+    format!("_ZN4wasm{parts}17h{hash:016x}E")
 }
