@@ -12,10 +12,10 @@ pub trait Names {
 /// A word and twenty digits.
 pub struct MadeUp;
 
-/// Paths of files, of some 60 to 90 bytes, which begin alike. They ascend as their numbers do.
+/// Paths of files, of some 65 to 90 bytes, which begin alike. They ascend as their numbers do.
 pub struct Paths;
 
-/// Symbols of a linker, of 40 to 150 bytes, many of one length.
+/// Symbols of a linker, of some 30 to 110 bytes, many of one length.
 pub struct Mangled;
 
 /// A word and a number.

@@ -10,9 +10,9 @@ use wasmi_arena::ArenaError;
 pub(crate) enum Kind {
     /// A word and twenty digits.
     MadeUp,
-    /// Paths of files, of some 60 to 90 bytes, which begin alike.
+    /// Paths of files, of some 65 to 90 bytes, which begin alike.
     Path,
-    /// Symbols of a linker, of 40 to 150 bytes, many of one length.
+    /// Symbols of a linker, of some 30 to 110 bytes, many of one length.
     Mangled,
     /// A word and a number.
     Identifier,
