@@ -74,7 +74,8 @@ fn an_entity_that_was_refused_is_added_again(rt: HostRuntime) {
         }
         assert_equal!(rt; log.amiss(), 0);
     }
-    assert_equal!(rt; refused, requests);
+    // Slots for the names were refused without an error.
+    assert_equal!(rt; (refused, requests), (12, 13));
 }
 
 // Renames a kind, and once more where it was refused and the store is as before; whether it was.
@@ -178,7 +179,8 @@ fn a_script_that_is_refused_memory_fails(rt: HostRuntime) {
         }
         assert_equal!(rt; log.amiss(), 0);
     }
-    assert_equal!(rt; (refused, requests), (33, 33));
+    // Slots for names and for texts were refused without an error.
+    assert_equal!(rt; (refused, requests), (29, 31));
 }
 
 #[test]
@@ -206,7 +208,7 @@ fn a_program_that_is_refused_memory_writes_nothing(rt: HostRuntime) {
         assert_equal!(rt; log.amiss(), 0);
     }
     // One for the input, and those of `answer`.
-    assert_equal!(rt; (refused, requests), (34, 34));
+    assert_equal!(rt; (refused, requests), (30, 32));
 }
 
 // A reader that gives one byte at a time.
