@@ -6,7 +6,5 @@ mod InternsEach
 mod JoinedTexts
 mod Meeting
 mod RestBlocks
-mod RestExchange
-mod RestRing
 pub mod Symbols
 mod WithSymbols

@@ -1,5 +1,5 @@
 -- Entries by rank in blocks of one width: how the rest of an index is kept.
-use Rattle.std.specs.Prelude.{ℕ, ◌≡◌, ◌-◌, ◌*◌, ◌^◌, ◌≤◌, ◌⊎◌, ◌<◌, List, [], ◌∷◌, ◌++◌, length, take, drop, ⊤}
+use Rattle.std.specs.Prelude.{ℕ, ◌≡◌, ◌-◌, ◌*◌, ◌^◌, ◌≤◌, ◌⊎◌, List, [], ◌∷◌, length, ⊤}
 use Rattle.std.specs.List.{flat_map}
 use Rattle.wasmi_interner.specs.declared.entry.Entry.{Entry}
 
@@ -26,15 +26,6 @@ pub record BlockState : Type 0 where
 -- a block with other entries
 abbrev pub with_entries : BlockState → List Entry → BlockState
 with_entries block new = record { entries = new; width = block.width }
-
--- a ring, from the place on where the first stands, and round
-abbrev pub from_first : List Entry → ℕ → List Entry
-from_first ring first = drop first ring ++ take first ring
-
--- a ring has as many entries as a width, and the first of them stands at one of its places
-pub record IsRing (ring : List Entry) (first : ℕ) : Type 0 where
-  pub width : IsWidth (length ring)
-  pub within : first < length ring
 
 -- a block of a width that is full
 pub record IsFull (wide : ℕ) (block : BlockState) : Type 0 where

@@ -4,7 +4,6 @@ ghost use Rattle.std.specs.List.{insert};
 ghost use Rattle.wasmi_interner.specs.RestBlocks.{AreFew, IsBlocks, entries_in, room_in};
 
 mod block;
-mod ring;
 mod width;
 
 use crate::entry::{Entries, Entry};
@@ -183,18 +182,14 @@ impl<A: Allocator> Rest<A> {
         self.len += 1;
         let last = self.blocks.len() - 1;
         let mut block = self.width.block_of(rank);
-        let place = self.width.place_of(rank);
-        if block == last {
-            self.blocks[last].put(place, entry);
-            return;
-        }
-        let mut carried = self.blocks[block].push_out(place, entry);
-        block += 1;
+        let mut place = self.width.place_of(rank);
+        let mut carried = entry;
         while block < last {
-            carried = self.blocks[block].turn(carried);
+            carried = self.blocks[block].push_out(place, carried);
             block += 1;
+            place = 0;
         }
-        self.blocks[last].put(0, carried);
+        self.blocks[last].put(place, carried);
     }
 
     // The same entries, over clones of the allocator.

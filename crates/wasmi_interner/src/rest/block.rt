@@ -1,31 +1,31 @@
 //! A block of entries.
-ghost use Rattle.std.specs.Prelude.{◌≡◌, ◌++◌, ◌+◌, ◌==◌, ◌<◌, ◌≤◌, [], ◌∷◌, length, IfOk, OnErr, OnOk, Some, slice_get};
+ghost use Rattle.std.specs.Prelude.{◌≡◌, ◌++◌, ◌+◌, ◌==◌, ◌<◌, ◌≤◌, [], ◌∷◌, length, IfOk, OnErr, OnOk, Some, slice_get, vec_capacity, vec_items};
 ghost use Rattle.std.specs.List.{insert};
 ghost use Rattle.wasmi_interner.specs.RestBlocks.{BlockState, with_entries};
 
-use super::ring::Ring;
 use super::width::Width;
 use crate::entry::Entry;
 use std::alloc::{AllocError, Allocator};
+use std::collections::VecDeque;
 use std::marker::Model;
 
-// The first entries of a ring. What it has behind them stands for none, so that an entry goes to the front as
-// to the end, and moves no other.
+// At most as many entries as its width. It has room for them from the beginning, and they lie in a ring, so that an
+// entry goes to the front as to the end, and moves no other.
 #[derive(Drop)]
 pub(super) struct Block<A: Allocator> {
-    ring: Ring<A>,
-    len: usize,
+    entries: VecDeque<Entry, A>,
+    width: usize,
 }
 
 impl<A: Allocator> Model for Block<A> {
-    ghost use Rattle.std.specs.Prelude.{◌≤◌, length, take};
+    ghost use Rattle.std.specs.Prelude.{◌≤◌};
     ghost use Rattle.wasmi_interner.specs.RestBlocks.{BlockState};
 
     ghost Value = { BlockState };
 
-    ghost view = { λ block. record { entries = take block.len block.ring; width = length block.ring } };
+    ghost view = { λ block. record { entries = block.entries.items; width = block.width } };
 
-    ghost invariant = { λ block. block.len ≤ length block.ring };
+    ghost invariant = { λ block. (block.entries.len ≤ block.width) × (block.width ≤ block.entries.cap) };
 }
 
 impl<A: Allocator> Block<A> {
@@ -34,8 +34,8 @@ impl<A: Allocator> Block<A> {
         ensures { IfOk result (λ block. (block.entries ≡ []) × (block.width ≡ width.now)) }
     {
         Ok(Block {
-            ring: Ring::new(alloc, width)?,
-            len: 0,
+            entries: VecDeque::with_capacity(alloc, width.get())?,
+            width: width.get(),
         })
     }
 
@@ -51,10 +51,23 @@ impl<A: Allocator> Block<A> {
         requires width { one.now.width + other.now.width ≡ width.now }
         ensures { IfOk result (λ block. (block.entries ≡ one.now.entries ++ other.now.entries) × (block.width ≡ width.now)) }
     {
+        let mut entries = Vec::with_capacity(alloc, width.get())?;
+        one.copy_to(&mut entries)?;
+        other.copy_to(&mut entries)?;
         Ok(Block {
-            ring: Ring::joined(alloc, &one.ring, &other.ring, width)?,
-            len: width.get(),
+            entries: VecDeque::from_vec(entries),
+            width: width.get(),
         })
+    }
+
+    // Copies its entries behind others.
+    fn copy_to(&self, others: &mut Vec<Entry, A>) -> Result<(), AllocError>
+        ensures entries { OnOk result (vec_items others.new ≡ vec_items others.old ++ self.now.entries) }
+        ensures room { vec_capacity others.old ≤ vec_capacity others.new }
+    {
+        let (front, back) = self.entries.as_slices();
+        others.extend_from_slice(front)?;
+        others.extend_from_slice(back)
     }
 
     // Makes room for as many entries more as it has. Without memory for them, it is as before.
@@ -65,14 +78,16 @@ impl<A: Allocator> Block<A> {
         ensures ok { OnOk result (self.new.width ≡ width.now) }
         ensures err { OnErr result (self.new.width ≡ self.old.width) }
     {
-        self.ring.widen(width)
+        self.entries.reserve(self.width)?;
+        self.width = width.get();
+        Ok(())
     }
 
     // Whether there is room for no more entry.
     pub(super) fn is_full(&self) -> bool
         ensures { result ≡ (length self.now.entries == self.now.width) }
     {
-        self.len == self.ring.len()
+        self.entries.len() == self.width
     }
 
     // The entry of a place.
@@ -80,7 +95,7 @@ impl<A: Allocator> Block<A> {
         requires { place < length self.now.entries }
         ensures { slice_get self.now.entries place ≡ Some result }
     {
-        self.ring.at(place)
+        self.entries[place]
     }
 
     // Puts an entry at a place. There is room.
@@ -89,25 +104,10 @@ impl<A: Allocator> Block<A> {
         requires free { length self.old.entries < self.old.width }
         ensures { self.new ≡ with_entries self.old (insert self.old.entries place entry) }
     {
-        // proof: a ring has no more entries than a number can tell.
-        let _ = self.ring.len();
-        if place == self.len {
-            self.ring.set(place, entry);
-        } else if place == 0 {
-            let _filler = self.ring.turn(entry);
-        } else {
-            let _filler = self.ring.push_out(place, entry);
+        match self.entries.insert(place, entry) {
+            Ok(()) => {}
+            Err(_) => unreachable!(),
         }
-        self.len += 1;
-    }
-
-    // Puts an entry before the first, and takes the last out. The block is full.
-    pub(super) fn turn(&mut self, entry: Entry) -> Entry
-        requires { length self.old.entries ≡ self.old.width }
-        ensures entries { self.new.entries ++ result ∷ [] ≡ entry ∷ self.old.entries }
-        ensures width { self.new.width ≡ self.old.width }
-    {
-        self.ring.turn(entry)
     }
 
     // Puts an entry at a place, and takes the last out. The block is full.
@@ -117,7 +117,11 @@ impl<A: Allocator> Block<A> {
         ensures entries { self.new.entries ++ result ∷ [] ≡ insert self.old.entries place entry }
         ensures width { self.new.width ≡ self.old.width }
     {
-        self.ring.push_out(place, entry)
+        let Some(last) = self.entries.pop_back() else {
+            unreachable!();
+        };
+        self.put(place, entry);
+        last
     }
 }
 
@@ -127,9 +131,12 @@ impl<A: Allocator + Clone> Clone for Block<A> {
     ghost is_infallible = { λ _. ⊥ };
 
     fn clone(&self) -> Result<Self, AllocError> {
+        let alloc = self.entries.allocator().clone()?;
+        let mut entries = Vec::with_capacity(alloc, self.width)?;
+        self.copy_to(&mut entries)?;
         Ok(Block {
-            ring: self.ring.clone()?,
-            len: self.len,
+            entries: VecDeque::from_vec(entries),
+            width: self.width,
         })
     }
 }

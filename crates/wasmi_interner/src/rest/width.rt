@@ -73,18 +73,10 @@ impl Width {
     }
 
     // The place of a rank in its block.
+    #[inline]
     pub(super) fn place_of(&self, rank: usize) -> usize
         ensures { result ≡ rank % self.now }
     {
-        remainder(0, rank, self.get())
+        rank & (self.get() - 1)
     }
-}
-
-// The remainder of a sum by a width.
-#[inline]
-pub(super) fn remainder(first: usize, rank: usize, width: usize) -> usize
-    requires { IsWidth width }
-    ensures { result ≡ (first + rank) % width }
-{
-    first.wrapping_add(rank) & (width - 1)
 }
