@@ -8,6 +8,7 @@ use crate::reply::reply_error;
 use std::alloc::{AllocError, Allocator};
 use wasmi_arena::{ArenaError, MAX_LEN, StableArena, StableVec};
 use wasmi_collections::arena::DedupArena;
+use wasmi_collections::laws::texts_handed_in;
 use wasmi_collections::string_interner::{StringInterner, Sym};
 
 /// The texts that a script keeps.
@@ -117,7 +118,8 @@ impl<A: Allocator> Texts<A> {
             (reply_to (with_texts self.old) (request.Dedup text.now))) }
         ensures errors { IsOkUnless result ArenaError.OutOfSystemMemory }
     {
-        match self.dedup.alloc(String::from_str(alloc, text)?) {
+        texts_handed_in::<usize, A>();
+        match self.dedup.alloc_str(alloc, text) {
             Ok(key) => Ok(writeln!(replies, "key {key}")?),
             Err(error) => reply_error(replies, error),
         }

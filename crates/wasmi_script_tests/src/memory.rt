@@ -158,6 +158,19 @@ fn a_script_without_lines_needs_no_memory(rt: HostRuntime) {
     assert_equal!(rt; answer(&heap, "").or_abort(&rt).as_str(), "");
 }
 
+// The replies double their block, and so do the buckets of entities. A text that is there is not copied.
+#[test]
+fn lines_of_texts_that_are_there_ask_for_their_replies_alone(rt: HostRuntime) {
+    for line in ["d a text\n", "i a text\n", "e name kind\n"] {
+        let script = line.repeat(rt.alloc(), 1000).or_abort(&rt);
+        let log = Log::new();
+        let heap = Observed::new(rt.alloc(), &log);
+        let replies = answer(&heap, script.as_str()).or_abort(&rt);
+        assert_equal!(rt; replies.lines().count(), 1000);
+        assert!(rt; log.requests() < 40, "{line}: {}", log.requests());
+    }
+}
+
 // One request for each text, each copy, each container and its growths, and for the replies as they grow.
 #[test]
 fn a_script_that_is_refused_memory_fails(rt: HostRuntime) {

@@ -5,7 +5,7 @@ ghost use Rattle.std.specs.Cmp.{on_per, on_equiv};
 ghost use Rattle.std.specs.Cmp.Lexicographic.{pointwise, lists_per, lists_equiv};
 ghost use Rattle.std.specs.Iterator.{IsFiniteIterable};
 ghost use Rattle.wasmi_arena.specs.Entries.{entries};
-ghost use Rattle.wasmi_collections.specs.Dedup.{keyed, AllocatesValue, RefusesValue, TakesAll, TakesUntilRefused};
+ghost use Rattle.wasmi_collections.specs.Dedup.{keyed, AddsValue, AllocatesValue, RefusesValue, TakesAll, TakesUntilRefused};
 ghost use Rattle.wasmi_dense.specs.ArenaLoan.{left_entries, IsKeyed};
 ghost use Rattle.wasmi_map_specs.specs.Maps.{value_at};
 
@@ -158,6 +158,26 @@ impl<Key: ArenaKey, T: Eq + Hash, A: Allocator> DedupArena<Key, T, A> {
             return Ok(*key);
         }
         let key = self.items.next_key()?;
+        self.hand_in(key, value)
+    }
+
+    // Hands a value in that is new, under the next key.
+    fn hand_in(&mut self, key: Key, value: T) -> Result<Key, ArenaError>
+    where
+        T: Clone,
+        A: Clone,
+        requires absent { position (T.eq value) self.old.handed ≡ None }
+        requires next { key ≡ Key.keys.key (length self.old.handed) }
+        requires has_key { length self.old.handed < Key.keys.count }
+        ensures ok { IfOk result (λ key. AddsValue Key.keys T.eq T.is_clone self.old value key self.new) }
+        ensures errors { IsOkUnless result ArenaError.OutOfSystemMemory }
+        ensures err { OnErr result (self.new ≡ self.old) }
+        ensures known { IfOk result (λ key.
+            position (T.eq value) self.new.handed ≡ Some (Key.keys.number key)) }
+        ensures within { IfOk result (λ key. Key.keys.number key < length self.new.items) }
+        ensures kept { (other : T) (p : ℕ) → position (T.eq other) self.old.handed ≡ Some p
+            → position (T.eq other) self.new.handed ≡ Some p }
+    {
         self.items.reserve(1)?;
         let item = value.clone()?;
         self.index.insert(value, key)?;

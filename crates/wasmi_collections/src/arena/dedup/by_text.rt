@@ -51,8 +51,8 @@ impl<Key: ArenaKey, B: Allocator, A: Allocator> DedupArena<Key, String<B>, A> {
         if let Some(key) = self.key_of_str(text) {
             return Ok(key);
         }
-        self.next_key()?;
+        let key = self.next_key()?;
         let value = String::from_str(alloc, text)?;
-        self.alloc(value)
+        self.hand_in(key, value)
     }
 }
