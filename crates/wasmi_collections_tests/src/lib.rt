@@ -1,4 +1,4 @@
-//! Tests of head vectors, deduplicating arenas, interners, runs and searches.
+//! Tests of head vectors, deduplicating arenas and runs.
 #![tactic(auto)]
 
 #[cfg(test)]
@@ -8,9 +8,7 @@ mod dropped;
 #[cfg(test)]
 mod head_vec;
 #[cfg(test)]
-mod interner;
-#[cfg(test)]
-mod interner_memory;
+mod interner_runs;
 #[cfg(test)]
 mod or_abort;
 #[cfg(test)]
@@ -21,7 +19,3 @@ mod printed;
 mod replace;
 #[cfg(test)]
 mod runs;
-#[cfg(test)]
-mod searches;
-#[cfg(test)]
-mod texts;

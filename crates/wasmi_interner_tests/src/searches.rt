@@ -2,7 +2,7 @@
 ghost use Rattle.std.specs.Prelude.{◌+◌, ◌<◌, ◌^◌};
 
 use std::cmp::Ordering;
-use wasmi_collections::string_interner::{Probe, Steps, search};
+use wasmi_interner::{Probe, Steps, search};
 use wasmi_vectors::assert_equal;
 
 // A sorted list: so many items are less than what is searched, then it may be there, and so many are
@@ -16,7 +16,7 @@ struct Sorted {
 }
 
 impl Probe for Sorted {
-    ghost use Rattle.wasmi_collections.specs.Search.{sorted_orders};
+    ghost use Rattle.wasmi_interner.specs.Search.{sorted_orders};
 
     ghost orders = { λ sorted. sorted_orders sorted.less sorted.is_there sorted.greater };
 

@@ -1,12 +1,10 @@
 //! The memory of interners: how much is asked for, and each request refused in turn.
 use crate::interner::{APART, HINTS, ONE_HASH, ONE_HOME, numbered};
 use crate::or_abort::OrAbort;
-use std::alloc::{AllocError, Global};
+use std::alloc::Global;
 use std::process::Abort;
 use wasmi_arena::ArenaError;
-use wasmi_collections::StringInterner;
-use wasmi_collections::run::{InternCommand, InternReply, run_interner};
-use wasmi_collections::string_interner::{InternHint, Sym};
+use wasmi_interner::{InternHint, StringInterner, Sym};
 use wasmi_vectors::assert_equal;
 use wasmi_vectors::logged::Logged;
 use wasmi_vectors::observed::Log;
@@ -235,8 +233,8 @@ fn blocks_of_the_rest_widen_in_turn(rt: HostRuntime) {
     for (texts, asked, held) in [
         (16, (3, 1792, 0), 5),
         (256, (3, 26_624, 1), 6),
-        (4096, (13, 431_232, 10), 13),
-        (16_384, (21, 1_714_432, 18), 21),
+        (4096, (13, 431_424, 10), 13),
+        (16_384, (21, 1_714_816, 18), 21),
     ] {
         let log = Log::new();
         {
@@ -367,69 +365,6 @@ fn a_refused_clone_leaves_its_source(rt: HostRuntime) {
     assert_equal!(rt; log.amiss(), 0);
 }
 
-// Commands that hand in each name.
-fn hand_ins<'l>(
-    alloc: Global,
-    heap: Logged<'l>,
-) -> Result<Vec<InternCommand, Logged<'l>>, AllocError> {
-    let mut commands = Vec::new(heap);
-    for name in NAMES {
-        let text = String::from_str(alloc, name)?;
-        commands.push(InternCommand::Intern(text, InternHint::None))?;
-    }
-    Ok(commands)
-}
-
-// How many names were refused of a run that interned them all, of which each other one has its symbol; nothing where a
-// reply is another one.
-fn refused_of(
-    interner: &StringInterner<Logged<'_>>,
-    replies: Vec<InternReply, Logged<'_>>,
-) -> Option<usize> {
-    let (mut next, mut refused) = (0u32, 0usize);
-    for (name, reply) in NAMES.into_iter().zip(replies) {
-        let wanted = Sym::from_u32(next);
-        let symbol = interner.get(name);
-        if reply == InternReply::Sym(wanted) && symbol == Some(wanted) {
-            next = next.wrapping_add(1);
-        } else if reply == InternReply::Refused(ArenaError::OutOfSystemMemory) && symbol.is_none() {
-            refused = refused.wrapping_add(1);
-        } else {
-            return None;
-        }
-    }
-    (interner.len() == next as usize).then_some(refused)
-}
-
-// Each request of a run refused in turn. The first is for the replies.
-#[test]
-fn a_run_goes_on_after_a_refusal(rt: HostRuntime) {
-    for nth in 1..20 {
-        let log = Log::new();
-        {
-            let handle = Logged::new(rt.alloc(), &log);
-            let mut interner = StringInterner::new(handle);
-            let commands = hand_ins(rt.alloc(), handle).or_abort(&rt);
-            log.refuse_once(nth);
-            match run_interner(handle, &mut interner, commands) {
-                Ok(replies) => assert!(rt;
-                    refused_of(&interner, replies).is_some_and(|refused| refused < 2),
-                    "at {nth}"
-                ),
-                Err(error) => assert_equal!(rt;
-                    (nth, error, interner.len()),
-                    (1, ArenaError::OutOfSystemMemory, 0)
-                ),
-            }
-            for name in NAMES {
-                let _symbol = interner.get_or_intern(name).or_abort(&rt);
-            }
-            assert_equal!(rt; interner.len(), 10, "at {nth}");
-        }
-        assert_equal!(rt; log.amiss(), 0);
-    }
-}
-
 #[test]
 fn an_empty_interner_is_cloned(rt: HostRuntime) {
     let log = Log::new();
@@ -443,18 +378,57 @@ fn an_empty_interner_is_cloned(rt: HostRuntime) {
     assert_equal!(rt; copy.get_or_intern("b").or_abort(&rt), Sym::from_u32(0));
 }
 
-// Nor does a new one, but for slots or a block that it opens.
+// Nor does a new one, whatever the hint, but for slots or a block that it opens.
 #[test]
 fn a_text_clones_no_handle(rt: HostRuntime) {
     let log = Log::new();
-    let mut interner = with_names(Logged::new(rt.alloc(), &log)).or_abort(&rt);
-    interner.get_or_intern("import").or_abort(&rt);
-    let clones = log.clones();
-    for hint in HINTS {
-        interner
-            .get_or_intern_with_hint("global", hint)
-            .or_abort(&rt);
+    let mut interner = with_texts(&rt, Logged::new(rt.alloc(), &log), rt.alloc(), APART, 50);
+    let before = (log.requests(), log.clones());
+    for (hint, text) in HINTS.into_iter().zip(["import", "export", "x"]) {
+        for _ in 0..2 {
+            interner.get_or_intern_with_hint(text, hint).or_abort(&rt);
+        }
     }
-    interner.get_or_intern("export").or_abort(&rt);
-    assert_equal!(rt; log.clones(), clones);
+    assert_equal!(rt; (log.requests(), log.clones()), before);
+}
+
+// The first 39 slots take 32 texts, so from the sixth text on each asks for more, once.
+#[test]
+fn refused_slots_are_asked_for_once(rt: HostRuntime) {
+    let log = Log::new();
+    let mut interner = with_texts(&rt, Logged::new(rt.alloc(), &log), rt.alloc(), APART, 100);
+    interner.clear();
+    for number in 0..32u32 {
+        let text = numbered(&rt, rt.alloc(), APART, number);
+        if number == 5 {
+            log.refuse_from(1);
+        }
+        let asked = log.requests();
+        let _symbol = interner.get_or_intern(text.as_str()).or_abort(&rt);
+        let wanted = u64::from(number == 0 || 5 <= number);
+        assert_equal!(rt; log.requests().wrapping_sub(asked), wanted, "behind {number}");
+    }
+}
+
+// They go on from 2^13 homes to 2^14.
+#[test]
+fn slots_are_doubled_beside_a_long_rest(rt: HostRuntime) {
+    let log = Log::new();
+    let mut interner = with_texts(
+        &rt,
+        Logged::new(rt.alloc(), &log),
+        rt.alloc(),
+        ONE_HASH,
+        5120,
+    );
+    let more = numbered(&rt, rt.alloc(), APART, 0);
+    let (requests, bytes) = (log.requests(), log.bytes());
+    let _symbol = interner.get_or_intern(more.as_str()).or_abort(&rt);
+    assert_equal!(rt;
+        (
+            log.requests().wrapping_sub(requests),
+            log.bytes().wrapping_sub(bytes)
+        ),
+        (1, 131_320)
+    );
 }

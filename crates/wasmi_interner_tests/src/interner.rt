@@ -1,11 +1,9 @@
-//! Interners: worked rows and runs, and how many texts a search compares.
+//! Interners: worked texts, and how many texts a search compares.
 use crate::or_abort::OrAbort;
-use std::alloc::{AllocError, Global};
+use std::alloc::Global;
 use std::process::Abort;
 use wasmi_arena::ArenaError;
-use wasmi_collections::StringInterner;
-use wasmi_collections::run::{InternCommand, InternReply, run_interner};
-use wasmi_collections::string_interner::{InternHint, LenOrder, Steps, Sym};
+use wasmi_interner::{InternHint, LenOrder, Steps, StringInterner, Sym};
 use wasmi_vectors::assert_equal;
 
 pub(crate) const HINTS: [InternHint; 3] = [
@@ -62,11 +60,22 @@ fn five_texts_take_three_steps_at_most(rt: HostRuntime) {
     }
 }
 
+// A hundred more are shown as those of a vector.
 #[test]
 fn texts_are_shown_as_a_list(rt: HostRuntime) {
-    let interner = five_texts(rt.alloc()).or_abort(&rt);
+    let mut interner = five_texts(rt.alloc()).or_abort(&rt);
     let text = format!(in rt.alloc(); "{interner:?}").or_abort(&rt);
     assert_equal!(rt; text.as_str(), "[\"b\", \"a\", \"bb\", \"\", \"é\"]");
+    interner.clear();
+    let mut texts = Vec::new(rt.alloc());
+    for number in 0..100 {
+        let text = numbered(&rt, rt.alloc(), APART, number);
+        let _symbol = interner.get_or_intern(text.as_str()).or_abort(&rt);
+        texts.push(text).or_abort(&rt);
+    }
+    let shown = format!(in rt.alloc(); "{interner:?} {interner:#?}").or_abort(&rt);
+    let wanted = format!(in rt.alloc(); "{texts:?} {texts:#?}").or_abort(&rt);
+    assert_equal!(rt; shown.as_str(), wanted.as_str());
 }
 
 #[test]
@@ -178,20 +187,21 @@ fn a_search_is_binary(rt: HostRuntime) {
     }
 }
 
+// One counter goes on through all of them.
 #[test]
 fn the_middle_is_compared_first(rt: HostRuntime) {
     let interner = letters(&rt, rt.alloc(), ONE_HASH, 7);
+    let mut steps = Steps::new();
     for (letter, count) in [
         ("h", 1),
-        ("d", 2),
-        ("n", 2),
-        ("b", 3),
-        ("f", 3),
-        ("l", 3),
-        ("p", 3),
+        ("d", 3),
+        ("n", 5),
+        ("b", 8),
+        ("f", 11),
+        ("l", 14),
+        ("p", 17),
     ] {
         let text = lettered(&rt, rt.alloc(), ONE_HASH, letter);
-        let mut steps = Steps::new();
         let _symbol = interner.get_counted(text.as_str(), &mut steps);
         assert_equal!(rt; steps.count(), count, "of {letter}");
     }
@@ -277,70 +287,54 @@ fn texts_that_find_no_slot_are_found(rt: HostRuntime) {
     }
 }
 
-fn commands(alloc: Global) -> Result<Vec<InternCommand>, AllocError> {
-    let b = String::from_str(alloc, "b")?;
-    let a = String::from_str(alloc, "a")?;
-    let again = String::from_str(alloc, "b")?;
-    let found = String::from_str(alloc, "a")?;
-    let absent = String::from_str(alloc, "c")?;
-    let commands = Vec::from_array(
-        alloc,
-        [
-            InternCommand::Intern(b, InternHint::LikelyNew),
-            InternCommand::Intern(a, InternHint::LikelyExists),
-            InternCommand::Intern(again, InternHint::LikelyNew),
-            InternCommand::Find(found),
-            InternCommand::Find(absent),
-            InternCommand::Len,
-            InternCommand::Intern(String::new(alloc), InternHint::None),
-        ],
-    )?;
-    Ok(commands)
-}
-
-#[test]
-fn a_run_replies_as_the_table_says(rt: HostRuntime) {
-    let mut interner = StringInterner::new(rt.alloc());
-    let replies = run_interner(
-        rt.alloc(),
-        &mut interner,
-        commands(rt.alloc()).or_abort(&rt),
-    )
-    .or_abort(&rt);
-    let expected = [
-        InternReply::Sym(Sym::from_u32(0)),
-        InternReply::Sym(Sym::from_u32(1)),
-        InternReply::Sym(Sym::from_u32(0)),
-        InternReply::Found(Some(Sym::from_u32(1))),
-        InternReply::Found(None),
-        InternReply::Len(2),
-        InternReply::Sym(Sym::from_u32(2)),
-    ];
-    assert_equal!(rt; replies.as_slice(), expected.as_slice());
-    assert_equal!(rt; interner.len(), 3);
-}
-
 // A text of its own for each number below 100,003, in no order.
 pub(crate) fn scattered(rt: &impl Abort, alloc: Global, number: u32) -> String {
     format!(in alloc; "{}", number.wrapping_mul(7919) % 100003).or_abort(rt)
 }
 
-// Each has a hash of its own and finds a slot, in tables of up to 2^13 homes, so one text is compared.
+// Each has a hash of its own, but for few, and finds a slot, so one text is compared.
 #[test]
-fn three_thousand_texts_are_found(rt: HostRuntime) {
+fn a_hundred_thousand_texts_are_found(rt: HostRuntime) {
     let mut interner = StringInterner::new(rt.alloc());
-    for number in 0..3001 {
+    for number in 0..100_003 {
         let text = scattered(&rt, rt.alloc(), number);
-        let symbol = interner.get_or_intern(text.as_str()).or_abort(&rt);
-        assert_equal!(rt; symbol.into_u32(), number);
+        if number % 2 == 0 {
+            let symbol = interner.get_or_intern(text.as_str());
+            assert_equal!(rt; symbol, Ok(Sym::from_u32(number)));
+        } else {
+            assert_equal!(rt; interner.extend([text.as_str()]), Ok(()), "at {number}");
+        }
     }
-    for number in 0..3001 {
+    let copy = interner.clone().or_abort(&rt);
+    let mut steps = Steps::new();
+    for number in 0..100_003 {
         let text = scattered(&rt, rt.alloc(), number);
-        let mut steps = Steps::new();
-        let symbol = interner.get_counted(text.as_str(), &mut steps);
+        let symbol = copy.get_counted(text.as_str(), &mut steps);
         assert_equal!(rt; symbol, Some(Sym::from_u32(number)));
-        assert_equal!(rt; steps.count(), 1, "of {number}");
     }
+    assert!(rt; steps.count() < 100_200, "{} steps", steps.count());
     assert!(rt; interner.get("100003").is_none());
-    assert_equal!(rt; &interner.clone().or_abort(&rt), &interner);
+    assert_equal!(rt; &copy, &interner);
+}
+
+#[test]
+fn more_texts_of_one_hash_than_a_short_number_tells(rt: HostRuntime) {
+    let mut interner = StringInterner::new(rt.alloc());
+    for number in 0..65_540 {
+        let text = numbered(&rt, rt.alloc(), ONE_HASH, number);
+        let symbol = interner.get_or_intern(text.as_str());
+        assert_equal!(rt; symbol, Ok(Sym::from_u32(number)));
+    }
+}
+
+#[test]
+fn long_texts_are_kept(rt: HostRuntime) {
+    let mut interner = StringInterner::new(rt.alloc());
+    for (number, len) in (0u32..).zip([4096, 4097, 65_536, 65_537, 1_048_577, 5]) {
+        let text = "x".repeat(rt.alloc(), len).or_abort(&rt);
+        let symbol = Sym::from_u32(number);
+        assert_equal!(rt; interner.get_or_intern(text.as_str()), Ok(symbol), "of {len}");
+        assert_equal!(rt; interner.get(text.as_str()), Some(symbol), "of {len}");
+        assert!(rt; interner.resolve(symbol) == Some(text.as_str()), "of {len}");
+    }
 }

@@ -1,8 +1,7 @@
 //! The texts of an interner: visited, handed in by an iterator, and dropped.
 use crate::or_abort::OrAbort;
 use wasmi_arena::{ArenaError, ArenaKey};
-use wasmi_collections::StringInterner;
-use wasmi_collections::string_interner::Sym;
+use wasmi_interner::{StringInterner, Sym};
 use wasmi_vectors::assert_equal;
 use wasmi_vectors::observed::{Log, Observed};
 

@@ -1,0 +1,13 @@
+//! Tests of interners and of searches.
+#![tactic(auto)]
+
+#[cfg(test)]
+mod interner;
+#[cfg(test)]
+mod memory;
+#[cfg(test)]
+mod or_abort;
+#[cfg(test)]
+mod searches;
+#[cfg(test)]
+mod texts;
