@@ -247,6 +247,18 @@ pub extern "C" fn wasmi_bench_intern_again_identifiers(alloc: Global, n: u64, ro
     interner_rows::intern_again(alloc, Kind::Identifier, n, rounds).unwrap_or(0)
 }
 
+/// Interns `n` colliding names in an empty interner, no two alike, and drops it.
+#[unsafe(no_mangle)]
+pub extern "C" fn wasmi_bench_intern_new_colliding(alloc: Global, n: u64, rounds: u64) -> u64 {
+    interner_rows::intern_new(alloc, Kind::Colliding, false, n, rounds).unwrap_or(0)
+}
+
+/// Interns `n` colliding names that are there.
+#[unsafe(no_mangle)]
+pub extern "C" fn wasmi_bench_intern_again_colliding(alloc: Global, n: u64, rounds: u64) -> u64 {
+    interner_rows::intern_again(alloc, Kind::Colliding, n, rounds).unwrap_or(0)
+}
+
 /// Interns `n` paths in ascending order in an empty interner, and drops it.
 #[unsafe(no_mangle)]
 pub extern "C" fn wasmi_bench_intern_new_ascending(alloc: Global, n: u64, rounds: u64) -> u64 {

@@ -16,6 +16,8 @@ pub(crate) enum Kind {
     Mangled,
     /// A word and a number.
     Identifier,
+    /// Texts of 32 bytes that all have one hash in the interner.
+    Colliding,
 }
 
 const WORDS: [&str; 16] = [
@@ -57,6 +59,7 @@ fn name_of(alloc: Global, kind: Kind, number: u64) -> Result<String, ArenaError>
             write!(name, "17h{:016x}E", key_of(number))?;
         }
         Kind::Identifier => write!(name, "{}{}", word(number), number / 16)?,
+        Kind::Colliding => write!(name, "they-meet-xaennpvzjyrlqs{number:08x}")?,
     }
     Ok(name)
 }
