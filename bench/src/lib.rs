@@ -1,10 +1,13 @@
-//! The rows of the bench, on three sides: the port, the Rust crate, and the plain container below it.
+//! The rows of the bench, on three sides: the port, the Rust crate, and the plain container below it. Some have a fourth.
 
 pub mod chart;
 pub mod ours;
 pub mod plain;
+pub mod progress;
+pub mod row;
 pub mod rows;
 pub mod script;
+pub mod scripts;
 pub mod tables;
 pub mod theirs;
 pub mod timing;

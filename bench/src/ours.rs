@@ -38,6 +38,8 @@ unsafe extern "C" {
     pub safe fn wasmi_bench_intern_again_mangled(n: u64, rounds: u64) -> u64;
     pub safe fn wasmi_bench_intern_new_identifiers(n: u64, rounds: u64) -> u64;
     pub safe fn wasmi_bench_intern_again_identifiers(n: u64, rounds: u64) -> u64;
+    pub safe fn wasmi_bench_intern_new_colliding(n: u64, rounds: u64) -> u64;
+    pub safe fn wasmi_bench_intern_again_colliding(n: u64, rounds: u64) -> u64;
     pub safe fn wasmi_bench_intern_new_ascending(n: u64, rounds: u64) -> u64;
     pub safe fn wasmi_bench_intern_stream(n: u64, rounds: u64) -> u64;
     pub safe fn wasmi_bench_resolve(n: u64, rounds: u64) -> u64;

@@ -112,6 +112,7 @@ pub fn vec_swap(n: u64, rounds: u64) -> u64 {
 }
 
 #[inline(never)]
+#[expect(clippy::ptr_arg, reason = "a `Vec` is cloned")]
 fn clone_once(vec: &Vec<u64>, before: u64) -> u64 {
     before.wrapping_add(ends(&vec.clone()))
 }

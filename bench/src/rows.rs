@@ -1,50 +1,24 @@
 //! The table of rows. A new row is a line here, and a function of its name on each side.
 
+use crate::row::{ExportedWork, Fourth, Round, Row, Work};
 use crate::tables::{
     dedup_again, dedup_new, dedup_replace, dedup_replace_written, intern_again, intern_new,
     intern_new_ascending, intern_stream, map_append, map_entry, map_get, map_get_str, map_insert,
     map_iter, resolve, set_contains, set_insert, set_iter, set_union,
 };
-use crate::tables::{Identifiers, MadeUp, Mangled, Paths};
+use crate::tables::{Colliding, Identifiers, MadeUp, Mangled, Names, Paths};
 use crate::tables::{
-    OrderedMap, OrderedNames, OrderedSet, PlainDedup, PlainInterner, PlainTable, PlainTableNames,
-    PlainTableSet, PlainTree, PlainTreeNames, PlainTreeSet, RustDedup, RustInterner,
+    HashedInterner, OrderedMap, OrderedNames, OrderedSet, PlainDedup, PlainInterner, PlainTable,
+    PlainTableNames, PlainTableSet, PlainTree, PlainTreeNames, PlainTreeSet, RustDedup,
+    RustInterner,
 };
 use crate::{ours, plain, theirs};
 
-/// Does a row's work on `n` items so many times, and returns a checksum.
-pub type Work = fn(n: u64, rounds: u64) -> u64;
-
-/// The same by C's calling convention, as the port exports it.
-pub type ExportedWork = extern "C" fn(n: u64, rounds: u64) -> u64;
-
-/// What a round does to the container.
-#[derive(Clone, Copy, PartialEq)]
-pub enum Round {
-    /// Fills a new container and drops it.
-    Fills,
-    /// Reads or writes a container that is filled once, before the first round. The time of no rounds is taken off.
-    Reads,
-}
-
-pub struct Row {
-    pub name: &'static str,
-    pub round: Round,
-    pub ours: ExportedWork,
-    pub theirs: Work,
-    pub plain: Work,
-    /// The same row of the standard library's container on which the port's stands, as the port's library exports it.
-    pub kit: Option<ExportedWork>,
-    /// How many operations a measurement has, unless that is fewer rounds than the least.
-    pub operations: u64,
-    /// How many rounds a measurement has at least.
-    pub least_rounds: u64,
-    /// The greatest number of items that is timed.
-    pub most: u64,
-}
-
-/// The numbers of items, each a power of two.
+/// The numbers of items of most rows.
 pub const SIZES: [u64; 4] = [1 << 8, 1 << 12, 1 << 16, 1 << 20];
+
+/// Those of colliding names, which take longest.
+const SIZES_COLLIDING: [u64; 3] = [1 << 8, 1 << 12, 1 << 15];
 
 /// The next index below `n`, a power of two: some bits of the state of a generator of random numbers.
 pub fn next_index(state: &mut u64, n: u64) -> usize {
@@ -67,10 +41,10 @@ const fn row(
         ours,
         theirs,
         plain,
-        kit: None,
+        fourth: None,
         operations: 1 << 24,
         least_rounds: 1,
-        most: 1 << 20,
+        sizes: &SIZES,
     }
 }
 
@@ -84,7 +58,7 @@ const fn names(
 ) -> Row {
     Row {
         operations: 1 << 19,
-        most: 1 << 16,
+        sizes: SIZES.split_at(3).0,
         ..row(name, round, ours, theirs, plain)
     }
 }
@@ -113,7 +87,7 @@ const fn table(
     plain: Work,
 ) -> Row {
     Row {
-        kit: Some(kit),
+        fourth: Some(Fourth::Kit(kit)),
         ..long(name, round, ours, theirs, plain)
     }
 }
@@ -129,6 +103,42 @@ const fn walk(
     Row {
         operations: 1 << 24,
         ..table(name, Round::Reads, ours, kit, theirs, plain)
+    }
+}
+
+// Names that are interned, beside a hash table whose probes have no bound.
+const fn interned(
+    name: &'static str,
+    ours: ExportedWork,
+    [theirs, plain, unbounded]: [Work; 3],
+) -> Row {
+    Row {
+        fourth: Some(Fourth::Unbounded(unbounded)),
+        sizes: &SIZES,
+        ..names(name, Round::Reads, ours, theirs, plain)
+    }
+}
+
+// The same of new names of a kind.
+const fn new_names<K: Names>(name: &'static str, ours: ExportedWork) -> Row {
+    let sides: [Work; 3] = [
+        intern_new::<RustInterner, K>,
+        intern_new::<PlainInterner, K>,
+        intern_new::<HashedInterner, K>,
+    ];
+    interned(name, ours, sides)
+}
+
+// The same of names that are there. At the most names a round is short beside the filling before it.
+const fn names_again<K: Names>(name: &'static str, ours: ExportedWork) -> Row {
+    let sides: [Work; 3] = [
+        intern_again::<RustInterner, K>,
+        intern_again::<PlainInterner, K>,
+        intern_again::<HashedInterner, K>,
+    ];
+    Row {
+        least_rounds: 8,
+        ..interned(name, ours, sides)
     }
 }
 
@@ -178,19 +188,20 @@ pub const ROWS: &[Row] = &[
     long("`DedupArena` alloc, new values", Round::Fills, ours::wasmi_bench_dedup_alloc_new, dedup_new::<RustDedup>, dedup_new::<PlainDedup>),
     long("`DedupArena` alloc, values that are there", Round::Reads, ours::wasmi_bench_dedup_alloc_again, dedup_again::<RustDedup>, dedup_again::<PlainDedup>),
     long("`DedupArena` replace", Round::Reads, ours::wasmi_bench_dedup_replace, dedup_replace, dedup_replace),
-    Row { operations: 1 << 16, most: 1 << 12, ..row("`DedupArena` replace, items written to before", Round::Reads, ours::wasmi_bench_dedup_replace_written, dedup_replace_written, dedup_replace_written) },
+    Row { operations: 1 << 16, sizes: SIZES.split_at(2).0, ..row("`DedupArena` replace, items written to before", Round::Reads, ours::wasmi_bench_dedup_replace_written, dedup_replace_written, dedup_replace_written) },
     names("Ordered `Map` get by text, random", Round::Reads, ours::wasmi_bench_ordered_map_get_str, map_get_str::<OrderedNames>, map_get_str::<PlainTreeNames>),
     names("Hashed `Map` get by text, random", Round::Reads, ours::wasmi_bench_hashed_map_get_str, map_get_str::<PlainTableNames>, map_get_str::<PlainTableNames>),
-    Row { most: 1 << 20, ..names("`StringInterner` intern, new made-up names", Round::Reads, ours::wasmi_bench_intern_new, intern_new::<RustInterner, MadeUp>, intern_new::<PlainInterner, MadeUp>) },
-    Row { most: 1 << 20, ..names("`StringInterner` intern, new paths", Round::Reads, ours::wasmi_bench_intern_new_paths, intern_new::<RustInterner, Paths>, intern_new::<PlainInterner, Paths>) },
-    Row { most: 1 << 20, ..names("`StringInterner` intern, new mangled names", Round::Reads, ours::wasmi_bench_intern_new_mangled, intern_new::<RustInterner, Mangled>, intern_new::<PlainInterner, Mangled>) },
-    Row { most: 1 << 20, ..names("`StringInterner` intern, new identifiers", Round::Reads, ours::wasmi_bench_intern_new_identifiers, intern_new::<RustInterner, Identifiers>, intern_new::<PlainInterner, Identifiers>) },
-    Row { most: 1 << 20, ..names("`StringInterner` intern, new paths, ascending", Round::Reads, ours::wasmi_bench_intern_new_ascending, intern_new_ascending::<RustInterner>, intern_new_ascending::<PlainInterner>) },
-    // At the most names a round is short beside the filling before it.
-    Row { most: 1 << 20, least_rounds: 8, ..names("`StringInterner` intern, made-up names that are there", Round::Reads, ours::wasmi_bench_intern_again, intern_again::<RustInterner, MadeUp>, intern_again::<PlainInterner, MadeUp>) },
-    Row { most: 1 << 20, least_rounds: 8, ..names("`StringInterner` intern, paths that are there", Round::Reads, ours::wasmi_bench_intern_again_paths, intern_again::<RustInterner, Paths>, intern_again::<PlainInterner, Paths>) },
-    Row { most: 1 << 20, least_rounds: 8, ..names("`StringInterner` intern, mangled names that are there", Round::Reads, ours::wasmi_bench_intern_again_mangled, intern_again::<RustInterner, Mangled>, intern_again::<PlainInterner, Mangled>) },
-    Row { most: 1 << 20, least_rounds: 8, ..names("`StringInterner` intern, identifiers that are there", Round::Reads, ours::wasmi_bench_intern_again_identifiers, intern_again::<RustInterner, Identifiers>, intern_again::<PlainInterner, Identifiers>) },
-    Row { most: 1 << 20, ..names("`StringInterner` intern, identifiers, few often", Round::Reads, ours::wasmi_bench_intern_stream, intern_stream::<RustInterner>, intern_stream::<PlainInterner>) },
+    new_names::<MadeUp>("`StringInterner` intern, new made-up names", ours::wasmi_bench_intern_new),
+    new_names::<Paths>("`StringInterner` intern, new paths", ours::wasmi_bench_intern_new_paths),
+    new_names::<Mangled>("`StringInterner` intern, new mangled names", ours::wasmi_bench_intern_new_mangled),
+    new_names::<Identifiers>("`StringInterner` intern, new identifiers", ours::wasmi_bench_intern_new_identifiers),
+    Row { sizes: &SIZES_COLLIDING, ..new_names::<Colliding>("`StringInterner` intern, new colliding names", ours::wasmi_bench_intern_new_colliding) },
+    interned("`StringInterner` intern, new paths, ascending", ours::wasmi_bench_intern_new_ascending, [intern_new_ascending::<RustInterner>, intern_new_ascending::<PlainInterner>, intern_new_ascending::<HashedInterner>]),
+    names_again::<MadeUp>("`StringInterner` intern, made-up names that are there", ours::wasmi_bench_intern_again),
+    names_again::<Paths>("`StringInterner` intern, paths that are there", ours::wasmi_bench_intern_again_paths),
+    names_again::<Mangled>("`StringInterner` intern, mangled names that are there", ours::wasmi_bench_intern_again_mangled),
+    names_again::<Identifiers>("`StringInterner` intern, identifiers that are there", ours::wasmi_bench_intern_again_identifiers),
+    Row { sizes: &SIZES_COLLIDING, ..names_again::<Colliding>("`StringInterner` intern, colliding names that are there", ours::wasmi_bench_intern_again_colliding) },
+    interned("`StringInterner` intern, identifiers, few often", ours::wasmi_bench_intern_stream, [intern_stream::<RustInterner>, intern_stream::<PlainInterner>, intern_stream::<HashedInterner>]),
     Row { operations: 1 << 24, ..names("`StringInterner` resolve, random", Round::Reads, ours::wasmi_bench_resolve, resolve::<RustInterner>, resolve::<PlainInterner>) },
 ];

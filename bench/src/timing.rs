@@ -1,6 +1,6 @@
 //! Times a row on its sides, which take turns.
 
-use crate::rows::{Round, Row};
+use crate::row::{Round, Row};
 use std::fmt::{self, Display, Formatter};
 use std::hint::black_box;
 use std::num::ParseFloatError;
@@ -20,8 +20,8 @@ pub struct Times {
     pub ours: f64,
     pub theirs: f64,
     pub plain: f64,
-    /// Of the standard library's container on which the port's stands, where the row has it.
-    pub kit: Option<f64>,
+    /// Of the fourth side, where the row has one.
+    pub fourth: Option<f64>,
 }
 
 impl Times {
@@ -33,17 +33,13 @@ impl Times {
         self.ours / self.plain
     }
 
-    pub fn to_kit(&self) -> Option<f64> {
-        self.kit.map(|kit| self.ours / kit)
-    }
-
     /// The lesser time of each side, by two builds.
     pub fn least(&self, other: Times) -> Times {
         Times {
             ours: self.ours.min(other.ours),
             theirs: self.theirs.min(other.theirs),
             plain: self.plain.min(other.plain),
-            kit: self.kit.zip(other.kit).map(|(one, two)| one.min(two)),
+            fourth: self.fourth.zip(other.fourth).map(|(a, b)| a.min(b)),
         }
     }
 }
@@ -52,7 +48,7 @@ impl Times {
 impl Display for Times {
     fn fmt(&self, f: &mut Formatter<'_>) -> fmt::Result {
         write!(f, "{} {} {}", self.ours, self.theirs, self.plain)?;
-        self.kit.map_or(Ok(()), |kit| write!(f, " {kit}"))
+        self.fourth.map_or(Ok(()), |time| write!(f, " {time}"))
     }
 }
 
@@ -66,8 +62,40 @@ impl FromStr for Times {
             ours: next()?,
             theirs: next()?,
             plain: next()?,
-            kit: next().ok(),
+            fourth: next().ok(),
         })
+    }
+}
+
+/// A row that was timed at a number of items.
+pub struct Entry {
+    pub row: &'static Row,
+    pub items: u64,
+    pub times: Times,
+}
+
+impl Entry {
+    /// Times a row.
+    ///
+    /// # Panics
+    ///
+    /// If two sides differ in a checksum.
+    pub fn new(row: &'static Row, items: u64) -> Entry {
+        let times = time(row, items);
+        Entry { row, items, times }
+    }
+
+    /// The time of the fourth side, where the row has one of this title.
+    pub fn fourth(&self, title: &str) -> Option<f64> {
+        let side = self.row.fourth.filter(|side| side.title() == title);
+        side.and(self.times.fourth)
+    }
+}
+
+/// The first two cells of a line.
+impl Display for Entry {
+    fn fmt(&self, f: &mut Formatter<'_>) -> fmt::Result {
+        write!(f, "{} | 2^{}", self.row.name, self.items.trailing_zeros())
     }
 }
 
@@ -142,12 +170,8 @@ fn timed(work: impl Fn() -> u64) -> (f64, u64) {
     (start.elapsed().as_nanos() as f64, checksum)
 }
 
-/// Times a row at `n` items.
-///
-/// # Panics
-///
-/// If two sides differ in a checksum.
-pub fn time(row: &Row, n: u64) -> Times {
+// Times a row at `n` items.
+fn time(row: &Row, n: u64) -> Times {
     // Where one round has more operations than a measurement, two turns have to do.
     let (turns, most_turns) = if row.operations < n {
         (2, 2)
@@ -155,31 +179,30 @@ pub fn time(row: &Row, n: u64) -> Times {
         (TURNS, MOST_TURNS)
     };
     let rounds = (row.operations / n).max(row.least_rounds);
-    let [mut ours, mut theirs, mut plain, mut kit] = [Side::UNTIMED; 4];
+    let ours = |n, rounds| (row.ours)(n, rounds);
+    let fourth = row.fourth.map(|side| move |n, rounds| side.work(n, rounds));
+    let mut works: Vec<&dyn Fn(u64, u64) -> u64> = vec![&ours, &row.theirs, &row.plain];
+    works.extend(fourth.as_ref().map(|work| work as &dyn Fn(u64, u64) -> u64));
+    let mut sides = vec![Side::UNTIMED; works.len()];
     for turn in 0..=most_turns {
-        ours.turn(|n, rounds| (row.ours)(n, rounds), n, rounds);
-        theirs.turn(row.theirs, n, rounds);
-        plain.turn(row.plain, n, rounds);
-        assert_eq!(ours.checksums, theirs.checksums, "{} at {n}", row.name);
-        assert_eq!(ours.checksums, plain.checksums, "{} at {n}", row.name);
-        if let Some(work) = row.kit {
-            kit.turn(|n, rounds| work(n, rounds), n, rounds);
-            assert_eq!(ours.checksums, kit.checksums, "{} at {n}", row.name);
+        for (side, work) in sides.iter_mut().zip(&works) {
+            side.turn(work, n, rounds);
+        }
+        for side in &sides {
+            assert_eq!(sides[0].checksums, side.checksums, "{} at {n}", row.name);
         }
         // The first turn only warms up: memory, caches and the processor's clock.
         if turn == 0 {
-            for side in [&mut ours, &mut theirs, &mut plain, &mut kit] {
-                *side = Side::UNTIMED;
-            }
-        } else if turn >= turns && [ours, theirs, plain, kit].iter().all(Side::agrees) {
+            sides.fill(Side::UNTIMED);
+        } else if turn >= turns && sides.iter().all(Side::agrees) {
             break;
         }
     }
-    let of = |side: Side| side.of_operation(row.round, rounds * n);
+    let of = |side: &Side| side.of_operation(row.round, rounds * n);
     Times {
-        ours: of(ours),
-        theirs: of(theirs),
-        plain: of(plain),
-        kit: row.kit.map(|_| of(kit)),
+        ours: of(&sides[0]),
+        theirs: of(&sides[1]),
+        plain: of(&sides[2]),
+        fourth: sides.get(3).map(of),
     }
 }

@@ -2,12 +2,11 @@
 //! loop lies, nor on the machine's mood. `instructions WORD` prints a line for each row whose name has that word.
 //! `instructions SIDE ROW ROUNDS` does a row's work once, for callgrind to count.
 
-use std::error::Error;
 use std::process::{Command, ExitCode};
 use std::{env, hint::black_box};
-use wasmi_bench_driver::rows::{Row, ROWS};
-
-type Outcome<T> = Result<T, Box<dyn Error>>;
+use wasmi_bench_driver::progress::{each, Outcome};
+use wasmi_bench_driver::row::Row;
+use wasmi_bench_driver::rows::ROWS;
 
 /// How many items a row has here, and how many rounds are counted after the first.
 const ITEMS: u64 = 1 << 12;
@@ -45,11 +44,11 @@ fn work(side: &str, name: &str, rounds: &str) -> Outcome<()> {
 
 fn print_rows(word: &str) -> Outcome<()> {
     println!("| Row | Port | Rust crate |\n|---|---|---|");
-    for row in ROWS.iter().filter(|row| row.name.contains(word)) {
+    each(ROWS, word, |row| {
         let (ours, theirs) = (of_operation("ours", row)?, of_operation("theirs", row)?);
         println!("| {} | {ours:.1} | {theirs:.1} |", row.name);
-    }
-    Ok(())
+        Ok(())
+    })
 }
 
 // What more rounds take, divided among their operations: so what comes before them falls out.

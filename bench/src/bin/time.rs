@@ -2,17 +2,13 @@
 //! argument it times only the rows whose names have that word. A third names the same program of another build, which
 //! times them too: the lesser time counts. `time --lines` WORD prints the times alone.
 
-use std::error::Error;
 use std::process::{Command, ExitCode, Stdio};
 use std::{env, fs};
 use wasmi_bench_driver::chart::chart;
-use wasmi_bench_driver::rows::{Row, ROWS, SIZES};
-use wasmi_bench_driver::timing::{settle_heap, time, Times};
-
-type Outcome<T> = Result<T, Box<dyn Error>>;
-
-// A row's name, its number of items, and its times.
-type Entry = (&'static str, u64, Times);
+use wasmi_bench_driver::progress::{each, Outcome};
+use wasmi_bench_driver::row::Fourth;
+use wasmi_bench_driver::rows::ROWS;
+use wasmi_bench_driver::timing::{settle_heap, Entry};
 
 /// A ratio above this is more than noise.
 const NOISE: f64 = 1.05;
@@ -22,10 +18,7 @@ fn main() -> ExitCode {
     let word = arguments.get(1).map_or("", String::as_str);
     let outcome = match arguments.first().map(String::as_str) {
         None => Err("give the file to write the chart to".into()),
-        Some("--lines") => {
-            print_lines(&measure(word));
-            Ok(())
-        }
+        Some("--lines") => print_lines(word),
         Some(file) => print_tables(file, word, arguments.get(2)),
     };
     match outcome {
@@ -37,27 +30,25 @@ fn main() -> ExitCode {
     }
 }
 
-fn measure(word: &str) -> Vec<Entry> {
+fn measure(word: &str) -> Outcome<Vec<Entry>> {
     settle_heap();
-    let rows: Vec<&Row> = ROWS.iter().filter(|row| row.name.contains(word)).collect();
     let mut entries = Vec::new();
-    for (row, left) in rows.iter().zip((0..rows.len()).rev()) {
-        for n in SIZES.into_iter().filter(|n| *n <= row.most) {
-            entries.push((row.name, n, time(row, n)));
-        }
-        eprintln!("{} timed, {left} left", row.name);
-    }
-    entries
+    each(ROWS, word, |row| {
+        entries.extend(row.sizes.iter().map(|n| Entry::new(row, *n)));
+        Ok(())
+    })?;
+    Ok(entries)
 }
 
-fn print_lines(entries: &[Entry]) {
-    for (_, _, times) in entries {
-        println!("{times}");
+fn print_lines(word: &str) -> Outcome<()> {
+    for entry in measure(word)? {
+        println!("{}", entry.times);
     }
+    Ok(())
 }
 
 fn print_tables(file: &str, word: &str, other: Option<&String>) -> Outcome<()> {
-    let mut entries = measure(word);
+    let mut entries = measure(word)?;
     if let Some(program) = other {
         let output = Command::new(program)
             .args(["--lines", word])
@@ -67,13 +58,15 @@ fn print_tables(file: &str, word: &str, other: Option<&String>) -> Outcome<()> {
         if lines.lines().count() != entries.len() {
             return Err(format!("{program} timed other rows").into());
         }
-        for ((_, _, times), line) in entries.iter_mut().zip(lines.lines()) {
-            *times = times.least(line.parse()?);
+        for (entry, line) in entries.iter_mut().zip(lines.lines()) {
+            entry.times = entry.times.least(line.parse()?);
         }
     }
     print_rows(&entries);
     print_mean(&entries);
-    print_beside_kit(&entries);
+    for title in [Fourth::KIT, Fourth::UNBOUNDED] {
+        print_beside(&entries, title);
+    }
     fs::write(file, chart(&entries)).map_err(|error| format!("{file}: {error}"))?;
     Ok(())
 }
@@ -81,10 +74,10 @@ fn print_tables(file: &str, word: &str, other: Option<&String>) -> Outcome<()> {
 fn print_rows(entries: &[Entry]) {
     println!("| Row | Items | Port, ns | Rust crate, ns | Plain, ns | Port / Rust crate | Port / plain |");
     println!("|---|---|---|---|---|---|---|");
-    for (name, n, times) in entries {
+    for entry in entries {
+        let times = entry.times;
         println!(
-            "| {name} | 2^{} | {:.2} | {:.2} | {:.2} | {:.2} | {:.2} |",
-            n.trailing_zeros(),
+            "| {entry} | {:.2} | {:.2} | {:.2} | {:.2} | {:.2} |",
             times.ours,
             times.theirs,
             times.plain,
@@ -98,7 +91,7 @@ fn print_rows(entries: &[Entry]) {
 fn print_mean(entries: &[Entry]) {
     let ratios: Vec<f64> = entries
         .iter()
-        .map(|(_, _, times)| times.to_theirs())
+        .map(|entry| entry.times.to_theirs())
         .collect();
     let logarithms: f64 = ratios.iter().map(|ratio| ratio.ln()).sum();
     println!(
@@ -109,20 +102,19 @@ fn print_mean(entries: &[Entry]) {
     );
 }
 
-// The rows that stand on a container of the standard library that the port is built with, beside that container.
-fn print_beside_kit(entries: &[Entry]) {
-    if entries.iter().all(|(_, _, times)| times.kit.is_none()) {
+// The rows that have a fourth side of this title, beside it.
+fn print_beside(entries: &[Entry], title: &str) {
+    let beside: Vec<(&Entry, f64)> = entries
+        .iter()
+        .filter_map(|entry| Some((entry, entry.fourth(title)?)))
+        .collect();
+    if beside.is_empty() {
         return;
     }
-    println!("\n| Row | Items | Port, ns | The kit's, ns | Port / the kit's |");
+    println!("\n| Row | Items | Port, ns | {title}, ns | Port / that |");
     println!("|---|---|---|---|---|");
-    for (name, n, times) in entries {
-        if let (Some(kit), Some(ratio)) = (times.kit, times.to_kit()) {
-            let power = n.trailing_zeros();
-            println!(
-                "| {name} | 2^{power} | {:.2} | {kit:.2} | {ratio:.2} |",
-                times.ours
-            );
-        }
+    for (entry, time) in beside {
+        let ours = entry.times.ours;
+        println!("| {entry} | {ours:.2} | {time:.2} | {:.2} |", ours / time);
     }
 }

@@ -78,14 +78,17 @@ pub fn intern_again<I: InternerRows, K: Names>(n: u64, rounds: u64) -> u64 {
     (0..rounds).fold(sum, |sum, _| fill(&mut interner, &names, sum))
 }
 
+/// The next index below `n`, a power of two, of which few come often: of two random ones, one times the other.
+pub fn few_often(state: &mut u64, n: u64) -> usize {
+    let (one, other) = (next_index(state, n), next_index(state, n));
+    (one * other) >> n.trailing_zeros()
+}
+
 #[inline(never)]
 fn ask<I: InternerRows>(interner: &mut I, names: &[String], n: u64, before: u64) -> u64 {
-    let len = names.len() as u64;
     let (mut state, mut sum) = (1, before);
     for _ in 0..n {
-        let one = next_index(&mut state, len);
-        let other = next_index(&mut state, len);
-        let name = &names[(one * other) >> len.trailing_zeros()];
+        let name = &names[few_often(&mut state, names.len() as u64)];
         sum = sum.wrapping_add(interner.intern(name));
     }
     sum

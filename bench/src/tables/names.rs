@@ -21,6 +21,9 @@ pub struct Mangled;
 /// A word and a number.
 pub struct Identifiers;
 
+/// Texts of 32 bytes that all have one hash in the port's interner.
+pub struct Colliding;
+
 const WORDS: [&str; 16] = [
     "arena",
     "block",
@@ -79,6 +82,17 @@ impl Names for Identifiers {
     }
 }
 
+impl Names for Colliding {
+    fn name(number: u64) -> String {
+        format!("they-meet-xaennpvzjyrlqs{number:08x}")
+    }
+}
+
+/// Another number below `n` for each number below it, in no order. `n` is a power of two.
+pub fn scattered(number: u64, n: u64) -> u64 {
+    number.wrapping_mul(0x9e3779b1) & n.wrapping_sub(1)
+}
+
 /// `n` names of a kind, no two alike, in the order of their numbers. `n` is a power of two.
 pub fn ascending<K: Names>(n: u64) -> Vec<String> {
     (0..n).map(K::name).collect()
@@ -86,7 +100,5 @@ pub fn ascending<K: Names>(n: u64) -> Vec<String> {
 
 /// The same in no order.
 pub fn names<K: Names>(n: u64) -> Vec<String> {
-    (0..n)
-        .map(|i| K::name(i.wrapping_mul(0x9e3779b1) & n.wrapping_sub(1)))
-        .collect()
+    (0..n).map(|i| K::name(scattered(i, n))).collect()
 }
