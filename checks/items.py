@@ -5,7 +5,7 @@ next one begins.
 """
 import re, textwrap
 
-from sources import ANGLES, Repository, read
+from sources import ANGLES, LIBRARIES, Repository, read
 
 ITEM = re.compile(r'(pub(?:\(.*?\))? )?(?:const (?=fn|unsafe)|unsafe )*'
                   r'(fn|struct|enum|trait|type|const|ghost(?! use)|mod|macro)(?:_rules!)? (\w+)')
@@ -85,10 +85,8 @@ class Libraries:
 
     def __init__(self):
         self.repository, self.roots, self.specs, self.impls, self.shown, self.anchors = Repository(), {}, {}, [], [], set()
-        for crate, line in self.repository.crates.items():
-            file = f'crates/{crate}/src/lib.rt'
-            if line.startswith(crate + ':') and file in self.repository.files and not crate.endswith('_tests'):
-                self.roots[crate] = self.read_module(Item('mod', crate, None, file))
+        for crate in LIBRARIES:
+            self.roots[crate] = self.read_module(Item('mod', crate, None, f'crates/{crate}/src/lib.rt'))
         for path in sorted(self.repository.files):
             if (of := re.fullmatch(r'crates/(\w+)/specs/(\w+)\.antt', path)) and of[1] in self.roots:
                 self.specs[of[1], of[2]] = self.read_definitions(Item('specs', of[2], None, path, text=read(path)))
