@@ -202,6 +202,7 @@ fn the_middle_is_compared_first(rt: HostRuntime) {
         ("p", 17),
     ] {
         let text = lettered(&rt, rt.alloc(), ONE_HASH, letter);
+        assert!(rt; steps.count() < 17, "of {letter}");
         let _symbol = interner.get_counted(text.as_str(), &mut steps);
         assert_equal!(rt; steps.count(), count, "of {letter}");
     }
@@ -309,10 +310,10 @@ fn a_hundred_thousand_texts_are_found(rt: HostRuntime) {
     let mut steps = Steps::new();
     for number in 0..100_003 {
         let text = scattered(&rt, rt.alloc(), number);
+        assert!(rt; steps.count() < 100_200, "{} steps", steps.count());
         let symbol = copy.get_counted(text.as_str(), &mut steps);
         assert_equal!(rt; symbol, Some(Sym::from_u32(number)));
     }
-    assert!(rt; steps.count() < 100_200, "{} steps", steps.count());
     assert!(rt; interner.get("100003").is_none());
     assert_equal!(rt; &copy, &interner);
 }
