@@ -8,3 +8,4 @@ mod Meeting
 mod RestBlocks
 pub mod Symbols
 mod WithSymbols
+pub mod Searched

@@ -1,5 +1,5 @@
 -- Facts on the symbols of texts.
-use Rattle.std.proofs.Common.{◌≡◌, ◌≢◌, ℕ, zero, suc, ◌+◌, Bool, true, false, cond, ◌||◌, List, [], ◌∷◌, ◌++◌, length, Some, None, slice_get, refl, sym, ap, subst, ◌∙◌, is_some, true≢false, arith}
+use Rattle.std.proofs.Common.{◌≡◌, ◌≢◌, ℕ, zero, suc, ◌+◌, Bool, true, false, cond, ◌||◌, List, [], ◌∷◌, ◌++◌, length, Option, Some, None, IfSome, slice_get, refl, sym, ap, subst, ◌∙◌, is_some, true≢false, arith}
 use Rattle.std.specs.Cmp.Lexicographic.{nat_list_eq_equiv}
 use Rattle.std.specs.List.{AllByRecursion, list_any, position_from}
 use Rattle.std.specs.Str.{bytes_eq}
@@ -108,3 +108,8 @@ module _ (text : List ℕ) where
   -- a text that has none stands nowhere
   pub nowhere : (texts : List (List ℕ)) → AreDistinctTexts texts → symbol_of texts text ≡ None → (s : ℕ) → slice_get texts s ≢ Some text
   nowhere texts distinct absent s at = none-some s (sym absent ∙ symbol_of-at texts s distinct at)
+
+  -- what has its symbol, if anything, reads it
+  pub symbol_reads : (texts : List (List ℕ)) (symbol : Option ℕ) → symbol ≡ symbol_of texts text → IfSome symbol (λ s. slice_get texts s ≡ Some text)
+  symbol_reads texts None is = tt
+  symbol_reads texts (Some s) is = symbol_of-Some texts s (sym is)

@@ -179,28 +179,37 @@ impl<A: Allocator> Index<A> {
                 self.slots.set(place, Entry::marker(sought.hash));
             }
             Place::Beside(place) => self.move_to_rest(place, sought.texts)?,
-            Place::Rest(_) => {}
+            Place::Rest(rank) => return self.reserve_in_rest(rank, sought),
         }
-        self.reserve_in_rest(sought)
+        let rank = self.rank_in_rest(sought);
+        self.reserve_in_rest(rank, sought)
     }
 
-    // Makes room in the rest for the entry of a new text.
-    #[inline(never)]
-    fn reserve_in_rest(&mut self, sought: &Sought<'_, A>) -> Result<Place, ArenaError>
+    // Makes room in the rest for the entry of a new text, which belongs at a rank there, and returns that place.
+    fn reserve_in_rest(&mut self, rank: usize, sought: &Sought<'_, A>) -> Result<Place, ArenaError>
     where
         A: Clone,
         requires indexed { IsIndexOf sought.now.texts.now self.old.slots self.old.rest.entries }
-        requires absent { symbol_of sought.now.texts.now sought.now.text.now ≡ None }
-        requires met { met_in self.old.slots sought.now.hash ≡ rest }
+        requires belongs { BelongsAt sought.now.texts.now self.old.slots self.old.rest.entries sought.now.hash sought.now.text.now (Place.Rest rank) }
         requires few { length sought.now.texts.now < 2 ^ 32 }
         ensures ready { IfOk result (λ place. IsReady sought.now.texts.now self.new.slots self.new.rest sought.now.hash sought.now.text.now place) }
         ensures indexed { IsIndexOf sought.now.texts.now self.new.slots self.new.rest.entries }
         ensures errors { IsOkUnless result ArenaError.OutOfSystemMemory }
     {
         self.rest.reserve()?;
+        Ok(Place::Rest(rank))
+    }
+
+    // The rank where the entry of a new text belongs in the rest.
+    fn rank_in_rest(&self, sought: &Sought<'_, A>) -> usize
+        requires indexed { IsIndexOf sought.now.texts.now self.now.slots self.now.rest.entries }
+        requires absent { symbol_of sought.now.texts.now sought.now.text.now ≡ None }
+        requires met { met_in self.now.slots sought.now.hash ≡ rest }
+        ensures { BelongsAt sought.now.texts.now self.now.slots self.now.rest.entries sought.now.hash sought.now.text.now (Place.Rest result) }
+    {
         match find_in_rest(&self.rest, sought, &mut Steps::new()) {
             Ok(_) => unreachable!(),
-            Err(rank) => Ok(Place::Rest(rank)),
+            Err(rank) => rank,
         }
     }
 

@@ -1,8 +1,10 @@
 //! Laws of the length order, of symbols and interned texts, and of the steps of a search, as contracts of functions.
-ghost use Rattle.std.specs.Prelude.{◌≡◌, ◌↔◌, ◌<◌, ◌≤◌, ◌^◌, ◌∷◌, ◌++◌, [], ℕ, List, length, IsTrue, None, Some, slice_get};
+ghost use Rattle.std.specs.Prelude.{◌≡◌, ◌↔◌, ◌==◌, ◌<◌, ◌≤◌, ◌^◌, ◌∷◌, ◌++◌, [], ℕ, List, false, length, map, position, IsTrue, None, Some, slice_get, slice_index_or};
 ghost use Rattle.std.specs.Cmp.{IsTotalOrder};
 ghost use Rattle.std.specs.Cmp.Lexicographic.{slice_cmp};
+ghost use Rattle.std.specs.List.{All};
 ghost use Rattle.std.specs.Ordering.{nat_cmp};
+ghost use Rattle.std.specs.Str.{bytes_eq};
 ghost use Rattle.wasmi_interner.specs.BinaryDigits.{digits};
 ghost use Rattle.wasmi_interner.specs.Interner.{symbol_of, AreDistinctTexts, Interns};
 ghost use Rattle.wasmi_interner.specs.LenOrder.{len_cmp, text_of};
@@ -51,6 +53,20 @@ pub fn symbols_of_distinct_texts()
         → symbol_of texts text ≡ Some symbol → slice_get texts symbol ≡ Some text }
     ensures stands { (texts : List (List ℕ)) (text : List ℕ) (symbol : ℕ) → AreDistinctTexts texts
         → slice_get texts symbol ≡ Some text → symbol_of texts text ≡ Some symbol }
+{}
+
+/// Among distinct texts, to search symbols is to search texts: what a symbol reads is a text exactly where it is that
+/// text's symbol, and never where the text has none. So in the texts of some symbols a text stands first where its
+/// symbol stands first among these.
+pub fn searched_by_symbols()
+    ensures test { (texts : List (List ℕ)) (text : List ℕ) (symbol k : ℕ) → AreDistinctTexts texts
+        → symbol_of texts text ≡ Some symbol → k < length texts
+        → bytes_eq text (slice_index_or texts k []) ≡ (symbol == k) }
+    ensures no_symbol { (texts : List (List ℕ)) (text : List ℕ) (k : ℕ) → AreDistinctTexts texts
+        → symbol_of texts text ≡ None → k < length texts → bytes_eq text (slice_index_or texts k []) ≡ false }
+    ensures position { (texts : List (List ℕ)) (text : List ℕ) (symbol : ℕ) (symbols : List ℕ) → AreDistinctTexts texts
+        → symbol_of texts text ≡ Some symbol → All (λ k. k < length texts) symbols
+        → position (bytes_eq text) (map (λ k. slice_index_or texts k []) symbols) ≡ position (λ k. symbol == k) symbols }
 {}
 
 /// As many binary digits as a number has, which is below 2^64, so many has the least power of two above it

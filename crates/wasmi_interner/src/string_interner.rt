@@ -1,5 +1,5 @@
 //! A list of distinct texts, each under a symbol.
-ghost use Rattle.std.specs.Prelude.{ℕ, List, ◌≡◌, ◌+◌, ◌==◌, ◌<◌, ◌≤◌, ◌^◌, ◌↔◌, ◌⊎◌, [], ◌∷◌, ◌++◌, length, IfOk, IfErr, OnOk, OnErr, IsErrOf, IsOkUnless, None, Some, Ok, option_copied, is_some, slice_get, decimal};
+ghost use Rattle.std.specs.Prelude.{ℕ, List, ◌≡◌, ◌+◌, ◌==◌, ◌<◌, ◌≤◌, ◌^◌, ◌↔◌, ◌⊎◌, [], ◌∷◌, ◌++◌, length, IfOk, IfErr, IfSome, OnOk, OnErr, IsErrOf, IsOkUnless, None, Some, Ok, option_copied, is_some, slice_get, decimal};
 ghost use Rattle.std.specs.Cmp.Lexicographic.{pointwise, lists_per, lists_equiv, nat_list_eq_equiv};
 ghost use Rattle.std.specs.Fmt.{styled_decimal};
 ghost use Rattle.std.specs.Iterator.{IsFiniteIterable};
@@ -96,8 +96,12 @@ impl<A: Allocator> StringInterner<A> {
     /// The symbol of a text, if it is there. Expected constant time, and linear in the text. In the worst case a binary
     /// search, which compares at most as many texts as their number has binary digits. No allocation.
     pub fn get(&self, text: &str) -> Option<Sym>
-        ensures { result ≡ symbol_of self.now text.now }
+        ensures symbol { result ≡ symbol_of self.now text.now }
+        ensures reads { IfSome result (λ symbol. slice_get self.now symbol ≡ Some text.now) }
+        ensures alone { (symbol : ℕ) → slice_get self.now symbol ≡ Some text.now → result ≡ Some symbol }
     {
+        // proof: the texts are distinct.
+        let _ = self.len();
         self.get_counted(text, &mut Steps::new())
     }
 
