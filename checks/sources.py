@@ -54,7 +54,7 @@ class Repository:
             of = re.match(r'\s*ghost use Rattle\.(\w+)\.specs\.([A-Z]\w*)\.\{([^}]*)\}', uses)
             if of and of[1] in LIBRARIES:
                 from_crate = self.handed_on.get((of[1], of[2]), of[1])
-                self.imports.setdefault(path, {}).update({word.strip(): from_crate for word in of[3].split(',')})
+                self.imports.setdefault(path, {}).update({word.strip(): (from_crate, of[2]) for word in of[3].split(',')})
         self.exported.update(re.findall(r'(?m)^pub mod (\w+)', text))
         self.names.update(re.findall(r'\b(?:macro_rules!|mod) (\w+)', text), re.findall(r'(?m)^ +(?:pub )?(\w+): ', text))
         if crate in ('wasmi_replay', 'wasmi_script_lib') or path.endswith('/error.rt'):  # the words of lines and errors

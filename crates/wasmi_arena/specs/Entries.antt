@@ -8,6 +8,7 @@ module _ {K T : Type 0} (keys : Keys K) where
   entries_from from [] = []
   entries_from from (x ∷ xs) = (keys.key from, x) ∷ entries_from (from + 1) xs
 
-  -- each item of an arena beside its key
+  -- each item of an arena beside its key.
+  -- Of 7, 8 under `NonZero<u32>`: (1, 7), (2, 8).
   abbrev pub entries : List T → List (K × T)
   entries items = entries_from 0 items

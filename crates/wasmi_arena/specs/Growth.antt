@@ -17,17 +17,20 @@ RefusesOneMore limit n DuplicateItem = ⊥
 
 -- what is made an iterator by `becomes`, which then steps by `steps`
 module _ {U S T : Type 0} (becomes : U → S → Type 0) (steps : S → Option T → S → Type 0) where
-  -- all its items went in at the end, in order
+  -- all its items went in at the end, in order.
+  -- `extend` of 7 by 8, 9: 7, 8, 9.
   abbrev pub TakesAll : U → List T → List T → Type 0
   TakesAll iter old new = (it : S) × (xs : List T) × becomes iter it × Drains steps it xs × (new ≡ old ++ xs)
 
-  -- its items went in at the end, in order, up to one that did not
+  -- its items went in at the end, in order, up to one that did not.
+  -- Up to 9: 7, 8.
   abbrev pub TakesUpTo : U → List T → List T → Type 0
   TakesUpTo iter old new =
       (it : S) × (xs : List T) × (x : T) × (rest : S) × becomes iter it × YieldsThen steps it xs (Some x) rest
       × (new ≡ old ++ xs)
 
-  -- its items went in at the end, in order, up to one that was refused
+  -- its items went in at the end, in order, up to one that was refused.
+  -- `extend` of 30 items by 5 without memory: two go in, then `OutOfSystemMemory`.
   abbrev pub TakesUntilRefused : ℕ → U → List T → List T → ArenaError → Type 0
   TakesUntilRefused limit iter old new error = TakesUpTo iter old new × RefusesOneMore limit (length new) error
 
@@ -39,6 +42,7 @@ Came steps it rest xs = MatchOption rest (Drains steps it xs) (λ left. Yields s
 abbrev pub TakesSome : {S T : Type 0} → (S → Option T → S → Type 0) → S → Option S → List T → List T → Type 0
 TakesSome {S} {T} steps it rest old new = (xs : List T) × (new ≡ old ++ xs) × Came steps it rest xs
 
--- so many items went in at the end, and `P` holds of each
+-- so many items went in at the end, and `P` holds of each.
+-- `alloc_many(2)` of numbers: 0, 0.
 abbrev pub AppendsMany : {T : Type 0} → (T → Type 0) → ℕ → List T → List T → Type 0
 AppendsMany {T} P amount old new = (made : List T) × (new ≡ old ++ made) × (length made ≡ amount) × All P made

@@ -6,7 +6,8 @@ use Rattle.wasmi_arena.specs.Table.{items_in, AreFilled}
 use Rattle.wasmi_arena.specs.declared.bucket_table.loan.ItemsLoan.{ItemsLoan}
 
 module _ {X : Type 0} where
-  -- what is left to visit
+  -- what is left to visit.
+  -- Of `iter_mut()` on 7, 8 after one `next`: 8.
   abbrev pub left : List X × GName → List X
   left it = it.0
 
@@ -14,7 +15,8 @@ module _ {X : Type 0} where
   abbrev pub loan_of : List X × GName → GName
   loan_of it = it.1
 
--- whatever is written through a loan of all items, there are as many of them
+-- whatever is written through a loan of all items, there are as many of them.
+-- This is true of every list.
 abbrev pub KeepsLength : {T : Type 0} → List T → Type 0
 KeepsLength {T = T} items = (last : List T) → length (refill (length items) items last) ≡ length items
 

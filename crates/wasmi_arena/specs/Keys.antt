@@ -10,19 +10,22 @@ pub record Keys (K : Type 0) : Type 0 where
   pub key : ℕ → K
   pub number : K → ℕ
 
--- there are at most 2^64 keys, and each number below their count is the number of its key
+-- there are at most 2^64 keys, and each number below their count is the number of its key.
+-- Of `NonZero<u32>` the key of 0 holds 1, and its number is 0.
 pub record KeyLaw {K : Type 0} (keys : Keys K) : Type 0 where
   pub few : keys.count ≤ 2 ^ 64
   pub numbered : (n : ℕ) → n < keys.count → keys.number (keys.key n) ≡ n
 
--- a number of so many values is its own key
+-- a number of so many values is its own key.
+-- Of `u32` the keys are `own_keys (2 ^ 32)`.
 abbrev pub own_keys : ℕ → Keys ℕ
 own_keys count = record { count = count; key = λ n. n; number = λ k. k }
 
 pub above_zero : (n : ℕ) → 0 < n + 1
 above_zero n = omega arith
 
--- the key of n holds n + 1, so the greatest number of the type has none
+-- the key of n holds n + 1, so the greatest number of the type has none.
+-- So `NonZero::<u32>::from_usize(4294967295)` is `None`.
 abbrev pub non_zero_u32_keys : Keys NonZeroU32
 non_zero_u32_keys = record {
   count = 2 ^ 32 - 1;
@@ -30,6 +33,7 @@ non_zero_u32_keys = record {
   number = λ k. k.value - 1;
 }
 
+-- the same of 64 bits
 abbrev pub non_zero_usize_keys : Keys NonZeroUsize
 non_zero_usize_keys = record {
   count = 2 ^ 64 - 1;

@@ -7,7 +7,8 @@ use Rattle.wasmi_arena.specs.declared.error.ArenaError.{ArenaError}
 use Rattle.wasmi_arena.specs.declared.error.ArenaError.TheVariants.{OutOfSystemMemory, KeyOutOfBounds, NotEnoughKeys, AliasingPairAccess, DuplicateItem}
 use Rattle.wasmi_map_specs.specs.Maps.{value_at}
 
--- the values as they were handed in, and the items that stand there now
+-- the values as they were handed in, and the items that stand there now.
+-- x handed in, then y written under its key: the value handed in is x, the item y.
 pub record DedupState (T : Type 0) : Type 0 where
   pub handed : List T
   pub items : List T
@@ -19,7 +20,8 @@ module _ {K T : Type 0} (keys : Keys K) where
   keyed_from from [] = []
   keyed_from from (x ∷ xs) = (x, keys.key from) ∷ keyed_from (from + 1) xs
 
-  -- each value handed in beside its key: the entries of the index
+  -- each value handed in beside its key: the entries of the index.
+  -- Of x, y: (x, 0), (y, 1).
   abbrev pub keyed : List T → List (T × K)
   keyed handed = keyed_from 0 handed
 
@@ -71,7 +73,8 @@ module _ {K T : Type 0} (keys : Keys K) where
     RefusesValue old value DuplicateItem = ⊥
 
     -- a value that isn't among those handed in takes the place of the one that was handed in under a key,
-    -- and a clone of it that of the item, which is handed back
+    -- and a clone of it that of the item, which is handed back.
+    -- z under key 0 of x, y in both lists: then z, y in both, and x is handed back.
     pub record MovesKey (clones : T → T → Type 0) (old : DedupState T) (key : K) (value there : T)
         (new : DedupState T) : Type 0 where
       pub absent : position (eq value) old.handed ≡ None
@@ -107,7 +110,8 @@ module _ {K T : Type 0} (keys : Keys K) where
       abbrev pub AllocatesValue : DedupState T → T → K → DedupState T → Type 0
       AllocatesValue old value key new = FindsValue old value key new ⊎ AddsValue clones old value key new
 
-      -- all these values have, one after another
+      -- all these values have, one after another.
+      -- From nothing, a, b, a leave a, b in both lists.
       abbrev pub AllocatesEach : DedupState T → List T → DedupState T → Type 0
       AllocatesEach old [] new = new ≡ old
       AllocatesEach old (value ∷ values) new =

@@ -9,7 +9,8 @@ use Rattle.wasmi_collections.specs.declared.run.dedup.DedupReply.{DedupReply}
 use Rattle.wasmi_collections.specs.declared.run.dedup.DedupReply.TheVariants.{Key, Old, Has as HasReply, Done, Refused}
 
 module _ {K T : Type 0} (keys : Keys K) (eq : T → T → Bool) (clones : T → T → Type 0) where
-  -- from old, the arena may give this reply to the command and go on to new
+  -- from old, the arena may give this reply to the command and go on to new.
+  -- From x, `Alloc y` is replied to by the key of 1, and leaves x, y in both lists.
   abbrev pub DedupStep : DedupState T → DedupCommand K T → DedupReply K T → DedupState T → Type 0
   DedupStep old (Alloc value) (Key key) new = AllocatesValue keys eq clones old value key new
   DedupStep old (Alloc value) (Refused error) new = RefusesValue keys eq old value error × (new ≡ old)

@@ -7,7 +7,8 @@ use Rattle.std.specs.Ordering.{ordering_then, partial_ordering_then}
 use Rattle.std.specs.Cmp.Lexicographic.{slice_cmp, slice_partial_cmp}
 use Rattle.std.specs.Vec.{vec_items, vec_len, vec_capacity}
 
--- what a head vector is: the list of its items, and how many more can be pushed before memory is asked for
+-- what a head vector is: the list of its items, and how many more can be pushed before memory is asked for.
+-- An empty one has room for 1.
 pub record HeadState (T : Type 0) : Type 0 where
   pub items : List T
   pub room : ℕ
@@ -20,20 +21,24 @@ state_of last rest = record {
 }
 
 module _ {T : Type 0} where
-  -- the last item of a list, if it has one
+  -- the last item of a list, if it has one.
+  -- Of 1, 2: 2.
   abbrev pub last_item : List T → Option T
   last_item items = slice_get items (length items - 1)
 
-  -- what stands before the last item
+  -- what stands before the last item.
+  -- Of 1, 2: 1.
   abbrev pub before_last : List T → List T
   before_last items = take (length items - 1) items
 
-  -- the same list, with another last item
+  -- the same list, with another last item.
+  -- 1, 2 with 9: 1, 9.
   abbrev pub with_last : List T → T → List T
   with_last items last = before_last items ++ last ∷ []
 
   -- The order of head vectors: the last items decide, where no last item is less than any, and if
   -- these are equal the lists of what stands before them.
+  -- [2, 1] is less than [1, 2], and so is [2] (`laws::head_vec_order`).
   abbrev pub head_cmp : (T → T → Ordering) → List T → List T → Ordering
   head_cmp cmp xs ys =
       ordering_then

@@ -6,7 +6,8 @@ use Rattle.wasmi_collections.specs.declared.run.interner.InternCommand.TheVarian
 use Rattle.wasmi_collections.specs.declared.run.interner.InternReply.{InternReply}
 use Rattle.wasmi_collections.specs.declared.run.interner.InternReply.TheVariants.{Sym, Found, Len as LenReply, Refused}
 
--- from old, the interner may give this reply to the command and go on to new
+-- from old, the interner may give this reply to the command and go on to new.
+-- From b, `Intern a` is replied to by `Sym 1`, and leaves b, a.
 abbrev pub InternStep : List (List ℕ) → InternCommand → InternReply → List (List ℕ) → Type 0
 InternStep old (Intern text hint) (Sym symbol) new = Interns old (string_bytes text) symbol new
 InternStep old (Intern text hint) (Refused error) new = RefusesText old (string_bytes text) error × (new ≡ old)

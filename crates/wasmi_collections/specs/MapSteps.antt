@@ -8,7 +8,8 @@ use Rattle.wasmi_collections.specs.declared.run.map.MapReply.{MapReply}
 use Rattle.wasmi_collections.specs.declared.run.map.MapReply.TheVariants.{Old, Has as HasReply, Len as LenReply, Done, Refused}
 
 module _ {K V : Type 0} (eq : K → K → Bool) where
-  -- from old, the map may give this reply to the command and go on to new
+  -- from old, the map may give this reply to the command and go on to new.
+  -- From (1, a), `OrInsert 1 b` is replied to by `HasReply true`, and (1, a) stays.
   abbrev pub MapStep : List (K × V) → MapCommand K V → MapReply V → List (K × V) → Type 0
   MapStep old (Insert key value) (Old there) new = PutsValue eq old key value there new
   MapStep old (Insert key value) (Refused error) new = RefusesKey eq old key error × (new ≡ old)

@@ -36,7 +36,8 @@ module _ {T : Type 0} (eq : T → T → Bool) where
   abbrev pub SameElements : List T → List T → Type 0
   SameElements a b = ((q : T) → is_member eq a q ≡ is_member eq b q) × (length a ≡ length b)
 
-  -- the third set has an element exactly where `op` says so of whether the first has it, and the second
+  -- the third set has an element exactly where `op` says so of whether the first has it, and the second.
+  -- With `or` it is their union.
   abbrev pub IsCombined : (Bool → Bool → Bool) → List T → List T → List T → Type 0
   IsCombined op xs ys zs = (q : T) → is_member eq zs q ≡ op (is_member eq xs q) (is_member eq ys q)
 

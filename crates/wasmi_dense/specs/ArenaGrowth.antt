@@ -9,7 +9,8 @@ abbrev pub FillsBlock : ℕ → Type 0
 FillsBlock n = (n ≡ 0) ⊎ ((k : ℕ) × (n ≡ 4 * 2 ^ k))
 
 -- why one more item is refused by an arena of n items that came one by one, of which it holds at most
--- `limit`: it is full, or it isn't but has no room and got no memory
+-- `limit`: it is full, or it isn't but has no room and got no memory.
+-- After 2 items memory can't run out.
 abbrev pub RefusesOneMore : ℕ → ℕ → ArenaError → Type 0
 RefusesOneMore limit n NotEnoughKeys = limit ≤ n
 RefusesOneMore limit n OutOfSystemMemory = (n < limit) × FillsBlock n
@@ -18,7 +19,8 @@ RefusesOneMore limit n AliasingPairAccess = ⊥
 RefusesOneMore limit n DuplicateItem = ⊥
 
 -- what is made an iterator by `becomes`, which then steps by `steps`: its items went in at the end, in
--- order, up to one that was refused
+-- order, up to one that was refused.
+-- Five items under four keys: four go in, then `NotEnoughKeys`.
 abbrev pub TakesUntilRefused : {U S T : Type 0} → (U → S → Type 0) → (S → Option T → S → Type 0)
     → ℕ → U → List T → List T → ArenaError → Type 0
 TakesUntilRefused becomes steps limit iter old new error =

@@ -14,7 +14,8 @@ module _ (K R A : RattleType) (keys : key.Ghosts K.Denot) (heap : alloc.Ghosts A
   with_item arena k last = record arena { items = slice_set arena.items (keys.keys.number k) last }
 
   -- the item under that key is what was written last through the reference, where there is such an
-  -- item, and nothing else changes
+  -- item, and nothing else changes.
+  -- `*arena.get_mut(1)? = 9` on 7, 8: 7, 9.
   abbrev pub lends_get : MutBor (ArenaState R.Denot) → K.Denot → Result (MutBor R.Denot) ArenaError → Fml
   lends_get arena k item = LendsIfOk (the_row K R A keys heap) R arena item (with_item arena.now k) arena.now
 

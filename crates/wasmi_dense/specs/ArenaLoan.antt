@@ -7,11 +7,13 @@ use Rattle.wasmi_arena.specs.Entries.{entries_from}
 use Rattle.wasmi_dense.specs.declared.arena.iter_mut.IterMut.{IterMut}
 
 module _ {K T : Type 0} where
-  -- the keys and items that are left to visit
+  -- the keys and items that are left to visit.
+  -- After one `next` over 7, 8: (1, 8).
   abbrev pub left_entries : Keys K → IterMut K T → List (K × T)
   left_entries keys it = entries_from keys it.next (iter_mut_rest it.items)
 
-  -- where positions are left, each has a key, and the one behind them is a number too
+  -- where positions are left, each has a key, and the one behind them is a number too.
+  -- `next` asks for this, and `iter_mut` gives it.
   abbrev pub IsKeyed : Keys K → IterMut K T → Type 0
   IsKeyed keys it = 0 < length (iter_mut_rest it.items)
       → (it.next + length (iter_mut_rest it.items) ≤ keys.count) × (it.next + length (iter_mut_rest it.items) < 2 ^ 64)
@@ -20,6 +22,7 @@ module _ {K T : Type 0} where
   abbrev pub loan_of : IterMut K T → GName
   loan_of it = iter_mut_name it.items
 
--- the items with others written over the first of them
+-- the items with others written over the first of them.
+-- 9 over 7, 8: 9, 8.
 abbrev pub written : {T : Type 0} → List T → List T → List T
 written items last = take (length items) (last ++ drop (length last) items)

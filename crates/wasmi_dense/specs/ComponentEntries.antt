@@ -13,6 +13,7 @@ module _ {K T : Type 0} (keys : Keys K) where
   components_from number [] = []
   components_from number (slot ∷ slots) = component_under number slot ++ components_from (number + 1) slots
 
-  -- each component beside its key, ascending
+  -- each component beside its key, ascending.
+  -- Of 7 at 0 and 9 at 3: (0, 7), (3, 9).
   abbrev pub component_entries : List (Option T) → List (K × T)
   component_entries slots = components_from 0 slots

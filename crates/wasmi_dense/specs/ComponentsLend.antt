@@ -14,7 +14,8 @@ module _ (K R A : RattleType) (keys : key.Ghosts K.Denot) (heap : alloc.Ghosts A
   abbrev pub lends_get : MutBor (List (Option R.Denot)) → K.Denot → Option (MutBor R.Denot) → Fml
   lends_get vec k component = LendsIf (the_row K R A heap) R vec component (with_component vec.now (keys.keys.number k)) vec.now
 
-  -- the same of a key that reads a component
+  -- the same of a key that reads a component.
+  -- `components[key] = 8` writes so.
   abbrev pub lends_component : MutBor (List (Option R.Denot)) → K.Denot → MutBor R.Denot → Fml
   lends_component vec k component = Lends (the_row K R A heap) R vec component (with_component vec.now (keys.keys.number k))
 

@@ -65,11 +65,13 @@ module _ (K V S A H : RattleType) {g : eq.Ghosts K.Denot} {h : hash.Ghosts K.Den
   abbrev pub inner_rests : {E : Type 0} → MutBor (HashMap K.Denot V.Denot S.Denot) → Result (Place K.Denot V.Denot S.Denot A.Denot H.Denot g h b w) E → Fml
   inner_rests m r = RestsIfErr (InnerRow K V S A H g h b w heap) m (λ e. (entry_map_ref e).ghost_name) r (λ now. now.entries ≡ m.now.entries)
 
-  -- the table is in the end the one without the place's key
+  -- the table is in the end the one without the place's key.
+  -- `remove` leaves it so.
   abbrev pub inner_without : Place K.Denot V.Denot S.Denot A.Denot H.Denot g h b w → Fml
   inner_without there = follows_so (InnerRow K V S A H g h b w heap) V (entry_map_ref there).ghost_name none (λ _ _. Unit {0}) (IsUnchanged (map_without_entry there))
 
-  -- the table is in the end as the place has it
+  -- the table is in the end as the place has it.
+  -- `into_key` leaves it so.
   abbrev pub inner_stays : Place K.Denot V.Denot S.Denot A.Denot H.Denot g h b w → Fml
   inner_stays there = follows_if (InnerRow K V S A H g h b w heap) V (entry_map_ref there).ghost_name none (map_with_value there) (entry_map_ref there).now
 
@@ -84,7 +86,8 @@ module _ (K V S A H : RattleType) (m : HashMembers K.Denot) (b : builder.Ghosts 
   lends_inner map table = Lends (MapRow K V S A H (record { eq = m.eq }) (record { hash_input = m.hash_input }) b w heap)
       (InnerRow K V S A H (record { eq = m.eq }) (record { hash_input = m.hash_input }) b w heap) map table map_of
 
-  -- the map is what the place's table is in the end, and where there is no place it has the entries that it had
+  -- the map is what the place's table is in the end, and where there is no place it has the entries that it had.
+  -- `*map.entry(2)?.or_insert(b)? = c` on (1, a): (1, a), (2, c).
   abbrev pub lends_place : {E : Type 0} → MutBor (Entries K.Denot V.Denot S.Denot)
       → Result (Entry K.Denot V.Denot S.Denot A.Denot H.Denot (record { eq = m.eq }) (record { hash_input = m.hash_input }) b w) E → Fml
   lends_place map r = follows_so (MapRow K V S A H (record { eq = m.eq }) (record { hash_input = m.hash_input }) b w heap)

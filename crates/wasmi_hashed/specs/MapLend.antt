@@ -19,7 +19,8 @@ use Rattle.wasmi_hashed.specs.contracts.map.Map.{the_row}
 
 module _ (K V S A H : RattleType) (g : HashMembers K.Denot) (b : builder.Ghosts S.Denot H.Denot) (w : hasher.Ghosts H.Denot) (heap : alloc.Ghosts A.Denot) where
   -- the value under that key is what was written last through the reference, where there is one, and
-  -- nothing else changes
+  -- nothing else changes.
+  -- `*map.get_mut(&2)? = c` on (1, a), (2, b): (1, a), (2, c).
   abbrev pub lends_get : MutBor (Entries K.Denot V.Denot S.Denot) → K.Denot → Option (MutBor V.Denot) → Fml
   lends_get map key value = LendsSo (the_row K V S A H (record { eq = g.eq }) (record { hash_input = g.hash_input }) b w heap) V map value
       (λ new last. new ≡ record map.now { entries = set_value (g.eq key) map.now.entries last }) (λ new. new ≡ map.now)

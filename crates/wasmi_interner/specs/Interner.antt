@@ -9,11 +9,13 @@ use Rattle.wasmi_arena.specs.Keys.{own_keys}
 use Rattle.wasmi_arena.specs.declared.error.ArenaError.{ArenaError}
 use Rattle.wasmi_arena.specs.declared.error.ArenaError.TheVariants.{OutOfSystemMemory, NotEnoughKeys}
 
--- the symbol of a text: its position among these, if it is there
+-- the symbol of a text: its position among these, if it is there.
+-- Among b, a: of a it is 1, of c there is none.
 abbrev pub symbol_of : List (List ℕ) → List ℕ → Option ℕ
 symbol_of texts text = position (bytes_eq text) texts
 
--- no text stands at two positions
+-- no text stands at two positions.
+-- b, a are distinct; b, a, b aren't.
 abbrev pub AreDistinctTexts : List (List ℕ) → Type 0
 AreDistinctTexts texts = IsDistinct bytes_eq texts
 
@@ -21,12 +23,14 @@ AreDistinctTexts texts = IsDistinct bytes_eq texts
 abbrev pub with_symbols_from : ℕ → List (List ℕ) → List (ℕ × List ℕ)
 with_symbols_from from texts = entries_from (own_keys (2 ^ 32)) from texts
 
--- each text of an interner beside its symbol
+-- each text of an interner beside its symbol.
+-- Of b, a: (0, b), (1, a).
 abbrev pub with_symbols : List (List ℕ) → List (ℕ × List ℕ)
 with_symbols texts = with_symbols_from 0 texts
 
 -- A text is interned under a symbol: under its position, where it is there, and else, where fewer than
 -- 2^32 texts are, at their end.
+-- From b: b has 0 and leaves b; a has 1 and leaves b, a.
 abbrev pub Interns : List (List ℕ) → List ℕ → ℕ → List (List ℕ) → Type 0
 Interns old text symbol new =
     ((symbol_of old text ≡ Some symbol) × (new ≡ old))

@@ -4,16 +4,19 @@ use Rattle.std.specs.Iterator.{Drains, YieldsThen}
 use Rattle.std.specs.Map.{lookup, update, update_all}
 
 module _ {K V : Type 0} (eq : K → K → Bool) where
-  -- the value under a key, if there is one
+  -- the value under a key, if there is one.
+  -- Of (1, a), (2, b) at 2: b.
   abbrev pub value_at : List (K × V) → K → Option V
   value_at entries k = lookup (eq k) entries
 
-  -- the new map has this under the key, and what the old one has under every other
+  -- the new map has this under the key, and what the old one has under every other.
+  -- (1, a) with `Some b` at 2: (1, a), (2, b).
   abbrev pub ChangesAt : List (K × V) → K → Option V → List (K × V) → Type 0
   ChangesAt old k slot new = (q : K) → value_at new q ≡ update eq (value_at old) k slot q
 
   -- the new map is the old one after these pairs went in, one by one. Of two with one key, the value of
-  -- the later one stays
+  -- the later one stays.
+  -- (1, a), (1, b) into the empty map: (1, b).
   abbrev pub InsertsAll : List (K × V) → List (K × V) → List (K × V) → Type 0
   InsertsAll old pairs new = (q : K) → value_at new q ≡ update_all eq (value_at old) pairs q
 

@@ -7,15 +7,18 @@ use Rattle.std.specs.Map.{keys_of, lookup}
 use Rattle.std.specs.Option.{option_eq}
 use Rattle.std.specs.Set.{is_member}
 
+-- whether both are true, or neither
 abbrev pub both_or_neither : Bool → Bool → Bool
 both_or_neither p q = cond p q (not q)
 
 module _ {K : Type 0} (eq : K → K → Bool) where
-  -- whether two maps have equal values under each key of either
+  -- whether two maps have equal values under each key of either.
+  -- (1, a), (2, b) and (2, b), (1, a) are the same. `same_map-decides` says it of every key.
   abbrev pub same_map : {V : Type 0} → (V → V → Bool) → List (K × V) → List (K × V) → Bool
   same_map E a b = list_all (λ k. option_eq E (lookup (eq k) a) (lookup (eq k) b)) (keys_of a ++ keys_of b)
 
-  -- whether each element of two sets is in both
+  -- whether each element of two sets is in both.
+  -- `same_set-decides` says it of every element.
   abbrev pub same_set : List K → List K → Bool
   same_set a b = list_all (λ x. both_or_neither (is_member eq a x) (is_member eq b x)) (a ++ b)
 
@@ -88,6 +91,7 @@ module _ {K : Type 0} {eq : K → K → Bool} (laws : IsEquivalence eq) where
       option-trans (Some x) (Some y) None first second = second
       option-trans (Some x) (Some y) (Some z) first second = per.trans x y z first second
 
+      -- where the test of values is symmetric and transitive, so is that of maps
       pub same_map-per : IsPartialEquivalence (same_map eq E)
       same_map-per = record {
         symm = λ a b. one_answer _ _ (same_map-decides a b) (λ same q. option-symm (lookup (eq q) a) (lookup (eq q) b) ∙ (same_map-decides b a).0 same q, λ each. (same_map-decides b a).1 (λ q. sym (option-symm (lookup (eq q) a) (lookup (eq q) b)) ∙ each q));
@@ -125,6 +129,7 @@ module _ {K : Type 0} {eq : K → K → Bool} (laws : IsEquivalence eq) where
       (λ q out. let rest = is_member-outside a b q out in λ i. both_or_neither (rest.0 i) (rest.1 i)) in
       (λ same q. (alike (is_member eq a q) (is_member eq b q)).0 (whole.0 same q), λ each. whole.1 (λ q. (alike (is_member eq a q) (is_member eq b q)).1 (each q)))
 
+  -- the test of sets is an equivalence
   pub same_set-equiv : IsEquivalence (same_set eq)
   same_set-equiv = record {
     refl = λ a. (same_set-decides a a).1 (λ q. refl);

@@ -20,7 +20,8 @@ module _ {K Q : Type 0} (eq : Q → Q → Bool) (view : K → Q) where
       (k : K) → has_seen_as new (view k) ≡ cond (eq seen (view k)) there (has_seen_as old (view k))
 
   module _ {V : Type 0} where
-    -- the value under the key that is seen as this, if there is one
+    -- the value under the key that is seen as this, if there is one.
+    -- Of ("ab", a), seen by their bytes, at the bytes of "ab": a.
     abbrev pub value_seen_as : List (K × V) → Q → Option V
     value_seen_as entries seen = lookup (is_seen_as seen) entries
 

@@ -5,11 +5,13 @@ use Rattle.std.specs.List.{AllZip}
 use Rattle.std.specs.Set.{is_member, IsUnion, ClonesAreEqual}
 
 module _ {T : Type 0} (eq : T → T → Bool) where
-  -- the new set has the element if `there` says so, and every other exactly if the old one has it
+  -- the new set has the element if `there` says so, and every other exactly if the old one has it.
+  -- 1, 2 with `false` at 2: 1.
   abbrev pub ChangesAt : List T → T → Bool → List T → Type 0
   ChangesAt old x there new = (q : T) → is_member eq new q ≡ cond (eq x q) there (is_member eq old q)
 
-  -- each element of the first is in the second
+  -- each element of the first is in the second.
+  -- 1 is a subset of 1, 2.
   abbrev pub IsSubset : List T → List T → Type 0
   IsSubset xs ys = (q : T) → IsTrue (is_member eq xs q) → IsTrue (is_member eq ys q)
 
@@ -18,7 +20,8 @@ module _ {T : Type 0} (eq : T → T → Bool) where
   IsDisjoint xs ys = (q : T) → IsTrue (is_member eq xs q) → is_member eq ys q ≡ false
 
   -- the set has clones by `C` of the elements of a set of which `P` holds, and nothing else. Where clones
-  -- equal their sources, `P` holds of the set itself
+  -- equal their sources, `P` holds of the set itself.
+  -- Of `bitor`, `P` says that the set is the union of the two.
   pub record HoldsClones (C : T → T → Type 0) (P : List T → Type 0) (set : List T) : Type 0 where
     pub sources : List T
     pub clones : List T

@@ -60,7 +60,8 @@ module _ (K V A : RattleType) {g : ord.Ghosts K.Denot} {g' : eq.Ghosts K.Denot} 
   abbrev pub inner_rests : {E : Type 0} → MutBor (BTreeMap K.Denot V.Denot) → Result (Place K.Denot V.Denot A.Denot g g' g'') E → Fml
   inner_rests m r = RestsIfErr (InnerRow K V A g g' g'' heap) m (λ e. (entry_map_ref e).ghost_name) r (λ now. now.entries ≡ m.now.entries)
 
-  -- the tree is in the end the one without the place's key
+  -- the tree is in the end the one without the place's key.
+  -- `remove` leaves it so.
   abbrev pub inner_without : Place K.Denot V.Denot A.Denot g g' g'' → Fml
   inner_without there = follows_so (InnerRow K V A g g' g'' heap) V (entry_map_ref there).ghost_name none (λ _ _. Unit {0}) (IsUnchanged (map_without_entry there))
 
@@ -75,7 +76,8 @@ module _ (K V A : RattleType) (h : hash.Ghosts K.Denot) (g : OrdMembers K.Denot)
   lends_inner map tree = Lends (MapRow K V A h (record { eq = g.eq }) (record { cmp = g.cmp }) (record { partial_cmp = g.partial_cmp }) heap)
       (InnerRow K V A (record { cmp = g.cmp }) (record { eq = g.eq }) (record { partial_cmp = g.partial_cmp }) heap) map tree (λ last. last.entries)
 
-  -- the map has the entries that the place's tree has in the end, and where there is no place it is as before
+  -- the map has the entries that the place's tree has in the end, and where there is no place it is as before.
+  -- `*map.entry(2)?.or_insert(b)? = c` on (1, a): (1, a), (2, c).
   abbrev pub lends_place : {E : Type 0} → MutBor (List (K.Denot × V.Denot)) → Result (Entry K.Denot V.Denot A.Denot (record { eq = g.eq }) (record { cmp = g.cmp }) (record { partial_cmp = g.partial_cmp })) E → Fml
   lends_place map r = follows_if (MapRow K V A h (record { eq = g.eq }) (record { cmp = g.cmp }) (record { partial_cmp = g.partial_cmp }) heap)
       (InnerRow K V A (record { cmp = g.cmp }) (record { eq = g.eq }) (record { partial_cmp = g.partial_cmp }) heap)

@@ -17,7 +17,8 @@ use Rattle.wasmi_ordered.specs.contracts.map.Map.{the_row}
 
 module _ (K V A : RattleType) (h : hash.Ghosts K.Denot) (g : OrdMembers K.Denot) (heap : alloc.Ghosts A.Denot) where
   -- the value under that key is what was written last through the reference, where there is one, and
-  -- nothing else changes
+  -- nothing else changes.
+  -- `*map.get_mut(&2)? = c` on (1, a), (2, b): (1, a), (2, c).
   abbrev pub lends_get : MutBor (List (K.Denot × V.Denot)) → K.Denot → Option (MutBor V.Denot) → Fml
   lends_get map key value = LendsSo (the_row K V A h (record { eq = g.eq }) (record { cmp = g.cmp }) (record { partial_cmp = g.partial_cmp }) heap) V map value
       (λ new last. new ≡ set_value (eq_by_cmp g.cmp key) map.now last) (λ new. new ≡ map.now)

@@ -12,6 +12,7 @@ module _ (limit : ℕ) where
 
   -- the number that a text is given: its place among the texts, or for a new one how many there are.
   -- A new one has none where the limit is reached.
+  -- Of `x` among `y`, `x`: 1. Of `z`: 2.
   abbrev pub number_given : List (List ℕ) → List ℕ → Option ℕ
   number_given texts text = number_at (length texts) (position (bytes_eq text) texts)
 
@@ -20,6 +21,7 @@ module _ (limit : ℕ) where
   texts_at texts text (Some place) = texts
   texts_at texts text None = if nat_lt (length texts) limit then texts ++ text ∷ [] else texts
 
-  -- the texts afterwards
+  -- the texts afterwards.
+  -- `y`, `x` and `x`: the same. And `z`: `y`, `x`, `z`.
   abbrev pub with_text : List (List ℕ) → List ℕ → List (List ℕ)
   with_text texts text = texts_at texts text (position (bytes_eq text) texts)

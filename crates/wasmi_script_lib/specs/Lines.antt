@@ -9,6 +9,7 @@ onto_first b (line ∷ lines) = (b ∷ line) ∷ lines
 
 -- the lines of an input: each ends at a line feed, which isn't part of it, and what follows the last
 -- line feed is a line too, unless it is empty. A carriage return is a byte as any other.
+-- `a x`, line feed, `n`: two lines.
 abbrev pub lines_of : List ℕ → List (List ℕ)
 lines_of [] = []
 lines_of (b ∷ bs) = if b == 10 then [] ∷ lines_of bs else onto_first b (lines_of bs)

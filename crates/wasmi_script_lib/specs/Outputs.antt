@@ -4,7 +4,8 @@ use Rattle.wasmi_script_lib.specs.Lines.{lines_of}
 use Rattle.wasmi_script_lib.specs.Requests.{Request, request_of}
 use Rattle.wasmi_script_lib.specs.States.{State, empty, reply_to, state_after}
 
--- the reply to the line of this number: where it asks for nothing, that it is bad
+-- the reply to the line of this number: where it asks for nothing, that it is bad.
+-- Line 7, `q`: `bad line 7`.
 abbrev pub line_reply : State → ℕ → Option Request → List ℕ
 line_reply state number (Some request) = reply_to state request
 line_reply state number None = codes "bad line " ++ decimal number
@@ -22,6 +23,7 @@ output_from state before (line ∷ lines) =
     line_reply state (before + 1) (request_of line)
     ++ 10 ∷ output_from (state_after_line state (request_of line)) (before + 1) lines
 
--- the replies to all lines of an input, from nothing and line 1 on
+-- the replies to all lines of an input, from nothing and line 1 on.
+-- Of the empty input: nothing.
 abbrev pub output_of : List ℕ → List ℕ
 output_of input = output_from empty 0 (lines_of input)

@@ -29,7 +29,8 @@ abbrev pub was_reply : Option Entity → List ℕ
 was_reply (Some entity) = codes "was " ++ property_text entity.property
 was_reply None = error_reply KeyOutOfBounds
 
--- `is` and all of an entity
+-- `is` and all of an entity.
+-- As `is 7 bob admin`.
 abbrev pub is_reply : Option Entity → List ℕ
 is_reply (Some entity) =
     codes "is " ++ property_text entity.property ++ codes " " ++ entity.name ++ codes " "

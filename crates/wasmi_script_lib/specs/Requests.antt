@@ -4,6 +4,7 @@ use Rattle.std.specs.Option.{option_map}
 use Rattle.std.specs.Str.{all_ascii_digits, bytes_eq}
 use Rattle.std.specs.Str.Parse.{digits_value}
 
+-- what a line asks for. `p 32` is `Place 32`
 pub data Request : Type 0 where
   -- `a TEXT`: keep the text
   Alloc : List ℕ → Request
@@ -29,6 +30,7 @@ pub data Request : Type 0 where
   GetEntity : ℕ → Request
 
 -- the number that one or more ASCII digits name, if it is below 2 ^ 64. Leading zeros are allowed.
+-- Of `007`: 7. Of `+0` there is none.
 abbrev pub number_of : List ℕ → Option ℕ
 number_of [] = None
 number_of (d ∷ ds) =
@@ -36,7 +38,8 @@ number_of (d ∷ ds) =
     then Some (digits_value 10 (d ∷ ds))
     else None
 
--- what stands before the first space and what after it, if there is one
+-- what stands before the first space and what after it, if there is one.
+-- Of `ann big cat`: `ann` and `big cat`.
 abbrev pub parts_of : List ℕ → Option (List ℕ × List ℕ)
 parts_of argument =
     option_map (λ place. (take place argument, drop (place + 1) argument))
@@ -53,6 +56,7 @@ set_of_numbers (Some key) (Some property) = Some (SetProperty key property)
 set_of_numbers (Some key) None = None
 set_of_numbers None property = None
 
+-- the same of the parts that tell them
 abbrev pub set_of : Option (List ℕ × List ℕ) → Option Request
 set_of (Some parts) = set_of_numbers (number_of parts.0) (number_of parts.1)
 set_of None = None
@@ -79,6 +83,7 @@ request_with head argument =
 
 -- what a line asks for: `n` alone, or a letter, one space and an argument. Any other line asks for
 -- nothing.
+-- `a ` asks to keep the empty text.
 abbrev pub request_of : List ℕ → Option Request
 request_of line =
     if bytes_eq line (codes "n") then Some Count else request_with (take 2 line) (drop 2 line)

@@ -24,6 +24,7 @@ empty = record { kept = []; deduped = []; interned = []; store = no_entities }
 abbrev pub keys : ℕ
 keys = 2 ^ 64
 
+-- the symbols of an interner
 abbrev pub symbols : ℕ
 symbols = 2 ^ 32
 
@@ -53,7 +54,8 @@ store_renamed store kind (Some entity) =
     if is_other_kind store entity kind then store else with_renamed store entity.kind kind
 store_renamed store kind None = store
 
--- the reply to a request, without the line feed
+-- the reply to a request, without the line feed.
+-- `g 0` with `x` kept: `text x`.
 abbrev pub reply_to : State → Request → List ℕ
 reply_to state (Alloc text) =
     if nat_lt (length state.kept) max_len then codes "key " ++ decimal (length state.kept)

@@ -7,6 +7,7 @@ use Rattle.wasmi_collections.specs.Interner.{symbol_of}
 use Rattle.wasmi_dense.specs.Components.{component_at, extent}
 use Rattle.wasmi_script_lib.specs.declared.store.Named.{Named}
 
+-- an entity: its name, its kind, and its property, if it has one
 pub record Entity : Type 0 where
   pub name : List ℕ
   pub kind : List ℕ
@@ -19,6 +20,7 @@ pub record Store : Type 0 where
   pub kinds : List (List ℕ)
   pub entities : List Entity
 
+-- at first there is none
 abbrev pub no_entities : Store
 no_entities = record { names = []; kinds = []; entities = [] }
 
@@ -63,6 +65,7 @@ entities_with_property (entity ∷ entities) zero property = record entity { pro
 entities_with_property (entity ∷ entities) (suc key) property =
     entity ∷ entities_with_property entities key property
 
+-- the store, where the entity of this key has this property, or none
 abbrev pub with_property : Store → ℕ → Option ℕ → Store
 with_property store key property =
     record store { entities = entities_with_property store.entities key property }
@@ -71,6 +74,7 @@ with_property store key property =
 abbrev pub renamed : List ℕ → List ℕ → List ℕ → List ℕ
 renamed old new kind = if bytes_eq old kind then new else kind
 
+-- the entity, its kind by the new name if it has the old one
 abbrev pub with_renamed_kind : List ℕ → List ℕ → Entity → Entity
 with_renamed_kind old new entity = record entity { kind = renamed old new entity.kind }
 
@@ -113,6 +117,7 @@ module _ (names kinds : List (List ℕ)) (properties : List (Option ℕ)) where
   all_shown number [] = []
   all_shown number (named ∷ rest) = shown number named ∷ all_shown (number + 1) rest
 
+  -- the store that is kept so
   abbrev pub store_of : List Named → Store
   store_of entities = record { names = names; kinds = kinds; entities = all_shown 0 entities }
 
