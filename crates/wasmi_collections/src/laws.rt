@@ -29,7 +29,7 @@ use std::hash::Hash;
 use wasmi_arena::ArenaKey;
 pub use wasmi_interner::laws::{
     appended_texts, binary_digits, equal_in_length_order, interned_texts, length_order,
-    symbols_of_distinct_texts,
+    searched_by_symbols, symbols_of_distinct_texts,
 };
 
 /// The order of head vectors, case by case.
