@@ -47,6 +47,13 @@ pub struct TableType {
     pub limits: Limits,
 }
 
+/// The type of a memory.
+#[derive(Clone, Copy, Debug, PartialEq, Eq)]
+pub struct MemoryType {
+    /// How many pages of 65,536 bytes it has.
+    pub limits: Limits,
+}
+
 /// The type of a global.
 #[derive(Clone, Copy, Debug, PartialEq, Eq)]
 pub struct GlobalType {
@@ -72,8 +79,8 @@ pub enum ImportType {
     Func(u32),
     /// A table.
     Table(TableType),
-    /// A memory, in pages.
-    Memory(Limits),
+    /// A memory.
+    Memory(MemoryType),
     /// A global.
     Global(GlobalType),
 }
@@ -119,17 +126,17 @@ pub struct Global<'a> {
     pub init: Init<'a>,
 }
 
-/// What a module gives, by its index among the module's items of that kind.
+/// What is imported or exported.
 #[derive(Clone, Copy, Debug, PartialEq, Eq)]
-pub enum ExportItem {
+pub enum Kind {
     /// A function.
-    Func(u32),
+    Func,
     /// A table.
-    Table(u32),
+    Table,
     /// A memory.
-    Memory(u32),
+    Memory,
     /// A global.
-    Global(u32),
+    Global,
 }
 
 /// An export.
@@ -137,8 +144,10 @@ pub enum ExportItem {
 pub struct Export<'a> {
     /// Its name.
     pub name: &'a str,
-    /// What is given.
-    pub item: ExportItem,
+    /// What is exported.
+    pub kind: Kind,
+    /// Its index among the module's items of this kind, those that it imports first.
+    pub index: u32,
 }
 
 /// What a module says of itself up to its exports. Names are those of the bytes it was decoded from.
@@ -152,8 +161,8 @@ pub struct Module<'a, A: Allocator> {
     pub functions: Vec<u32, A>,
     /// Its own tables.
     pub tables: Vec<TableType, A>,
-    /// Its own memories, in pages.
-    pub memories: Vec<Limits, A>,
+    /// Its own memories.
+    pub memories: Vec<MemoryType, A>,
     /// Its own globals.
     pub globals: Vec<Global<'a>, A>,
     /// What it gives.

@@ -17,7 +17,9 @@ impl Reader<'_> {
 
     /// A signed number of 32 bits.
     pub(crate) fn i32(&mut self) -> Result<i32, DecodeError>
-        ensures { IfOk result (λ n. Reads (IsI32 n) self.old self.new) }
+        ensures number { IfOk result (λ n. Reads (IsI32 n) self.old self.new) }
+        ensures above { IfOk result (λ n. pos 0 ≤ℤ (n +ℤ pos (2 ^ 31))) }
+        ensures below { IfOk result (λ n. n <ℤ pos (2 ^ 31)) }
     {
         let number = self.signed(1 << 31)?;
         Ok(number as i32)
@@ -25,7 +27,9 @@ impl Reader<'_> {
 
     /// A signed number of 64 bits.
     pub(crate) fn i64(&mut self) -> Result<i64, DecodeError>
-        ensures { IfOk result (λ n. Reads (IsI64 n) self.old self.new) }
+        ensures number { IfOk result (λ n. Reads (IsI64 n) self.old self.new) }
+        ensures above { IfOk result (λ n. pos 0 ≤ℤ (n +ℤ pos (2 ^ 63))) }
+        ensures below { IfOk result (λ n. n <ℤ pos (2 ^ 63)) }
     {
         self.signed(1 << 63)
     }
@@ -36,12 +40,13 @@ impl Reader<'_> {
         ensures number { IfOk result (λ n. Reads (IsUnsigned limit n) self.old self.new) }
         ensures below { IfOk result (λ n. n < limit) }
     {
+        let offset = self.offset();
         let byte = self.byte()? as u64;
         if byte < 128 && byte < limit {
             return Ok(byte);
         }
         if byte < 128 || limit <= 128 {
-            return Err(self.expected(Expected::Number));
+            return Err(Expected::Number.at(offset));
         }
         let high = self.unsigned(limit / 128)?;
         Ok(high * 128 + (byte - 128))
@@ -54,6 +59,7 @@ impl Reader<'_> {
         ensures above { IfOk result (λ n. pos 0 ≤ℤ (n +ℤ pos half)) }
         ensures below { IfOk result (λ n. n <ℤ pos half) }
     {
+        let offset = self.offset();
         let byte = self.byte()?;
         if byte < 64 && (byte as u64) < half {
             return Ok(byte as i64);
@@ -62,7 +68,7 @@ impl Reader<'_> {
             return Ok(byte as i64 - 128);
         }
         if byte < 128 || half <= 64 {
-            return Err(self.expected(Expected::Number));
+            return Err(Expected::Number.at(offset));
         }
         let high = self.signed(half / 128)?;
         Ok(high * 128 + (byte as i64 - 128))

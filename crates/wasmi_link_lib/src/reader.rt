@@ -1,5 +1,5 @@
 //! A reader of bytes from the front on.
-ghost use Rattle.std.specs.Prelude.{◌≡◌, ◌++◌, ◌≤◌, ◌∷◌, ◌<◌, [], length, drop, take, IfOk, OnOk};
+ghost use Rattle.std.specs.Prelude.{◌≡◌, ◌++◌, ◌≤◌, ◌∷◌, ◌<◌, [], length, drop, take, IfOk, OnOk, IsTrue, slice_get};
 ghost use Rattle.wasmi_link_lib.specs.Texts.{Is, Reads};
 
 use crate::error::{DecodeError, Expected};
@@ -40,20 +40,12 @@ impl<'a> Reader<'a> {
         self.end - self.rest.len()
     }
 
-    /// The error that this was expected here.
-    pub(crate) fn expected(&self, expected: Expected) -> DecodeError {
-        DecodeError::Malformed {
-            offset: self.offset(),
-            expected,
-        }
-    }
-
     /// The next byte.
     pub(crate) fn byte(&mut self) -> Result<u8, DecodeError>
         ensures { IfOk result (λ byte. self.old ≡ byte ∷ self.new) }
     {
         match self.rest {
-            [] => Err(self.expected(Expected::Byte)),
+            [] => Err(Expected::Byte.at(self.offset())),
             [byte, rest @ ..] => {
                 self.rest = rest;
                 Ok(*byte)
@@ -66,10 +58,43 @@ impl<'a> Reader<'a> {
         ensures { IfOk result (λ bytes. (self.old ≡ bytes.now ++ self.new) × (length bytes.now ≡ len)) }
     {
         if self.rest.len() < len {
-            return Err(self.expected(Expected::Bytes));
+            return Err(Expected::Bytes.at(self.offset()));
         }
         let (front, rest) = self.rest.split_at(len);
         self.rest = rest;
         Ok(front)
+    }
+
+    /// A reader of the next so many bytes.
+    pub(crate) fn part(&mut self, len: usize) -> Result<Reader<'a>, DecodeError>
+        ensures { IfOk result (λ part. (self.old ≡ part ++ self.new) × (length part ≡ len)) }
+    {
+        if self.rest.len() < len {
+            return Err(Expected::Bytes.at(self.offset()));
+        }
+        let (part, rest) = self.rest.split_at(len);
+        self.rest = rest;
+        Ok(Reader {
+            rest: part,
+            end: self.end - rest.len(),
+        })
+    }
+
+    /// Whether this byte is next.
+    pub(crate) fn is_next(&self, byte: u8) -> bool
+        ensures { IsTrue result → slice_get self.now 0 ≡ Some byte }
+    {
+        self.rest.first() == Some(&byte)
+    }
+
+    /// Fails with this error unless all was read.
+    pub(crate) fn end(&self, expected: Expected) -> Result<(), DecodeError>
+        ensures { OnOk result (self.now ≡ []) }
+    {
+        if self.rest.is_empty() {
+            Ok(())
+        } else {
+            Err(expected.at(self.offset()))
+        }
     }
 }

@@ -1,4 +1,4 @@
-use Rattle.std.proofs.Common.{◌≡◌, length}
+use Rattle.std.proofs.Common.{◌≡◌, length, All}
 use Rattle.wasmi_link_lib.specs.Texts.{Reads, Each}
 use Rattle.wasmi_link_lib.proofs.reader.Reader.items.Given as goal
 
@@ -7,4 +7,5 @@ abbrev pub invariant-loop : goal.invariant-loop
 invariant-loop g l = record {
   len : length l.items.items ≡ l.counter;
   each : Reads (Each g.T.Item.writes l.items.items) l.fn.self l.self;
+  valid : All (g.T.Item.valid l.counts) l.items.items;
 }
