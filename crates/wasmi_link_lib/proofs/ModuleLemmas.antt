@@ -1,7 +1,8 @@
 -- From the sections of a module to the module.
-use Rattle.std.proofs.Common.{◌≡◌, ℕ, ◌+◌, ◌<◌, length, List, [], ◌∷◌, cond, Bool, true, false, map, refl, sym, ap, subst, ◌∙◌, inl, inr, length-map}
+use Rattle.std.proofs.Common.{◌≡◌, ℕ, ◌+◌, ◌<◌, length, List, [], ◌∷◌, cond, Bool, true, false, map, refl, sym, ap, subst, ◌∙◌, inl, inr}
 use Rattle.std.specs.Prelude.{◌⊎◌}
-use Rattle.std.specs.List.{All, count_by}
+use Rattle.std.specs.List.{All, count_by, fold}
+use Rattle.std.proofs.lemmas.List.{length-map}
 use Rattle.std.proofs.lemmas.List.Elements.{All-map, All-weaker}
 use Rattle.wasmi_link_lib.specs.declared.counts.Counts.{Counts}
 use Rattle.wasmi_link_lib.specs.declared.module.ImportType.{ImportType}
@@ -32,7 +33,7 @@ vector_map W f xs text h = record {
   front = h.front;
   back = h.back;
   parts = h.parts;
-  first = subst (λ (n : ℕ). IsU32 n h.front) (sym (length-map f xs)) h.first;
+  first = subst (λ (n : ℕ). IsU32 n h.front) (sym (length-map xs f)) h.first;
   second = each_map W f xs h.back h.second;
 }
 
@@ -47,9 +48,12 @@ reads-next_map W f xs number before after h =
 
 -- ---- indices
 
+fold_map : {X Y : Type 0} (g : ℕ → Y → ℕ) (f : X → Y) (n : ℕ) (xs : List X) → fold g n (map f xs) ≡ fold (λ m x. g m (f x)) n xs
+fold_map g f n [] = refl
+fold_map g f n (x ∷ xs) = fold_map g f (g n (f x)) xs
+
 count_map : {X Y : Type 0} (p : Y → Bool) (f : X → Y) (xs : List X) → count_by p (map f xs) ≡ count_by (λ x. p (f x)) xs
-count_map p f [] = refl
-count_map p f (x ∷ xs) = ap (λ (n : ℕ). cond (p (f x)) 1 0 + n) (count_map p f xs)
+count_map p f xs = fold_map (λ n y. n + cond (p y) 1 0) f 0 xs
 
 import_within : (a b : Counts) (item : ImportType) → a.types ≡ b.types → IsImportWithin a item → IsImportWithin b item
 import_within a b (import.Func index) e h = subst (λ (n : ℕ). index < n) e h
@@ -74,6 +78,9 @@ Counted m kind own count = count ≡ count_by (λ i. is_of kind i.item) m.import
 is_counted : {A : Type 0} (m : rust_module.Module A) (kind : Kind) (own count : ℕ) → Counted m kind own count → count ≡ count_by (λ i. is_of kind i.item) (module_of m).imports + own
 is_counted m kind own count e = e ∙ ap (λ (n : ℕ). n + own) (sym (count_map (λ i. is_of kind i.item) import_of m.imports.items))
 
+pub counted : {A : Type 0} (m : rust_module.Module A) (kind : Kind) (imports : List rust_import.Import) (imported own len : ℕ) → imported ≡ count_by (λ i. is_of kind i.item) imports → imports ≡ m.imports.items → len ≡ own → Counted m kind own (imported + len)
+counted m kind imports imported own len is same size = rw (is, same, size) refl
+
 -- All of the counts are those of the module.
 pub record AreCounts {A : Type 0} (m : rust_module.Module A) (counts : Counts) : Type 0 where
   pub functions : Counted m Func (length m.functions.items) counts.functions
@@ -87,7 +94,7 @@ same_count m counts Table h = is_counted m Table (length m.tables.items) counts.
 same_count m counts Memory h = is_counted m Memory (length m.memories.items) counts.memories h.memories
 same_count m counts Global h =
     is_counted m Global (length m.globals.items) counts.globals h.globals
-    ∙ ap (λ (n : ℕ). count_by (λ i. is_of Global i.item) (map import_of m.imports.items) + n) (sym (length-map global_of m.globals.items))
+    ∙ ap (λ (n : ℕ). count_by (λ i. is_of Global i.item) (map import_of m.imports.items) + n) (sym (length-map m.globals.items global_of))
 
 names_of : (exports : List rust_export.Export) → map (λ e. e.name.now) exports ≡ map (λ (e : Export). e.name) (map export_of exports)
 names_of [] = refl
@@ -98,18 +105,18 @@ pub is_valid : {A : Type 0} (m : rust_module.Module A) (early late : Counts) →
     → All (λ i. IsImportWithin early i.item) m.imports.items → All (IsTypeIndex early) m.functions.items
     → All (λ g. IsInitWithin late (init_of g.init)) m.globals.items → All (λ e. IsExportWithin late (export_of e)) m.exports.items
     → AreDistinct (map (λ e. e.name.now) m.exports.items) → IsValid (module_of m)
-is_valid m early late types late_types counted imports functions globals exports distinct =
+is_valid m early late types late_types counts imports functions globals exports distinct =
     let known = counts_of (module_of m) in
-    let same : early.types ≡ known.types = types ∙ sym (length-map _ m.types.items) in
+    let same : early.types ≡ known.types = types ∙ sym (length-map m.types.items _) in
     record {
       imports = All-map (λ i. IsImportWithin known i.item) import_of m.imports.items
         (All-weaker (λ i. IsImportWithin early i.item) (λ i. IsImportWithin known i.item) (λ i h. import_within early known i.item same h) m.imports.items imports);
       functions = subst (λ (n : ℕ). All (λ index. index < n) m.functions.items) same functions;
       globals = All-map (λ g. IsInitWithin known g.init) global_of m.globals.items
         (All-weaker (λ g. IsInitWithin late (init_of g.init)) (λ g. IsInitWithin known (init_of g.init))
-        (λ g h. init_within late known (init_of g.init) (same_count m late Func counted) (same_count m late Global counted) h) m.globals.items globals);
+        (λ g h. init_within late known (init_of g.init) (same_count m late Func counts) (same_count m late Global counts) h) m.globals.items globals);
       exports = All-map (IsExportWithin known) export_of m.exports.items
         (All-weaker (λ e. IsExportWithin late (export_of e)) (λ e. IsExportWithin known (export_of e))
-        (λ e h. subst (λ (n : ℕ). e.index < n) (same_count m late e.kind counted) h) m.exports.items exports);
+        (λ e h. subst (λ (n : ℕ). e.index < n) (same_count m late e.kind counts) h) m.exports.items exports);
       distinct = subst AreDistinct (names_of m.exports.items) distinct;
     }
