@@ -110,13 +110,13 @@ is_valid m early late types late_types counts imports functions globals exports 
     let same : early.types ≡ known.types = types ∙ sym (length-map m.types.items _) in
     record {
       imports = All-map (λ i. IsImportWithin known i.item) import_of m.imports.items
-        (All-weaker (λ i. IsImportWithin early i.item) (λ i. IsImportWithin known i.item) (λ i h. import_within early known i.item same h) m.imports.items imports);
+          (All-weaker (λ i. IsImportWithin early i.item) (λ i. IsImportWithin known i.item) (λ i h. import_within early known i.item same h) m.imports.items imports);
       functions = subst (λ (n : ℕ). All (λ index. index < n) m.functions.items) same functions;
       globals = All-map (λ g. IsInitWithin known g.init) global_of m.globals.items
-        (All-weaker (λ g. IsInitWithin late (init_of g.init)) (λ g. IsInitWithin known (init_of g.init))
-        (λ g h. init_within late known (init_of g.init) (same_count m late Func counts) (same_count m late Global counts) h) m.globals.items globals);
+          (All-weaker (λ g. IsInitWithin late (init_of g.init)) (λ g. IsInitWithin known (init_of g.init))
+          (λ g h. init_within late known (init_of g.init) (same_count m late Func counts) (same_count m late Global counts) h) m.globals.items globals);
       exports = All-map (IsExportWithin known) export_of m.exports.items
-        (All-weaker (λ e. IsExportWithin late (export_of e)) (λ e. IsExportWithin known (export_of e))
-        (λ e h. subst (λ (n : ℕ). e.index < n) (same_count m late e.kind counts) h) m.exports.items exports);
+          (All-weaker (λ e. IsExportWithin late (export_of e)) (λ e. IsExportWithin known (export_of e))
+          (λ e h. subst (λ (n : ℕ). e.index < n) (same_count m late e.kind counts) h) m.exports.items exports);
       distinct = subst AreDistinct (names_of m.exports.items) distinct;
     }

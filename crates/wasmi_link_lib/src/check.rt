@@ -48,7 +48,9 @@ pub(crate) fn imported(imports: &[Import<'_>], kind: Kind) -> usize
 pub(crate) fn are_inits_within(globals: &[Global<'_>], counts: &Counts) -> bool
     ensures { IsTrue result → All (λ global. IsInitWithin counts.now (init_of global.init)) globals.now }
 {
-    globals.iter().all(|global| is_init_within(&global.init, counts))
+    globals
+        .iter()
+        .all(|global| is_init_within(&global.init, counts))
 }
 
 // Whether a first value refers only to what there is.

@@ -9,9 +9,7 @@ use crate::check::is_import_within;
 use crate::counts::Counts;
 use crate::error::{DecodeError, Expected};
 use crate::item::Item;
-use crate::module::{
-    Export, FuncType, Global, Import, MemoryType, TableType, ValType,
-};
+use crate::module::{Export, FuncType, Global, Import, MemoryType, TableType, ValType};
 use crate::reader::Reader;
 use std::alloc::Allocator;
 

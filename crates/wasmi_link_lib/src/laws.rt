@@ -6,8 +6,7 @@ ghost use Rattle.wasmi_link_lib.specs.Numbers.{IsUnsigned, IsU32, IsI32};
 pub fn numbers_read_once()
     ensures { (limit m n : ℕ) (a b x y : List ℕ) → IsUnsigned limit m a → IsUnsigned limit n b
         → a ++ x ≡ b ++ y → (a ≡ b) × (m ≡ n) }
-{
-}
+{}
 
 /// Worked examples: 624485 is E5 8E 26; 3 is also 83 00; 2^32 - 1 is FF FF FF FF 0F.
 pub fn numbers_by_example()
@@ -20,5 +19,4 @@ pub fn numbers_by_example()
     // -123456 is C0 BB 78, and -1 is 7F.
     ensures negative { IsI32 (negsuc 123455) (192 ∷ 187 ∷ 120 ∷ []) }
     ensures minus_one { IsI32 (negsuc 0) (127 ∷ []) }
-{
-}
+{}

@@ -11,12 +11,49 @@ pub returns-clause-padded : goal.returns-clause-padded
 returns-clause-padded c = (omega arith, omega arith, omega arith, 0, omega arith, (omega arith, omega arith, refl))
 
 pub returns-clause-greatest : goal.returns-clause-greatest
-returns-clause-greatest c =
-    (omega arith, omega arith, omega arith, 33554431, omega arith, (omega arith, omega arith, omega arith, 262143, omega arith,
-    (omega arith, omega arith, omega arith, 2047, omega arith, (omega arith, omega arith, omega arith, 15, omega arith,
-    (omega arith, omega arith, refl)))))
+returns-clause-greatest c = (
+  omega arith,
+  omega arith,
+  omega arith,
+  33554431,
+  omega arith,
+  (
+    omega arith,
+    omega arith,
+    omega arith,
+    262143,
+    omega arith,
+    (
+      omega arith,
+      omega arith,
+      omega arith,
+      2047,
+      omega arith,
+      (
+        omega arith,
+        omega arith,
+        omega arith,
+        15,
+        omega arith,
+        (omega arith, omega arith, refl),
+      ),
+    ),
+  ),
+)
 
 pub returns-clause-negative : goal.returns-clause-negative
-returns-clause-negative c =
-    (omega arith, omega arith, omega arith, negsuc 964, omega (arith, ints), (omega arith, omega arith, omega arith, negsuc 7, omega (arith, ints),
-    inr (omega arith, omega arith, omega arith, omega (arith, ints))))
+returns-clause-negative c = (
+  omega arith,
+  omega arith,
+  omega arith,
+  negsuc 964,
+  omega (arith, ints),
+  (
+    omega arith,
+    omega arith,
+    omega arith,
+    negsuc 7,
+    omega (arith, ints),
+    inr (omega arith, omega arith, omega arith, omega (arith, ints)),
+  ),
+)
