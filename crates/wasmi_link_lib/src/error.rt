@@ -20,11 +20,11 @@ pub enum Expected {
     /// One more byte.
     #[error("one more byte")]
     Byte,
-    /// As many bytes as the number before says.
-    #[error("as many bytes as the number before says")]
+    /// As many bytes as the format or a number has it, where fewer are left.
+    #[error("more bytes than are left")]
     Bytes,
     /// The last byte of a number: not so many bytes, or not such bits.
-    #[error("the last byte of a number in LEB128")]
+    #[error("the last byte of a number")]
     Number,
     /// A name.
     #[error("a name in UTF-8")]
