@@ -1,0 +1,13 @@
+//! Tests of the decoder of modules.
+#![tactic(auto)]
+
+#[cfg(test)]
+mod bytes;
+#[cfg(test)]
+mod decoded;
+#[cfg(test)]
+mod malformed;
+#[cfg(test)]
+mod memory;
+#[cfg(test)]
+mod or_abort;
