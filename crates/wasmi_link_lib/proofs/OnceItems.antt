@@ -1,5 +1,5 @@
 -- No writing of an item of a module begins that of another.
-use Rattle.std.proofs.Common.{◌≡◌, ℕ, ◌+◌, length, List, [], ◌∷◌, ◌++◌, Option, Some, None, Bool, true, false, refl, sym, ap, ◌∙◌, arith}
+use Rattle.std.proofs.Common.{◌≡◌, ℕ, List, [], ◌∷◌, ◌++◌, Option, Some, None, Bool, true, false, refl, ap, ◌∙◌, arith}
 use Rattle.std.specs.Prelude.{◌^◌, ◌==◌, if◌then◌else◌}
 use Rattle.wasmi_link_lib.specs.Texts.{Is, ◌⋅◌}
 use Rattle.wasmi_link_lib.specs.Numbers.{IsU32, IsI32, IsI64}
@@ -11,7 +11,6 @@ use Rattle.wasmi_link_lib.specs.declared.module.ValType.TheVariants as val
 use Rattle.wasmi_link_lib.specs.declared.module.RefType.{RefType}
 use Rattle.wasmi_link_lib.specs.declared.module.RefType.TheVariants as ref
 use Rattle.wasmi_link_lib.specs.declared.module.Limits.{Limits}
-use Rattle.wasmi_link_lib.specs.declared.module.TableType.{TableType}
 use Rattle.wasmi_link_lib.specs.declared.module.MemoryType.{MemoryType}
 use Rattle.wasmi_link_lib.specs.declared.module.GlobalType.{GlobalType}
 use Rattle.wasmi_link_lib.specs.declared.module.ImportType.{ImportType}

@@ -1,11 +1,10 @@
 -- No writing of a thing begins that of another: where two texts go on alike, they stand for one thing.
-use Rattle.std.proofs.Common.{◌≡◌, ℕ, zero, suc, ◌+◌, ◌<◌, ◌≤◌, length, List, [], ◌∷◌, ◌++◌, refl, sym, ap, subst, ◌∙◌, append_assoc, arith}
-use Rattle.std.proofs.lemmas.Int.{ints}
-use Rattle.std.specs.Prelude.{◌^◌, ◌/◌, ℤ, pos, ◌+ℤ◌, ◌*ℤ◌}
-use Rattle.wasmi_link_lib.specs.Texts.{Is, Then, ◌⋅◌, Each}
-use Rattle.wasmi_link_lib.specs.Numbers.{IsUnsigned, IsSigned, IsU32}
+use Rattle.std.proofs.Common.{◌≡◌, ℕ, length, List, [], ◌∷◌, ◌++◌, refl, sym, ap, ◌∙◌, append_assoc, arith}
+use Rattle.std.specs.Prelude.{◌^◌}
+use Rattle.wasmi_link_lib.specs.Texts.{Is, ◌⋅◌, Each}
+use Rattle.wasmi_link_lib.specs.Numbers.{IsU32}
 use Rattle.wasmi_link_lib.specs.Format.{IsVector, IsBytes, IsName}
-use Rattle.wasmi_link_lib.proofs.LawLemmas.{head_same, tail_same, unsigned_once, signed_once}
+use Rattle.wasmi_link_lib.proofs.LawLemmas.{head_same, tail_same, unsigned_once}
 
 abbrev pub Once : {X : Type 0} → (X → List ℕ → Type 0) → Type 0
 Once {X} W = (x y : X) (a b u v : List ℕ) → W x a → W y b → a ++ u ≡ b ++ v → (x ≡ y) × (a ≡ b)

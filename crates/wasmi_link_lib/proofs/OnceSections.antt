@@ -1,12 +1,11 @@
 -- Bytes are a writing of one module at most: their sections are found, each by its number.
-use Rattle.std.proofs.Common.{◌≡◌, ◌≢◌, ℕ, zero, suc, ◌+◌, ◌<◌, length, List, [], ◌∷◌, ◌++◌, Option, Some, None, Bool, true, false, cond, map, refl, sym, ap, subst, ◌∙◌, append_assoc, arith, inl, inr}
-use Rattle.std.specs.Prelude.{◌⊎◌}
+use Rattle.std.proofs.Common.{◌≡◌, ℕ, zero, suc, length, List, [], ◌∷◌, ◌++◌, Option, Some, None, Bool, true, false, cond, map, refl, sym, ap, subst, ◌∙◌, append_assoc, inl, inr}
 use Rattle.std.proofs.lemmas.List.{append-nil}
 use Rattle.wasmi_link_lib.specs.Texts.{Is, ◌⋅◌, Each}
 use Rattle.wasmi_link_lib.specs.Numbers.{IsU32}
 use Rattle.wasmi_link_lib.specs.Modules.{Module}
 use Rattle.wasmi_link_lib.specs.Format.{IsVector, IsFuncType, IsImport, IsTableType, IsMemoryType, IsGlobal, IsExport}
-use Rattle.wasmi_link_lib.specs.Sections.{IsSection, AreCustoms, IsSectionOf, IsPresent, IsNext, IsAny, IsSkipped, header, AreRead, AreSkipped, IsWritten}
+use Rattle.wasmi_link_lib.specs.Sections.{IsSection, AreCustoms, IsNext, IsSkipped, AreRead, AreSkipped, IsWritten}
 use Rattle.wasmi_link_lib.proofs.OnceLemmas.{Once, once_then, byte_once, sized_once, vector_once, u32_once, rest_same}
 use Rattle.wasmi_link_lib.proofs.OnceItems.{func_type_once, import_once, table_type_once, memory_type_once, global_once, export_once}
 
