@@ -2,5 +2,8 @@ pub mod DistinctLemmas
 pub mod LawLemmas
 pub mod ModuleLemmas
 pub mod NumberLemmas
+pub mod OnceItems
+pub mod OnceLemmas
+pub mod OnceSections
 pub mod ReadLemmas
 pub mod SectionLemmas

@@ -1,6 +1,5 @@
 -- From the sections of a module to the module.
-use Rattle.std.proofs.Common.{◌≡◌, ℕ, ◌+◌, ◌<◌, length, List, [], ◌∷◌, cond, Bool, true, false, map, refl, sym, ap, subst, ◌∙◌, inl, inr}
-use Rattle.std.specs.Prelude.{◌⊎◌}
+use Rattle.std.proofs.Common.{◌≡◌, ℕ, ◌+◌, ◌<◌, length, List, [], ◌∷◌, cond, Bool, map, refl, sym, ap, subst, ◌∙◌, inl, inr}
 use Rattle.std.specs.List.{All, count_by, fold}
 use Rattle.std.proofs.lemmas.List.{length-map}
 use Rattle.std.proofs.lemmas.List.Elements.{All-map, All-weaker}
@@ -11,14 +10,13 @@ use Rattle.wasmi_link_lib.specs.declared.module.Kind.{Kind}
 use Rattle.wasmi_link_lib.specs.declared.module.Kind.TheVariants.{Func, Table, Memory, Global}
 use Rattle.wasmi_link_lib.specs.declared.module.Module as rust_module
 use Rattle.wasmi_link_lib.specs.declared.module.Import as rust_import
-use Rattle.wasmi_link_lib.specs.declared.module.Global as rust_global
 use Rattle.wasmi_link_lib.specs.declared.module.Export as rust_export
 use Rattle.wasmi_link_lib.specs.Modules.{Init, I32, I64, F32, F64, V128, RefNull, RefFunc, GlobalGet, Export}
 use Rattle.wasmi_link_lib.specs.Views.{import_of, init_of, global_of, export_of, module_of}
-use Rattle.wasmi_link_lib.specs.Texts.{Is, ◌⋅◌, Each, Reads}
+use Rattle.wasmi_link_lib.specs.Texts.{Each, Reads}
 use Rattle.wasmi_link_lib.specs.Numbers.{IsU32}
 use Rattle.wasmi_link_lib.specs.Format.{IsVector}
-use Rattle.wasmi_link_lib.specs.Sections.{IsSection, AreCustoms, IsSectionOf, IsPresent, IsNext}
+use Rattle.wasmi_link_lib.specs.Sections.{IsSectionOf, IsNext}
 use Rattle.wasmi_link_lib.specs.Valid.{IsTypeIndex, IsImportWithin, IsInitWithin, IsExportWithin, count_of, is_of, counts_of, AreDistinct, IsValid}
 use Rattle.wasmi_link_lib.proofs.ReadLemmas.{reads-as}
 

@@ -2,7 +2,7 @@
 use Rattle.std.proofs.Common.{◌≡◌, ℕ, length, List, [], ◌∷◌, ◌++◌, refl, sym, ap, subst, ◌∙◌, append_assoc}
 use Rattle.std.proofs.lemmas.List.{append-nil}
 use Rattle.std.specs.Str.{IsUtf8}
-use Rattle.wasmi_link_lib.specs.Texts.{Is, Then, ◌⋅◌, Each, Reads}
+use Rattle.wasmi_link_lib.specs.Texts.{Is, ◌⋅◌, Each, Reads}
 use Rattle.wasmi_link_lib.specs.Numbers.{IsU32}
 use Rattle.wasmi_link_lib.specs.Format.{IsBytes, IsName}
 

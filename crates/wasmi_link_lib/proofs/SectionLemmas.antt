@@ -1,12 +1,12 @@
 -- Reading sections.
-use Rattle.std.proofs.Common.{◌≡◌, ℕ, length, List, [], ◌∷◌, ◌++◌, Bool, true, Option, Some, None, refl, sym, ap, subst, ◌∙◌, inl, inr}
+use Rattle.std.proofs.Common.{◌≡◌, ℕ, length, List, [], ◌∷◌, ◌++◌, true, Option, Some, None, refl, sym, ap, subst, ◌∙◌, inl, inr}
 use Rattle.std.specs.Prelude.{IfSome, IfNone, slice_get}
 use Rattle.std.specs.Option.{is_some}
 use Rattle.std.proofs.lemmas.List.{append-nil}
 use Rattle.wasmi_link_lib.specs.Texts.{Is, ◌⋅◌, Each, Reads}
 use Rattle.wasmi_link_lib.specs.Numbers.{IsU32}
 use Rattle.wasmi_link_lib.specs.Format.{IsVector}
-use Rattle.wasmi_link_lib.specs.Sections.{IsSection, AreCustoms, IsSectionOf, IsPresent, IsNext, IsAny, IsSkipped}
+use Rattle.wasmi_link_lib.specs.Sections.{IsSection, AreCustoms, IsSectionOf, IsNext, IsAny}
 use Rattle.wasmi_link_lib.proofs.ReadLemmas.{reads-then, reads-byte_then, reads-u32_at, reads-is, reads-as, reads-each_push}
 
 first_is : (b number : ℕ) (before mid : List ℕ) → slice_get before 0 ≡ Some number → before ≡ b ∷ mid → b ≡ number

@@ -1,7 +1,7 @@
 -- How what a module says of itself is written, as the binary format of WebAssembly has it.
 use Rattle.std.specs.Prelude.{◌≡◌, ℕ, ◌≤◌, List, [], ◌∷◌, length, Option, Some, None, IfSome, if◌then◌else◌}
 use Rattle.std.specs.Str.{IsUtf8}
-use Rattle.wasmi_link_lib.specs.Texts.{Is, Then, ◌⋅◌, Each}
+use Rattle.wasmi_link_lib.specs.Texts.{Is, ◌⋅◌, Each}
 use Rattle.wasmi_link_lib.specs.Numbers.{IsU32, IsI32, IsI64}
 use Rattle.wasmi_link_lib.specs.Modules.{FuncType, Import, Init, I32, I64, F32, F64, V128, RefNull, RefFunc, GlobalGet, Global, Export}
 use Rattle.wasmi_link_lib.specs.declared.module.ValType.{ValType}

@@ -1,6 +1,6 @@
 -- How a module is written: section by section.
 use Rattle.std.specs.Prelude.{◌≡◌, ◌⊎◌, ℕ, List, [], ◌∷◌, length}
-use Rattle.wasmi_link_lib.specs.Texts.{Is, Then, ◌⋅◌, Each}
+use Rattle.wasmi_link_lib.specs.Texts.{Is, ◌⋅◌, Each}
 use Rattle.wasmi_link_lib.specs.Numbers.{IsU32}
 use Rattle.wasmi_link_lib.specs.Modules.{Module}
 use Rattle.wasmi_link_lib.specs.Format.{Byte, IsVector, IsFuncType, IsImport, IsTableType, IsMemoryType, IsGlobal, IsExport}

@@ -1,5 +1,5 @@
 -- Which modules refer only to what they have.
-use Rattle.std.specs.Prelude.{◌≡◌, ◌≢◌, ℕ, ◌+◌, ◌<◌, Bool, true, false, List, [], length, slice_index_or, map, All}
+use Rattle.std.specs.Prelude.{◌≢◌, ℕ, ◌+◌, ◌<◌, Bool, true, false, List, [], length, slice_index_or, map, All}
 use Rattle.std.specs.List.{count_by}
 use Rattle.wasmi_link_lib.specs.declared.counts.Counts.{Counts}
 use Rattle.wasmi_link_lib.specs.declared.module.ImportType.{ImportType}
@@ -7,7 +7,6 @@ use Rattle.wasmi_link_lib.specs.declared.module.ImportType.TheVariants as import
 use Rattle.wasmi_link_lib.specs.declared.module.Kind.{Kind}
 use Rattle.wasmi_link_lib.specs.declared.module.Kind.TheVariants.{Func, Table, Memory, Global}
 use Rattle.wasmi_link_lib.specs.Modules.{Import, Init, I32, I64, F32, F64, V128, RefNull, RefFunc, GlobalGet, Export, Module}
-use Rattle.wasmi_link_lib.specs.Modules as plain
 
 -- nothing is asked
 abbrev pub IsAnything : {X : Type 0} → Counts → X → Type 0

@@ -1,5 +1,5 @@
 -- A decoded module without where it lies in memory.
-use Rattle.std.specs.Prelude.{ℕ, List, map}
+use Rattle.std.specs.Prelude.{map}
 use Rattle.wasmi_link_lib.specs.declared.module.FuncType as rust_func
 use Rattle.wasmi_link_lib.specs.declared.module.Import as rust_import
 use Rattle.wasmi_link_lib.specs.declared.module.Init as rust_init

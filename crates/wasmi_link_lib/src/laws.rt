@@ -1,5 +1,7 @@
 //! What the definitions imply, each law as a function that does nothing.
 ghost use Rattle.std.specs.Prelude.{◌≡◌, ◌^◌, ◌<◌, ◌++◌, ◌∷◌, [], ℕ, List, negsuc};
+ghost use Rattle.wasmi_link_lib.specs.Modules.{Module};
+ghost use Rattle.wasmi_link_lib.specs.Sections.{IsWritten};
 ghost use Rattle.wasmi_link_lib.specs.Numbers.{IsUnsigned, IsU32, IsI32};
 
 /// No writing of a number begins that of another, and no text is the writing of two.
@@ -19,4 +21,9 @@ pub fn numbers_by_example()
     // -123456 is C0 BB 78, and -1 is 7F.
     ensures negative { IsI32 (negsuc 123455) (192 ∷ 187 ∷ 120 ∷ []) }
     ensures minus_one { IsI32 (negsuc 0) (127 ∷ []) }
+{}
+
+/// Bytes are a writing of one module at most: what `decode` returns is the only one.
+pub fn module_written_once()
+    ensures { (m n : Module) (bytes : List ℕ) → IsWritten m bytes → IsWritten n bytes → m ≡ n }
 {}

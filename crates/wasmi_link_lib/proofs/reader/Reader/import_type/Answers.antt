@@ -1,4 +1,4 @@
-use Rattle.wasmi_link_lib.proofs.ReadLemmas.{reads-then, reads-byte}
+use Rattle.wasmi_link_lib.proofs.ReadLemmas.{reads-then}
 use Rattle.wasmi_link_lib.proofs.reader.Reader.import_type.Goals as goal
 
 pub returns-in_ok-index-in-Func : goal.returns-in_ok-index-in-Func

@@ -2,7 +2,6 @@ use Rattle.std.proofs.Common.{rules, ◌≡◌, ◌+◌, length, List, refl, sub
 use Rattle.std.specs.List.{All}
 use Rattle.wasmi_link_lib.specs.declared.counts.Counts.{Counts}
 use Rattle.wasmi_link_lib.specs.declared.module.Module as rust_module
-use Rattle.wasmi_link_lib.specs.declared.module.Import as rust_import
 use Rattle.wasmi_link_lib.specs.declared.module.Global as rust_global
 use Rattle.wasmi_link_lib.specs.declared.module.Export as rust_export
 use Rattle.wasmi_link_lib.specs.declared.module.Kind.TheVariants.{Func, Table, Memory, Global}
