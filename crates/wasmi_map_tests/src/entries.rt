@@ -113,37 +113,6 @@ fn a_hashed_entry_that_is_removed_drops_its_key(rt: HostRuntime) {
     assert_equal!(rt; (map.len(), Rc::strong_count(&seven)), (0, 1));
 }
 
-// An entry of a key that isn't there is refused only where a request is.
-#[test]
-fn a_thousand_keys_come_through_entries(rt: HostRuntime) {
-    let mut tree: ordered::Map<u32, u32> = ordered::Map::new(rt.alloc());
-    let mut table: hashed::Map<u32, u32> = hashed::Map::new(rt.alloc());
-    for key in 0..1000 {
-        tree.entry(key).or_abort(&rt).or_insert(key).or_abort(&rt);
-        table.entry(key).or_abort(&rt).or_insert(key).or_abort(&rt);
-    }
-    assert_equal!(rt; (tree.len(), table.len()), (1000, 1000));
-}
-
-#[test]
-fn an_entry_of_a_key_that_is_there_asks_for_nothing(rt: HostRuntime) {
-    let (heap, blocks) = (rt.alloc(), Log::new());
-    let mut tree: ordered::Map<u32, u32, Observed<'_>> = ordered::Map::new(Observed::new(
-        heap, &blocks,
-    ));
-    let mut table: hashed::Map<u32, u32, FixedState, Observed<'_>> = hashed::Map::new(Observed::new(
-        heap, &blocks,
-    ));
-    for key in 0..100 {
-        tree.entry(key).or_abort(&rt).or_insert(key).or_abort(&rt);
-        table.entry(key).or_abort(&rt).or_insert(key).or_abort(&rt);
-        let asked = blocks.requests();
-        tree.entry(key).or_abort(&rt).or_insert(0).or_abort(&rt);
-        table.entry(key).or_abort(&rt).or_insert(0).or_abort(&rt);
-        assert_equal!(rt; blocks.requests(), asked, "at {key}");
-    }
-}
-
 #[test]
 fn an_ordered_entry_compares_as_a_read_does(rt: HostRuntime) {
     let notes = Notes::new();

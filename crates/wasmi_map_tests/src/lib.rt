@@ -16,4 +16,10 @@ mod or_abort;
 #[cfg(test)]
 mod ordered;
 #[cfg(test)]
+mod refused;
+#[cfg(test)]
+mod rows;
+#[cfg(test)]
 mod small;
+#[cfg(test)]
+mod table;

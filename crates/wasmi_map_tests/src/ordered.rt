@@ -1,7 +1,5 @@
 //! What no clause says of ordered maps and sets: that calls succeed, what a loop of writes leaves, texts, memory.
-mod entries;
 mod maps;
-mod memory;
 mod parts;
 mod sets;
 mod texts;

@@ -1,10 +1,8 @@
 //! Maps from numbers to texts.
 use crate::or_abort::OrAbort;
 use std::alloc::Global;
-use std::hash::{BuildHasher, Hasher};
 use wasmi_arena::ArenaError;
 use wasmi_hashed::Map;
-use wasmi_hashed::hash::RandomState;
 use wasmi_vectors::assert_equal;
 
 // The keys 1 to 6, each under itself.
@@ -14,34 +12,6 @@ fn six(alloc: Global) -> Result<Map<u32, u32>, ArenaError> {
         map.insert(key, key)?;
     }
     Ok(map)
-}
-
-#[test]
-fn a_key_keeps_its_last_value(rt: HostRuntime) {
-    let mut map: Map<u32, &'static str> = Map::new(rt.alloc());
-    assert!(rt; map.is_empty());
-    assert_equal!(rt; map.insert(1, "a"), Ok(None));
-    assert_equal!(rt; map.insert(1, "b"), Ok(Some("a")));
-    assert_equal!(rt; map.len(), 1);
-    assert_equal!(rt; map.remove(&2), None);
-    assert_equal!(rt; map.insert(2, "c"), Ok(None));
-    assert_equal!(rt; map.get(&1), Some(&"b"));
-    assert_equal!(rt; map.get(&3), None);
-    assert_equal!(rt; map.get_key_value(&2), Some((&2, &"c")));
-    assert!(rt; map.contains_key(&2) && !map.contains_key(&3));
-    if map.contains_key(&2) {
-        assert_equal!(rt; map[&2], "c");
-    }
-    let mut walk = map.iter();
-    assert_equal!(rt; walk.len(), 2);
-    // In unspecified order.
-    assert!(rt; walk.all(|(key, value)| (*key, *value) == (1, "b") || (*key, *value) == (2, "c")));
-    assert_equal!(rt; walk.next(), None);
-    assert_equal!(rt; map.remove(&1), Some("b"));
-    assert_equal!(rt; map.reserve(100), Ok(()));
-    assert_equal!(rt; map.len(), 1);
-    map.clear();
-    assert!(rt; map.is_empty());
 }
 
 #[test]
@@ -59,18 +29,6 @@ fn a_later_pair_of_one_key_wins(rt: HostRuntime) {
     assert_equal!(rt; map.len(), 4);
     assert_equal!(rt; map.remove_entry(&1), Some((1, "c")));
     assert_equal!(rt; map.remove_entry(&1), None);
-}
-
-#[test]
-fn some_entries_are_kept(rt: HostRuntime) {
-    let mut map = six(rt.alloc()).or_abort(&rt);
-    map.retain(|key, _| key % 2 == 0);
-    assert_equal!(rt; &map, &Map::from_iter(rt.alloc(), [(2, 2), (4, 4), (6, 6)]).or_abort(&rt));
-    map.retain(|_, value| {
-        *value /= 2;
-        true
-    });
-    assert_equal!(rt; &map, &Map::from_iter(rt.alloc(), [(2, 1), (4, 2), (6, 3)]).or_abort(&rt));
 }
 
 #[test]
@@ -141,82 +99,8 @@ fn equal_maps_have_equal_values(rt: HostRuntime) {
 }
 
 #[test]
-fn keys_are_hashed_by_the_state_handed_in(rt: HostRuntime) {
-    let state = RandomState::new(&rt).or_abort(&rt);
-    let mut map: Map<u32, u32, RandomState> = Map::with_hasher(rt.alloc(), state);
-    for key in 0..200u32 {
-        map.insert(key, key.wrapping_mul(3)).or_abort(&rt);
-    }
-    assert_equal!(rt; map.reserve(1000), Ok(()));
-    let copy = map.clone().or_abort(&rt);
-    for key in 0..200u32 {
-        assert_equal!(rt; map.get(&key), Some(&key.wrapping_mul(3)));
-        assert_equal!(rt; copy.get(&key), Some(&key.wrapping_mul(3)));
-    }
-    assert_equal!(rt; &copy, &map);
-    assert_equal!(rt; map.remove(&7), Some(21));
-    assert!(rt; copy != map);
-}
-
-// A state by which all keys have one hash.
-#[derive(Clone, Copy)]
-struct OneHash;
-
-impl Hasher for OneHash {
-    ghost write = { λ state _. state };
-
-    ghost finish = { λ _. 1 };
-
-    fn finish(&self) -> u64 {
-        1
-    }
-
-    fn write(&mut self, _bytes: &[u8]) {}
-}
-
-impl BuildHasher for OneHash {
-    type Hasher = OneHash;
-
-    ghost build_hasher = { λ state. state };
-
-    fn build_hasher(&self) -> OneHash {
-        *self
-    }
-}
-
-#[test]
-fn keys_of_one_hash_are_told_apart(rt: HostRuntime) {
-    let mut map: Map<u32, u32, OneHash> = Map::with_hasher(rt.alloc(), OneHash);
-    for key in 0..50u32 {
-        assert_equal!(rt; map.insert(key, key).or_abort(&rt), None);
-    }
-    for key in (0..50u32).step_by(2) {
-        assert_equal!(rt; map.remove(&key), Some(key));
-    }
-    for key in 0..50u32 {
-        assert_equal!(rt; map.contains_key(&key), key % 2 == 1);
-    }
-    assert_equal!(rt; map.len(), 25);
-}
-
-#[test]
 fn a_map_prints_its_entries(rt: HostRuntime) {
     let map = Map::from_iter(rt.alloc(), [(2, true), (3, false)]).or_abort(&rt);
     let text = format!(in rt.alloc(); "{map:?}").or_abort(&rt);
     assert!(rt; text.as_str() == "{2: true, 3: false}" || text.as_str() == "{3: false, 2: true}");
-}
-
-// Two texts without a letter are equal, and only one of them has room for some.
-#[test]
-fn a_key_that_is_there_is_kept(rt: HostRuntime) {
-    let alloc = rt.alloc();
-    let roomy = String::with_capacity(alloc, 40).or_abort(&rt);
-    let mut map = Map::from_iter(alloc, [(roomy, 1), (String::new(alloc), 2)]).or_abort(&rt);
-    assert_equal!(rt;
-        (map.len(), map.insert(String::new(alloc), 3).or_abort(&rt)),
-        (1, Some(2))
-    );
-    map.extend([(String::new(alloc), 4)]).or_abort(&rt);
-    let entry = map.get_key_value(&String::new(alloc));
-    assert!(rt; entry.is_some_and(|(key, value)| 40 <= key.capacity() && *value == 4));
 }

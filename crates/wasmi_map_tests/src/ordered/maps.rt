@@ -15,34 +15,6 @@ fn six(alloc: Global) -> Result<Map<u32, u32>, ArenaError> {
 }
 
 #[test]
-fn a_key_keeps_its_last_value(rt: HostRuntime) {
-    let mut map: Map<u32, &'static str> = Map::new(rt.alloc());
-    assert!(rt; map.is_empty());
-    assert_equal!(rt; map.insert(1, "a"), Ok(None));
-    assert_equal!(rt; map.insert(1, "b"), Ok(Some("a")));
-    assert_equal!(rt; map.len(), 1);
-    assert_equal!(rt; map.remove(&2), None);
-    assert_equal!(rt; map.insert(2, "c"), Ok(None));
-    assert_equal!(rt; map.get(&1), Some(&"b"));
-    assert_equal!(rt; map.get(&3), None);
-    assert_equal!(rt; map.get_key_value(&2), Some((&2, &"c")));
-    assert!(rt; map.contains_key(&2) && !map.contains_key(&3));
-    if map.contains_key(&2) {
-        assert_equal!(rt; map[&2], "c");
-    }
-    let mut walk = map.iter();
-    assert_equal!(rt; walk.len(), 2);
-    assert_equal!(rt; walk.next(), Some((&1, &"b")));
-    assert_equal!(rt; walk.next(), Some((&2, &"c")));
-    assert_equal!(rt; walk.next(), None);
-    assert_equal!(rt; map.remove(&1), Some("b"));
-    assert_equal!(rt; map.reserve(100), Ok(()));
-    assert_equal!(rt; map.len(), 1);
-    map.clear();
-    assert!(rt; map.is_empty());
-}
-
-#[test]
 fn a_later_pair_of_one_key_wins(rt: HostRuntime) {
     let mut map = Map::from_iter(rt.alloc(), [(1, "a"), (2, "b"), (1, "c")]).or_abort(&rt);
     assert_equal!(rt; map.len(), 2);
@@ -57,18 +29,6 @@ fn a_later_pair_of_one_key_wins(rt: HostRuntime) {
     assert_equal!(rt; map.len(), 4);
     assert_equal!(rt; map.remove_entry(&1), Some((1, "c")));
     assert_equal!(rt; map.remove_entry(&1), None);
-}
-
-#[test]
-fn some_entries_are_kept(rt: HostRuntime) {
-    let mut map = six(rt.alloc()).or_abort(&rt);
-    map.retain(|key, _| key % 2 == 0);
-    assert_equal!(rt; &map, &Map::from_iter(rt.alloc(), [(2, 2), (4, 4), (6, 6)]).or_abort(&rt));
-    map.retain(|_, value| {
-        *value /= 2;
-        true
-    });
-    assert_equal!(rt; &map, &Map::from_iter(rt.alloc(), [(2, 1), (4, 2), (6, 3)]).or_abort(&rt));
 }
 
 #[test]
@@ -138,19 +98,4 @@ fn a_map_prints_in_order(rt: HostRuntime) {
     );
     map.clear();
     assert_equal!(rt; format!(in rt.alloc(); "{map:?}").or_abort(&rt).as_str(), "{}");
-}
-
-// Two texts without a letter are equal, and only one of them has room for some.
-#[test]
-fn a_key_that_is_there_is_kept(rt: HostRuntime) {
-    let alloc = rt.alloc();
-    let roomy = String::with_capacity(alloc, 40).or_abort(&rt);
-    let mut map = Map::from_iter(alloc, [(roomy, 1), (String::new(alloc), 2)]).or_abort(&rt);
-    assert_equal!(rt;
-        (map.len(), map.insert(String::new(alloc), 3).or_abort(&rt)),
-        (1, Some(2))
-    );
-    map.extend([(String::new(alloc), 4)]).or_abort(&rt);
-    let entry = map.get_key_value(&String::new(alloc));
-    assert!(rt; entry.is_some_and(|(key, value)| 40 <= key.capacity() && *value == 4));
 }
