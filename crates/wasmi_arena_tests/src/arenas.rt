@@ -1,9 +1,208 @@
-//! What no clause says of arenas and their runs: that calls succeed, at several types of keys, and texts.
+//! Arenas: worked keys and refusals, the Rust crate's own cases, and texts.
 use crate::or_abort::OrAbort;
 use std::alloc::Global;
 use std::num::NonZero;
-use wasmi_arena::{ArenaCommand, ArenaError, ArenaKey, ArenaReply, StableArena, run_arena};
+use std::ops::Range;
+use wasmi_arena::{ArenaCommand, ArenaError, ArenaKey, ArenaReply, StableArena};
 use wasmi_vectors::assert_equal;
+use wasmi_vectors::observed::{Log, Observed};
+use wasmi_vectors::one::One;
+use wasmi_vectors::tiny::Tiny;
+
+/// An arena of 0, 1 and so on.
+pub fn numbered(alloc: Global, len: usize) -> Result<StableArena<usize, usize>, ArenaError> {
+    StableArena::from_iter(alloc, 0..len)
+}
+
+// Whether an arena gives the first keys of a type to its first items.
+fn fills<Key: ArenaKey + PartialEq>(alloc: Global, first: Key, second: Key) -> bool {
+    let mut arena: StableArena<Key, u8> = StableArena::new(alloc);
+    let starts = arena.is_empty() && arena.next_key() == Ok(first) && arena.room() == 0;
+    let keys = arena.alloc(7) == Ok(first) && arena.alloc(8) == Ok(second);
+    let reads = arena.get(first) == Ok(&7) && arena.get(second) == Ok(&8);
+    let mut entries = arena.iter();
+    let walks = entries.len() == 2 && entries.next() == Some((first, &7)) && entries.len() == 1;
+    starts && keys && reads && walks && (arena.len(), arena.room()) == (2, 30)
+}
+
+#[test]
+fn arenas_under_each_type_of_keys(rt: HostRuntime) {
+    assert!(rt; fills(rt.alloc(), 0usize, 1));
+    assert!(rt; fills(rt.alloc(), 0u32, 1));
+    for (one, two) in NonZero::<u32>::new(1)
+        .into_iter()
+        .zip(NonZero::<u32>::new(2))
+    {
+        assert!(rt; fills(rt.alloc(), one, two));
+    }
+}
+
+#[test]
+fn alloc_and_get(rt: HostRuntime) {
+    let mut arena: StableArena<usize, usize> = StableArena::new(rt.alloc());
+    assert_equal!(rt; arena.get(0), Err(ArenaError::KeyOutOfBounds));
+    for number in 0..100 {
+        assert_equal!(rt; arena.alloc(number), Ok(number));
+    }
+    assert!(rt; (0..100).all(|key| arena.get(key) == Ok(&key) && arena.has(key)));
+    assert_equal!(rt; arena.get(100), Err(ArenaError::KeyOutOfBounds));
+    assert_equal!(rt; (arena.len(), arena.has(100), arena.last()), (100, false, Some(&99)));
+}
+
+#[test]
+fn ten_defaults_then_a_pair_then_five_backward(rt: HostRuntime) {
+    let mut ten: StableArena<usize, i32> = StableArena::new(rt.alloc());
+    let keys = ten.alloc_many(10).or_abort(&rt);
+    assert_equal!(rt; (keys.start, keys.end, ten.len()), (0, 10, 10));
+    assert!(rt; ten.values().all(|item| *item == 0));
+    let mut pair: StableArena<usize, i32> = StableArena::from_iter(rt.alloc(), 0..10).or_abort(&rt);
+    let (one, eight) = pair.get_disjoint_mut([1, 8]).or_abort(&rt);
+    *one = -1;
+    *eight = -8;
+    assert!(rt; pair.values().copied().eq([0, -1, 2, 3, 4, 5, 6, 7, -8, 9]));
+    let five = numbered(rt.alloc(), 5).or_abort(&rt);
+    let mut entries = five.iter();
+    assert_equal!(rt; entries.len(), 5);
+    for key in [4, 3, 2, 1, 0] {
+        assert_equal!(rt; entries.next_back(), Some((key, &key)));
+    }
+    assert_equal!(rt; (entries.next_back(), entries.next()), (None, None));
+}
+
+// By `get_mut`, by index, by `put` and by a loop.
+#[test]
+fn items_are_written_under_their_keys(rt: HostRuntime) {
+    let mut arena = numbered(rt.alloc(), 10).or_abort(&rt);
+    *arena.get_mut(3).or_abort(&rt) = 30;
+    assert_equal!(rt; arena.get(3), Ok(&30));
+    assert!(rt; arena.len() > 9);
+    arena[4] = 40;
+    assert_equal!(rt; (arena[3], arena[4], arena[9]), (30, 40, 9));
+    assert_equal!(rt; (arena.put(9, 90), arena.swap(0, 9)), (Ok(9), Ok(())));
+    let refused = (arena.put(10, 7), arena.get_mut(10).err(), arena.swap(0, 10));
+    let error = ArenaError::KeyOutOfBounds;
+    assert_equal!(rt; refused, (Err(error), Some(error), Err(error)));
+    assert!(rt;
+        arena
+            .values()
+            .copied()
+            .eq([90, 1, 2, 30, 40, 5, 6, 7, 8, 0])
+    );
+    let mut arena = numbered(rt.alloc(), 10).or_abort(&rt);
+    for (key, item) in &mut arena {
+        *item = item.wrapping_add(key);
+    }
+    assert!(rt;
+        arena
+            .values()
+            .copied()
+            .eq((0..10usize).map(|key| key.wrapping_mul(2)))
+    );
+}
+
+#[test]
+fn equal_arenas(rt: HostRuntime) {
+    let arena = numbered(rt.alloc(), 10).or_abort(&rt);
+    assert_equal!(rt; &arena, &numbered(rt.alloc(), 10).or_abort(&rt));
+    assert!(rt; arena != numbered(rt.alloc(), 9).or_abort(&rt));
+}
+
+#[test]
+fn keys_and_values_of_an_arena(rt: HostRuntime) {
+    let mut arena: StableArena<NonZero<u32>, u32> = StableArena::from_iter(
+        rt.alloc(),
+        0..40,
+    ).or_abort(&rt);
+    let mut keys = arena.keys();
+    assert_equal!(rt; keys.next().map(|key| key.get()), Some(1));
+    assert_equal!(rt; keys.next_back().map(|key| key.get()), Some(40));
+    assert_equal!(rt; keys.len(), 38);
+    // The arena is written to while its keys are walked.
+    for key in keys {
+        assert_equal!(rt; arena.put(key, 7), Ok(key.get() - 1));
+    }
+    let mut values = arena.values();
+    assert_equal!(rt; (values.next(), values.next_back(), values.len()), (Some(&0), Some(&39), 38));
+    assert!(rt; values.all(|item| *item == 7));
+}
+
+// The numbers of a range of keys.
+fn numbers<Key: ArenaKey>(
+    keys: Result<Range<Key>, ArenaError>,
+) -> Result<(usize, usize), ArenaError> {
+    keys.map(|keys| (keys.start.into_usize(), keys.end.into_usize()))
+}
+
+#[test]
+fn items_come_while_there_are_keys(rt: HostRuntime) {
+    let refused = Err(ArenaError::NotEnoughKeys);
+    let mut four: StableArena<Tiny, i32> = StableArena::new(rt.alloc());
+    assert_equal!(rt; numbers(four.alloc_many(4)), refused);
+    assert_equal!(rt; (four.len(), four.items().open_buckets()), (0, 0));
+    assert_equal!(rt; numbers(four.alloc_many(3)), Ok((0, 3)));
+    assert_equal!(rt; (numbers(four.alloc_many(1)), four.len()), (refused, 3));
+    assert_equal!(rt; numbers(four.alloc_many(0)), Ok((3, 3)));
+    assert_equal!(rt; four.alloc(9).map(Tiny::into_usize), Ok(3));
+    let again = (
+        four.alloc(9).err(),
+        four.next_key().err(),
+        numbers(four.alloc_many(0)),
+    );
+    assert_equal!(rt; again, (refused.err(), refused.err(), refused));
+    assert!(rt; four.values().copied().eq([0, 0, 0, 9]));
+    let mut one: StableArena<One, i32> = StableArena::new(rt.alloc());
+    assert_equal!(rt; numbers(one.alloc_many(0)), Ok((0, 0)));
+    assert_equal!(rt; (numbers(one.alloc_many(1)), one.len()), (refused, 0));
+}
+
+#[test]
+fn four_of_four_keys_are_collected(rt: HostRuntime) {
+    let four: StableArena<Tiny, usize> = StableArena::from_iter(rt.alloc(), 0..4).or_abort(&rt);
+    assert_equal!(rt; four.len(), 4);
+    for (number, (key, item)) in four.iter().enumerate() {
+        assert_equal!(rt; (key.into_usize(), *item), (number, number));
+    }
+    let five: Result<StableArena<Tiny, usize>, ArenaError> = StableArena::from_iter(
+        rt.alloc(),
+        0..5,
+    );
+    assert_equal!(rt; five.err(), Some(ArenaError::NotEnoughKeys));
+}
+
+// More than there are keys for the end of, or slots, of an empty arena and of one item.
+#[test]
+fn too_many_items_ask_for_nothing(rt: HostRuntime) {
+    for len in [0, 1] {
+        for amount in [usize::MAX, 4_294_967_265] {
+            let log = Log::new();
+            let mut arena: StableArena<usize, i32, Observed<'_>> = StableArena::from_iter(
+                Observed::new(rt.alloc(), &log),
+                0..len,
+            ).or_abort(&rt);
+            let made = log.requests();
+            assert_equal!(rt; numbers(arena.alloc_many(amount)), Err(ArenaError::NotEnoughKeys));
+            assert!(rt; arena.values().copied().eq(0..len));
+            assert_equal!(rt; (log.requests(), arena.items().open_buckets() as u64), (made, made));
+        }
+    }
+}
+
+#[test]
+fn debug_texts_of_arenas(rt: HostRuntime) {
+    let mut arena: StableArena<u32, bool> = StableArena::new(rt.alloc());
+    let none = format!(in rt.alloc(); "{arena:?}{arena:#?}").or_abort(&rt);
+    assert_equal!(rt; none.as_str(), "{}{}");
+    arena.alloc(true).or_abort(&rt);
+    arena.alloc(false).or_abort(&rt);
+    let two = format!(in rt.alloc(); "{arena:?} {arena:#?}").or_abort(&rt);
+    assert_equal!(rt; two.as_str(), "{0: true, 1: false} {\n    0: true,\n    1: false,\n}");
+    // Its keys, and not its positions.
+    let keyed: StableArena<NonZero<u32>, u8> = StableArena::from_iter(rt.alloc(), 7..9).or_abort(
+        &rt,
+    );
+    let text = format!(in rt.alloc(); "{keyed:?}").or_abort(&rt);
+    assert_equal!(rt; text.as_str(), "{1: 7, 2: 8}");
+}
 
 #[test]
 fn debug_texts_of_commands_and_replies(rt: HostRuntime) {
@@ -16,141 +215,15 @@ fn debug_texts_of_commands_and_replies(rt: HostRuntime) {
         let shown = format!(in rt.alloc(); "{command:?}").or_abort(&rt);
         assert_equal!(rt; shown.as_str(), text);
     }
+    let refused = ArenaReply::Refused(ArenaError::NotEnoughKeys);
     for (reply, text) in [
         (ArenaReply::<u32, u8>::Key(0), "Key(0)"),
         (ArenaReply::Has(true), "Has(true)"),
         (ArenaReply::Old(7), "Old(7)"),
         (ArenaReply::Done, "Done"),
-        (
-            ArenaReply::Refused(ArenaError::NotEnoughKeys),
-            "Refused(NotEnoughKeys)",
-        ),
+        (refused, "Refused(NotEnoughKeys)"),
     ] {
         let shown = format!(in rt.alloc(); "{reply:?}").or_abort(&rt);
         assert_equal!(rt; shown.as_str(), text);
     }
-}
-
-// Whether an arena gives the first keys of a type to its first items.
-fn fills<Key: ArenaKey + PartialEq>(alloc: Global, first: Key, second: Key) -> bool {
-    let mut arena: StableArena<Key, u8> = StableArena::new(alloc);
-    let starts = arena.is_empty() && arena.next_key() == Ok(first) && arena.room() == 0;
-    let keys = arena.alloc(7) == Ok(first) && arena.alloc(8) == Ok(second);
-    let reads = arena.get(first) == Ok(&7) && arena.get(second) == Ok(&8);
-    let mut entries = arena.iter();
-    let walks = entries.len() == 2 && entries.next() == Some((first, &7)) && entries.len() == 1;
-    starts
-        && keys
-        && reads
-        && walks
-        && arena.len() == 2
-        && arena.room() == 30
-        && arena.items().len() == 2
-}
-
-#[test]
-fn arenas_under_two_keys(rt: HostRuntime) {
-    assert!(rt; fills(rt.alloc(), 0usize, 1));
-    assert!(rt; fills(rt.alloc(), 0u32, 1));
-    let one = NonZero::<u32>::new(1).expect(&rt, "one");
-    let two = NonZero::<u32>::new(2).expect(&rt, "two");
-    assert!(rt; fills(rt.alloc(), one, two));
-    let arena: StableArena<usize, u8> = StableArena::new(rt.alloc());
-    assert_equal!(rt; arena.get(0), Err(ArenaError::KeyOutOfBounds));
-}
-
-#[test]
-fn items_are_exchanged(rt: HostRuntime) {
-    let mut arena: StableArena<u32, u32> = StableArena::from_iter(rt.alloc(), 0..100).or_abort(&rt);
-    for key in 0..100 {
-        assert_equal!(rt; arena.put(key, 1000).or_abort(&rt), key);
-        *arena.get_mut(key).or_abort(&rt) = 99 - key;
-    }
-    for key in 0..100 {
-        assert_equal!(rt; arena.get(key), Ok(&(99 - key)));
-    }
-    assert_equal!(rt; (arena.len(), arena.items().open_buckets()), (100, 3));
-}
-
-#[test]
-fn walks_give_what_was_written(rt: HostRuntime) {
-    let mut arena: StableArena<u32, u32> = StableArena::from_iter(rt.alloc(), 0..100).or_abort(&rt);
-    for key in 0..100 {
-        *arena.get_mut(key).or_abort(&rt) = 99 - key;
-    }
-    for (key, item) in &arena {
-        assert_equal!(rt; key.wrapping_add(*item), 99);
-    }
-    for item in arena.items() {
-        assert!(rt; *item < 100);
-    }
-}
-
-#[test]
-fn a_walk_goes_from_both_ends(rt: HostRuntime) {
-    let arena: StableArena<u32, u8> = StableArena::from_iter(rt.alloc(), 0..100).or_abort(&rt);
-    let mut entries = arena.iter();
-    assert_equal!(rt; (entries.next_back(), entries.next()), (Some((99, &99)), Some((0, &0))));
-    assert_equal!(rt; (entries.next_back(), entries.len()), (Some((98, &98)), 97));
-    let five: StableArena<u32, u32> = StableArena::from_iter(rt.alloc(), 0..5).or_abort(&rt);
-    let mut entries = five.iter();
-    assert_equal!(rt; entries.len(), 5);
-    for key in [4, 3, 2, 1, 0] {
-        assert_equal!(rt; entries.next_back(), Some((key, &key)));
-    }
-    assert_equal!(rt; entries.next_back(), None);
-}
-
-#[test]
-fn no_item_at_the_next_key(rt: HostRuntime) {
-    let mut arena: StableArena<u32, u32> = StableArena::from_iter(rt.alloc(), 0..100).or_abort(&rt);
-    let refused = (arena.put(100, 7).err(), arena.get_mut(100).err());
-    let error = Some(ArenaError::KeyOutOfBounds);
-    assert_equal!(rt; (refused, arena.has(99), arena.has(100)), ((error, error), true, false));
-}
-
-#[test]
-fn items_by_index(rt: HostRuntime) {
-    let mut arena: StableArena<u32, u8> = StableArena::new(rt.alloc());
-    let first = arena.alloc(7).or_abort(&rt);
-    let second = arena.alloc(8).or_abort(&rt);
-    assert_equal!(rt; (arena[first], arena[second]), (7, 8));
-    arena[second] = 9;
-    assert_equal!(rt; (arena[first], arena[second]), (7, 9));
-}
-
-#[test]
-fn a_run_of_commands(rt: HostRuntime) {
-    let mut arena: StableArena<u32, u8> = StableArena::new(rt.alloc());
-    let commands = vec![in rt.alloc();
-        ArenaCommand::Alloc(7),
-        ArenaCommand::Alloc(8),
-        ArenaCommand::Swap(0, 1),
-        ArenaCommand::Put(0, 9),
-        ArenaCommand::Has(1),
-        ArenaCommand::Has(2),
-        ArenaCommand::Put(2, 5),
-        ArenaCommand::Swap(1, 1),
-        ArenaCommand::Swap(5, 5),
-        ArenaCommand::Swap(1, 2),
-    ]
-    .or_abort(&rt);
-    let replies = run_arena(rt.alloc(), &mut arena, commands).or_abort(&rt);
-    assert_equal!(rt;
-        replies.as_slice(),
-        [
-            ArenaReply::Key(0),
-            ArenaReply::Key(1),
-            ArenaReply::Done,
-            ArenaReply::Old(8),
-            ArenaReply::Has(true),
-            ArenaReply::Has(false),
-            ArenaReply::Refused(ArenaError::KeyOutOfBounds),
-            ArenaReply::Refused(ArenaError::AliasingPairAccess),
-            ArenaReply::Refused(ArenaError::AliasingPairAccess),
-            ArenaReply::Refused(ArenaError::KeyOutOfBounds)
-        ]
-        .as_slice()
-    );
-    assert_equal!(rt; (arena.len(), arena.get(0).or_abort(&rt), arena.get(1).or_abort(&rt)), (2, &9, &7));
 }

@@ -8,13 +8,7 @@ mod asserts;
 #[cfg(test)]
 mod callers;
 #[cfg(test)]
-mod clones;
-#[cfg(test)]
-mod compared;
-#[cfg(test)]
-mod ends;
-#[cfg(test)]
-mod growth;
+mod dropped;
 #[cfg(test)]
 mod heap;
 #[cfg(test)]
@@ -22,7 +16,9 @@ mod iter_mut;
 #[cfg(test)]
 mod keys;
 #[cfg(test)]
-mod memory;
+mod large;
+#[cfg(test)]
+mod no_memory;
 #[cfg(test)]
 mod observed;
 #[cfg(test)]
@@ -31,9 +27,5 @@ mod or_abort;
 mod pairs;
 #[cfg(test)]
 mod refused;
-#[cfg(test)]
-mod slices;
-#[cfg(test)]
-mod taken;
 #[cfg(test)]
 mod vectors;

@@ -1,8 +1,10 @@
 //! Each request for memory of a call refused in turn, and then the call made again.
 use crate::or_abort::OrAbort;
-use wasmi_arena::{ArenaError, StableArena, StableVec};
+use std::cell::Cell;
+use wasmi_arena::{ArenaCommand, ArenaError, ArenaReply, StableArena, StableVec, run_arena};
 use wasmi_vectors::assert_equal;
 use wasmi_vectors::observed::{Log, Observed};
+use wasmi_vectors::tally::{Item, Tally};
 
 #[derive(Clone, Copy, Debug)]
 enum Call {
@@ -10,87 +12,94 @@ enum Call {
     AddMany,
     Clone,
     CloneIn,
+    Collect,
 }
 
-// Adds to a vector or clones it, and returns the length of what was made. There are to be 300 items after
-// many were added.
-fn call_vector<'a>(
-    call: Call,
-    vec: &mut StableVec<u64, Observed<'a>>,
-    alloc: Observed<'a>,
-) -> Result<usize, ArenaError> {
-    let len = vec.len();
-    match call {
-        Call::AddOne => {
-            vec.push(len as u64)?;
-            Ok(vec.len())
-        }
-        Call::AddMany => {
-            vec.extend(len as u64..300)?;
-            Ok(vec.len())
-        }
-        Call::Clone => Ok(vec.clone()?.len()),
-        Call::CloneIn => Ok(vec.clone_in(alloc)?.len()),
-    }
-}
-
-// The same of an arena.
-fn call_arena<'a>(
-    call: Call,
-    arena: &mut StableArena<usize, u64, Observed<'a>>,
-    alloc: Observed<'a>,
-) -> Result<usize, ArenaError> {
-    match call {
-        Call::AddOne => {
-            arena.alloc(96)?;
-            Ok(arena.len())
-        }
-        Call::AddMany => {
-            arena.alloc_many(204)?;
-            Ok(arena.len())
-        }
-        Call::Clone => Ok(arena.clone()?.len()),
-        Call::CloneIn => Ok(arena.clone_in(alloc)?.len()),
-    }
-}
-
-// A call, how many requests it makes, and the length of what it makes.
-const CALLS: [(Call, u64, usize); 4] = [
+// A call on 96 items, how many requests it makes, and how many items there are in what it makes.
+const CALLS: [(Call, u64, usize); 5] = [
     (Call::AddOne, 1, 97),
     (Call::AddMany, 2, 300),
     (Call::Clone, 2, 96),
     (Call::CloneIn, 2, 96),
+    (Call::Collect, 4, 300),
 ];
 
+// The number of items, if these are 0, 1 and so on, and from index `zeros` on 0.
+fn len_of(items: &StableVec<u64, Observed<'_>>, zeros: usize) -> Option<usize> {
+    let is_item = |(index, item): (usize, &u64)| {
+        *item == if index < zeros { index as u64 } else { 0 }
+    };
+    items.iter().enumerate().all(is_item).then_some(items.len())
+}
+
+fn call_vector<'a>(
+    call: Call,
+    vec: &mut StableVec<u64, Observed<'a>>,
+    alloc: Observed<'a>,
+) -> Result<Option<usize>, ArenaError> {
+    let len = vec.len() as u64;
+    let made = match call {
+        Call::AddOne => {
+            vec.push(len)?;
+            return Ok(len_of(vec, 97));
+        }
+        Call::AddMany => {
+            vec.extend(len..300)?;
+            return Ok(len_of(vec, 300));
+        }
+        Call::Clone => vec.clone()?,
+        Call::CloneIn => vec.clone_in(alloc)?,
+        Call::Collect => StableVec::from_iter(alloc, 0..300)?,
+    };
+    Ok(len_of(&made, 300))
+}
+
+fn call_arena<'a>(
+    call: Call,
+    arena: &mut StableArena<usize, u64, Observed<'a>>,
+    alloc: Observed<'a>,
+) -> Result<Option<usize>, ArenaError> {
+    let made = match call {
+        Call::AddOne => {
+            arena.alloc(96)?;
+            return Ok(len_of(arena.items(), 97));
+        }
+        Call::AddMany => {
+            arena.alloc_many(204)?;
+            return Ok(len_of(arena.items(), 96));
+        }
+        Call::Clone => arena.clone()?,
+        Call::CloneIn => arena.clone_in(alloc)?,
+        Call::Collect => StableArena::from_iter(alloc, 0..300)?,
+    };
+    Ok(len_of(made.items(), 300))
+}
+
+// An `extend` that is refused keeps the items before the one that found no memory.
 #[test]
 fn a_vector_goes_on_after_each_refusal(rt: HostRuntime) {
     for (call, requests, made) in CALLS {
-        for nth in 1..=3u64 {
+        for nth in 1..=requests.wrapping_add(1) {
             let log = Log::new();
             {
-                let mut vec = StableVec::from_iter(
-                    Observed::new(rt.alloc(), &log),
-                    0..96u64,
-                ).or_abort(&rt);
+                let handle = Observed::new(rt.alloc(), &log);
+                let mut vec = StableVec::from_iter(handle, 0..96u64).or_abort(&rt);
                 log.refuse_once(nth);
                 let first = call_vector(call, &mut vec, Observed::new(rt.alloc(), &log));
                 if nth <= requests {
                     assert_equal!(rt; first, Err(ArenaError::OutOfSystemMemory), "{call:?} {nth}");
-                    // The items before the one that found no memory are in.
-                    let len = match (call, nth) {
-                        (Call::AddMany, 2) => 224,
-                        _ => 96,
+                    let kept = match (call, nth) {
+                        (Call::AddMany, 2) => (224, 3),
+                        _ => (96, 2),
                     };
-                    assert_equal!(rt; vec.len(), len, "{call:?} {nth}");
-                    assert!(rt; vec.iter().copied().eq(0..len as u64));
+                    assert_equal!(rt; (len_of(&vec, 300), vec.open_buckets()), (Some(kept.0), kept.1));
                     let again = call_vector(call, &mut vec, Observed::new(rt.alloc(), &log));
-                    assert_equal!(rt; again, Ok(made), "{call:?} {nth}");
+                    assert_equal!(rt; again, Ok(Some(made)), "{call:?} {nth}");
                 } else {
-                    assert_equal!(rt; first, Ok(made), "{call:?} {nth}");
+                    assert_equal!(rt; first, Ok(Some(made)), "{call:?} {nth}");
                 }
-                assert!(rt; vec.iter().copied().eq(0..vec.len() as u64));
             }
-            assert_equal!(rt; log.amiss(), 0);
+            assert_equal!(rt; log.amiss(), 0, "{call:?} {nth}");
         }
     }
 }
@@ -98,45 +107,177 @@ fn a_vector_goes_on_after_each_refusal(rt: HostRuntime) {
 #[test]
 fn an_arena_goes_on_after_each_refusal(rt: HostRuntime) {
     for (call, requests, made) in CALLS {
-        for nth in 1..=3u64 {
+        for nth in 1..=requests.wrapping_add(1) {
             let log = Log::new();
             {
-                let mut arena = StableArena::from_iter(
-                    Observed::new(rt.alloc(), &log),
-                    0..96u64,
-                ).or_abort(&rt);
+                let handle = Observed::new(rt.alloc(), &log);
+                let mut arena = StableArena::from_iter(handle, 0..96u64).or_abort(&rt);
                 log.refuse_once(nth);
                 let first = call_arena(call, &mut arena, Observed::new(rt.alloc(), &log));
                 if nth <= requests {
                     assert_equal!(rt; first, Err(ArenaError::OutOfSystemMemory), "{call:?} {nth}");
-                    assert_equal!(rt; arena.items().open_buckets(), 2);
-                    assert!(rt; arena.values().copied().eq(0..96));
+                    let kept = (len_of(arena.items(), 96), arena.items().open_buckets());
+                    assert_equal!(rt; kept, (Some(96), 2), "{call:?} {nth}");
                     let again = call_arena(call, &mut arena, Observed::new(rt.alloc(), &log));
-                    assert_equal!(rt; again, Ok(made), "{call:?} {nth}");
+                    assert_equal!(rt; again, Ok(Some(made)), "{call:?} {nth}");
                 } else {
-                    assert_equal!(rt; first, Ok(made), "{call:?} {nth}");
+                    assert_equal!(rt; first, Ok(Some(made)), "{call:?} {nth}");
                 }
-                assert!(rt; arena.values().copied().take(96).eq(0..96));
             }
-            assert_equal!(rt; log.amiss(), 0);
+            assert_equal!(rt; log.amiss(), 0, "{call:?} {nth}");
         }
     }
 }
 
 #[test]
-fn an_arena_with_room_needs_no_memory(rt: HostRuntime) {
+fn a_full_bucket_and_then_no_memory(rt: HostRuntime) {
     let log = Log::new();
-    let mut arena: StableArena<usize, u64, Observed<'_>> = StableArena::new(Observed::new(
-        rt.alloc(),
-        &log,
-    ));
-    arena.alloc(0).or_abort(&rt);
-    log.refuse_from(1);
-    let keys = arena.alloc_many(30).or_abort(&rt);
-    assert_equal!(rt; (keys.start, keys.end, arena.alloc(31)), (1, 31, Ok(31)));
-    let refused = Some(ArenaError::OutOfSystemMemory);
-    assert_equal!(rt; (arena.alloc(32).err(), arena.alloc_many(1).err()), (refused, refused));
-    assert_equal!(rt; (arena.len(), log.given()), (32, 1));
+    {
+        let mut vec = StableVec::from_iter(Observed::new(rt.alloc(), &log), 0..31u64).or_abort(&rt);
+        log.refuse_from(1);
+        let refused = Err(ArenaError::OutOfSystemMemory);
+        assert_equal!(rt; (vec.push(31), vec.push(32)), (Ok(31), refused));
+        assert_equal!(rt; (vec.len(), vec.open_buckets(), vec.slots()), (32, 1, 32));
+        log.refuse_none();
+        assert_equal!(rt; (vec.push(32), vec.open_buckets(), vec.slots()), (Ok(32), 2, 96));
+    }
+    assert_equal!(rt; (log.requests(), log.given(), log.amiss()), (3, 2, 0));
+}
+
+// Of no free slot for two of five; and of a block for 64 of a hundred.
+#[test]
+fn a_refused_extend_goes_as_far_as_its_buckets(rt: HostRuntime) {
+    // What is held, is to come, comes and is dropped; the length and the buckets then. Of as many requests as there are
+    // buckets then, the last is refused.
+    for (held, more, came, dropped, found) in [(30, 5, 2, 3, (32, 1)), (32, 100, 64, 36, (96, 2))] {
+        let (log, kept, added) = (Log::new(), Tally::new(), Tally::new());
+        {
+            let first = (0..held).map(|number| Item::new(&kept, number));
+            let mut vec = StableVec::from_iter(Observed::new(rt.alloc(), &log), first).or_abort(
+                &rt,
+            );
+            log.refuse_from(found.1);
+            let items: Vec<Item<'_>> = (0..more)
+                .map(|number| Item::new(&added, number))
+                .collect(rt.alloc())
+                .or_abort(&rt);
+            assert_equal!(rt; vec.extend(items), Err(ArenaError::OutOfSystemMemory));
+            assert_equal!(rt; (vec.len() as u64, vec.open_buckets() as u64), found);
+            assert!(rt; vec.iter().map(Item::number).eq((0..held).chain(0..came)));
+            assert_equal!(rt; (kept.dropped().0, added.dropped().0), (0, dropped));
+        }
+        assert_equal!(rt; (kept.dropped(), added.dropped().0, log.amiss()), ((held, held), more, 0));
+    }
+}
+
+// The item that is refused is the last that is drawn. All items are dropped, that one first.
+#[test]
+fn a_refused_collection_draws_no_further(rt: HostRuntime) {
+    for (nth, len) in (1u64..).zip(crate::large::STARTS) {
+        for of_arena in [false, true] {
+            let (log, tally, drawn) = (Log::new(), Tally::new(), Cell::new(0u64));
+            log.refuse_once(nth);
+            let items = (0..140_000u64).map(|number| {
+                drawn.set(drawn.get().wrapping_add(1));
+                Item::new(&tally, number)
+            });
+            let handle = Observed::new(rt.alloc(), &log);
+            let refused = if of_arena {
+                StableArena::<usize, Item<'_>, Observed<'_>>::from_iter(handle, items).err()
+            } else {
+                StableVec::from_iter(handle, items).err()
+            };
+            assert_equal!(rt; refused, Some(ArenaError::OutOfSystemMemory), "at {len}");
+            let dropped = (len.wrapping_add(1), len.max(1));
+            assert_equal!(rt; (drawn.get(), tally.dropped()), (dropped.0, dropped), "at {len}");
+            assert_equal!(rt; (log.requests(), log.amiss()), (nth, 0), "at {len}");
+        }
+    }
+}
+
+// The first of two new buckets is closed again. Then the arena ends, or the call is made again.
+#[test]
+fn alloc_many_adds_all_or_none(rt: HostRuntime) {
+    for is_made_again in [false, true] {
+        let (log, tally) = (Log::new(), Tally::new());
+        {
+            let mut arena: StableArena<usize, Option<Item<'_>>, Observed<'_>> = StableArena::new(
+                Observed::new(rt.alloc(), &log),
+            );
+            for number in 0..31 {
+                arena.alloc(Some(Item::new(&tally, number))).or_abort(&rt);
+            }
+            log.refuse_once(2);
+            assert_equal!(rt; arena.alloc_many(100).err(), Some(ArenaError::OutOfSystemMemory));
+            assert_equal!(rt; (arena.len(), arena.items().open_buckets()), (31, 1));
+            assert_equal!(rt; (log.given(), log.returned(), tally.dropped()), (2, 1, (0, 0)));
+            if is_made_again {
+                let keys = arena.alloc_many(100).or_abort(&rt);
+                assert_equal!(rt; (keys.start, keys.end), (31, 131));
+                assert_equal!(rt; (arena.items().open_buckets(), arena.items().slots()), (3, 224));
+            }
+            for (index, item) in (0u64..).zip(arena.values()) {
+                let wanted = if index < 31 { Some(index) } else { None };
+                assert_equal!(rt; item.as_ref().map(Item::number), wanted);
+            }
+        }
+        assert_equal!(rt; (tally.dropped(), log.amiss()), ((31, 31), 0));
+    }
+}
+
+// The replies to two commands, which lie in a block of another log.
+fn replies<'a>(
+    commands_in: Observed<'a>,
+    alloc: Observed<'a>,
+    arena: &mut StableArena<usize, u8, Observed<'a>>,
+) -> Result<Vec<ArenaReply<usize, u8>, Observed<'a>>, ArenaError> {
+    let commands = vec![in commands_in; ArenaCommand::Alloc(1), ArenaCommand::Has(0)]?;
+    run_arena(alloc, arena, commands)
+}
+
+// The first request is for the replies alone. The second is for a bucket, and is replied to as refused.
+#[test]
+fn a_run_goes_on_after_each_refusal(rt: HostRuntime) {
+    let error = ArenaError::OutOfSystemMemory;
+    for (nth, reply, len) in [
+        (1, None, 32),
+        (2, Some(ArenaReply::Refused(error)), 32),
+        (3, Some(ArenaReply::Key(32)), 33),
+    ] {
+        let (log, other) = (Log::new(), Log::new());
+        {
+            let handle = Observed::new(rt.alloc(), &log);
+            let mut arena = StableArena::from_iter(handle.clone().or_abort(&rt), 0..32u8).or_abort(
+                &rt,
+            );
+            let commands_in = Observed::new(rt.alloc(), &other);
+            log.refuse_once(nth);
+            let found = replies(
+                commands_in.clone().or_abort(&rt),
+                handle.clone().or_abort(&rt),
+                &mut arena,
+            );
+            match reply {
+                Some(first) => {
+                    let (found, second) = (found.or_abort(&rt), ArenaReply::Has(true));
+                    assert_equal!(rt; (found.as_slice(), found.capacity()), ([first, second].as_slice(), 2));
+                }
+                None => assert_equal!(rt; found.err(), Some(error)),
+            }
+            assert_equal!(rt; arena.len(), len, "at {nth}");
+            log.refuse_none();
+            let again = replies(commands_in, handle, &mut arena).or_abort(&rt);
+            let wanted = [ArenaReply::Key(len), ArenaReply::Has(true)];
+            assert_equal!(rt; again.as_slice(), wanted.as_slice(), "at {nth}");
+            assert!(rt;
+                arena
+                    .values()
+                    .copied()
+                    .eq((0..32u8).chain((32..=len).map(|_| 1)))
+            );
+        }
+        assert_equal!(rt; (log.amiss(), other.amiss()), (0, 0));
+    }
 }
 
 // A bucket is over a clone of the vector's handle.
@@ -146,12 +287,29 @@ fn a_handle_that_cannot_be_cloned_opens_no_bucket(rt: HostRuntime) {
     {
         let mut vec = StableVec::from_iter(Observed::new(rt.alloc(), &log), 0..31u64).or_abort(&rt);
         log.refuse_clones();
-        assert_equal!(rt; vec.push(31), Ok(31));
-        assert_equal!(rt; vec.push(32), Err(ArenaError::OutOfSystemMemory));
-        assert!(rt; vec.iter().copied().eq(0..32));
-        assert_equal!(rt; (vec.open_buckets(), vec.slots()), (1, 32));
+        let refused = Err(ArenaError::OutOfSystemMemory);
+        assert_equal!(rt; (vec.push(31), vec.push(32)), (Ok(31), refused));
+        assert_equal!(rt; (len_of(&vec, 32), vec.open_buckets(), vec.slots()), (Some(32), 1, 32));
         log.refuse_none();
         assert_equal!(rt; (vec.push(32), vec.open_buckets()), (Ok(32), 2));
     }
     assert_equal!(rt; (log.given(), log.amiss()), (2, 0));
+}
+
+// Each bucket has one, and `clone` one more, for the vector.
+#[test]
+fn a_bucket_takes_one_clone_of_the_allocator(rt: HostRuntime) {
+    let (log, other) = (Log::new(), Log::new());
+    let mut vec = StableVec::new(Observed::new(rt.alloc(), &log));
+    for number in 0..97usize {
+        assert_equal!(rt; vec.push(7u8), Ok(number));
+        assert_equal!(rt; log.clones(), vec.open_buckets() as u64, "of {number}");
+    }
+    assert_equal!(rt; vec.clone_in(Observed::new(rt.alloc(), &other)).or_abort(&rt).len(), 97);
+    assert_equal!(rt; vec.clone().or_abort(&rt).len(), 97);
+    assert_equal!(rt; (other.clones(), log.clones()), (3, 7));
+    let handle = Observed::new(rt.alloc(), &other);
+    let mut arena: StableArena<usize, u8, Observed<'_>> = StableArena::new(handle);
+    assert_equal!(rt; arena.alloc_many(97).or_abort(&rt).end, 97);
+    assert_equal!(rt; other.clones(), 6);
 }

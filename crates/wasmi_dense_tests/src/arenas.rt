@@ -1,7 +1,8 @@
-//! Arenas in one vector: worked rows, and the tests of the Rust crate's arena.
+//! Arenas in one vector: worked keys and refusals, the Rust crate's own cases, and texts.
 use crate::or_abort::OrAbort;
 use std::alloc::Global;
 use std::num::NonZero;
+use std::ops::Range;
 use wasmi_arena::{
     AnyArena, ArenaCommand, ArenaError, ArenaKey, ArenaReply, StableArena, run_arena,
 };
@@ -10,39 +11,30 @@ use wasmi_vectors::assert_equal;
 use wasmi_vectors::one::One;
 use wasmi_vectors::tiny::Tiny;
 
+const TEXTS: [&str; 4] = ["a", "b", "c", "d"];
+
 // An arena of four texts under the keys 0 to 3.
 fn four(alloc: Global) -> Result<Arena<usize, &'static str>, ArenaError> {
-    let mut arena = Arena::new(alloc);
-    for text in ["a", "b", "c", "d"] {
-        arena.alloc(text)?;
-    }
-    Ok(arena)
+    Arena::from_iter(alloc, TEXTS)
 }
 
+// The four come under the keys 0 to 3, and the same four again under 4 to 7.
 #[test]
 fn items_get_their_keys_in_turn(rt: HostRuntime) {
     let mut arena: Arena<usize, &'static str> = Arena::new(rt.alloc());
-    assert!(rt; arena.is_empty());
-    assert_equal!(rt; arena.get(0), Err(ArenaError::KeyOutOfBounds));
-    for (index, text) in ["a", "b", "c", "d"].iter().enumerate() {
-        assert_equal!(rt; arena.next_key(), Ok(index));
-        assert_equal!(rt; arena.alloc(text).or_abort(&rt), index);
-        assert_equal!(rt; arena.len(), index + 1);
-    }
-}
-
-#[test]
-fn items_come_under_their_keys(rt: HostRuntime) {
-    let arena = four(rt.alloc()).or_abort(&rt);
-    for (index, text) in ["a", "b", "c", "d"].iter().enumerate() {
-        assert_equal!(rt; arena.get(index), Ok(text));
-        if index < arena.len() {
-            assert_equal!(rt; arena[index], *text);
+    assert_equal!(rt; (arena.is_empty(), arena.get(0)), (true, Err(ArenaError::KeyOutOfBounds)));
+    for turn in [0, 4] {
+        for (index, text) in TEXTS.iter().enumerate() {
+            let key = index.wrapping_add(turn);
+            assert_equal!(rt; (arena.next_key(), arena.alloc(text)), (Ok(key), Ok(key)));
+            assert_equal!(rt; (arena.get(key), arena.has(key)), (Ok(text), true));
+            assert!(rt; key < arena.len());
+            assert_equal!(rt; arena[key], *text);
         }
-        assert!(rt; arena.has(index));
+        let end = turn.wrapping_add(4);
+        assert_equal!(rt; (arena.len(), arena.is_empty(), arena.has(end)), (end, false, false));
+        assert_equal!(rt; arena.get(end), Err(ArenaError::KeyOutOfBounds));
     }
-    assert_equal!(rt; arena.get(4), Err(ArenaError::KeyOutOfBounds));
-    assert!(rt; !arena.has(4));
 }
 
 #[test]
@@ -50,131 +42,70 @@ fn a_cleared_arena_begins_at_key_0(rt: HostRuntime) {
     let mut arena = four(rt.alloc()).or_abort(&rt);
     let slots = arena.len() + arena.room();
     arena.clear();
-    assert!(rt; arena.is_empty());
+    assert_equal!(rt; (arena.is_empty(), arena.room()), (true, slots));
     assert_equal!(rt; arena.get(0), Err(ArenaError::KeyOutOfBounds));
-    assert_equal!(rt; arena.room(), slots);
-    assert_equal!(rt; arena.alloc("e").or_abort(&rt), 0);
-    assert_equal!(rt; arena.get(0), Ok(&"e"));
+    assert_equal!(rt; (arena.alloc("e"), arena.get(0)), (Ok(0), Ok(&"e")));
 }
 
 #[test]
 fn a_walk_goes_from_both_ends(rt: HostRuntime) {
     let arena = four(rt.alloc()).or_abort(&rt);
     let mut walk = arena.iter();
-    // Whether the step is from the back, what it gives, and how many entries are ahead before it.
-    for (is_back, entry, ahead) in [
-        (false, Some((0, &"a")), 4),
-        (true, Some((3, &"d")), 3),
-        (true, Some((2, &"c")), 2),
-        (false, Some((1, &"b")), 1),
-        (false, None, 0),
-        (true, None, 0),
-    ] {
-        assert_equal!(rt; walk.len(), ahead);
-        let step = if is_back {
-            walk.next_back()
-        } else {
-            walk.next()
-        };
-        assert_equal!(rt; step, entry);
-    }
-}
-
-#[test]
-fn walks_have_each_entry_once(rt: HostRuntime) {
-    let arena = four(rt.alloc()).or_abort(&rt);
-    let mut visited = 0;
-    for (key, text) in &arena {
-        assert_equal!(rt; key, visited);
-        assert_equal!(rt; arena.get(key), Ok(text));
-        visited = key.wrapping_add(1);
-    }
-    assert_equal!(rt; visited, 4);
+    assert_equal!(rt; (walk.len(), walk.next(), walk.next_back()), (4, Some((0, &"a")), Some((3, &"d"))));
+    assert_equal!(rt; (walk.next_back(), walk.next(), walk.len()), (Some((2, &"c")), Some((1, &"b")), 0));
+    assert_equal!(rt; (walk.next(), walk.next_back()), (None, None));
 }
 
 #[test]
 fn a_collected_arena_is_the_allocated_one(rt: HostRuntime) {
-    let made: Arena<usize, &'static str> = Arena::from_iter(
-        rt.alloc(),
-        ["a", "b", "c", "d"],
-    ).or_abort(&rt);
+    let mut made = Arena::new(rt.alloc());
+    for text in TEXTS {
+        made.alloc(text).or_abort(&rt);
+    }
     assert_equal!(rt; &made, &four(rt.alloc()).or_abort(&rt));
-    let fewer: Arena<usize, &'static str> = Arena::from_iter(rt.alloc(), ["a", "b", "c"]).or_abort(
-        &rt,
-    );
-    assert!(rt; made != fewer);
-    let other: Arena<usize, &'static str> = Arena::from_iter(
-        rt.alloc(),
-        ["a", "b", "c", "e"],
-    ).or_abort(&rt);
-    assert!(rt; made != other);
+    for other in [["a", "b", "c", "e"], ["d", "b", "c", "a"]] {
+        assert!(rt; made != Arena::from_iter(rt.alloc(), other).or_abort(&rt));
+    }
+    assert!(rt; made != Arena::from_iter(rt.alloc(), ["a", "b", "c"]).or_abort(&rt));
 }
 
-#[test]
-fn equal_items_have_keys_of_their_own(rt: HostRuntime) {
-    let mut arena = four(rt.alloc()).or_abort(&rt);
-    for (index, text) in ["a", "b", "c", "d"].iter().enumerate() {
-        assert_equal!(rt; arena.alloc(text).or_abort(&rt), index + 4);
-    }
-    assert_equal!(rt; arena.len(), 8);
-}
-
-#[test]
-fn items_are_written_in_a_loop(rt: HostRuntime) {
-    let mut arena: Arena<usize, u64> = Arena::from_iter(rt.alloc(), 0..10).or_abort(&rt);
-    for (key, item) in &mut arena {
-        *item = item.wrapping_add(key as u64);
-    }
-    for (key, item) in arena.iter() {
-        assert_equal!(rt; *item, (key as u64).wrapping_mul(2));
-    }
-    let mut walk = arena.iter_mut();
-    assert_equal!(rt; walk.len(), 10);
-    if let Some((key, item)) = walk.next_back() {
-        assert_equal!(rt; (key, *item), (9, 18));
-        *item = 100;
-    }
-    if let Some((key, item)) = walk.next() {
-        assert_equal!(rt; (key, *item), (0, 0));
-        *item = 200;
-    }
-    assert_equal!(rt; walk.len(), 8);
-    assert_equal!(rt; (arena.get(0), arena.get(9)), (Ok(&200), Ok(&100)));
-}
-
+// By `get_mut`, by index, by `put`, in pairs and by loops.
 #[test]
 fn items_are_written_under_keys(rt: HostRuntime) {
     let mut arena: Arena<u32, i32> = Arena::from_iter(rt.alloc(), 0..10).or_abort(&rt);
     *arena.get_mut(3).or_abort(&rt) = 30;
-    if 4 < arena.len() {
-        arena[4] = 40;
-    }
-    assert_equal!(rt; arena.put(5, 50), Ok(5));
-    assert_equal!(rt; arena.put(10, 0), Err(ArenaError::KeyOutOfBounds));
+    assert!(rt; arena.len() > 4);
+    arena[4] = 40;
+    assert_equal!(rt; (arena.put(5, 50), arena.put(10, 0)), (Ok(5), Err(ArenaError::KeyOutOfBounds)));
     assert_equal!(rt; arena.get_mut(10).err(), Some(ArenaError::KeyOutOfBounds));
-    arena.reserve(5).or_abort(&rt);
-    let room = arena.room();
-    let (one, eight) = arena.get_disjoint_mut([1, 8]).or_abort(&rt);
-    *one = -1;
-    *eight = -8;
-    assert_equal!(rt; arena.room(), room);
-    let (nine, two) = arena.get_disjoint_mut([9, 2]).or_abort(&rt);
-    assert_equal!(rt; (*nine, *two), (9, 2));
-    *nine = -9;
-    *two = -2;
-    let wanted: Arena<u32, i32> = Arena::from_iter(
-        rt.alloc(),
-        [0, -1, -2, 30, 40, 50, 6, 7, -8, -9],
-    ).or_abort(&rt);
-    assert_equal!(rt; &arena, &wanted);
-    assert_equal!(rt; arena.swap(1, 8), Ok(()));
-    assert_equal!(rt; (arena.get(1), arena.get(8)), (Ok(&-8), Ok(&-1)));
+    for (first, second) in [(1, 8), (9, 2)] {
+        let (one, other) = arena.get_disjoint_mut([first, second]).or_abort(&rt);
+        assert_equal!(rt; (*one, *other), (first as i32, second as i32));
+        *one = one.wrapping_neg();
+        *other = other.wrapping_neg();
+    }
+    let wanted = [0, -1, -2, 30, 40, 50, 6, 7, -8, -9];
+    assert_equal!(rt; &arena, &Arena::from_iter(rt.alloc(), wanted).or_abort(&rt));
+    assert_equal!(rt; (arena.swap(1, 8), arena.get(1), arena.get(8)), (Ok(()), Ok(&-8), Ok(&-1)));
+    let mut arena: Arena<u32, u32> = Arena::from_iter(rt.alloc(), 0..10).or_abort(&rt);
+    for (key, item) in &mut arena {
+        *item = item.wrapping_add(key);
+    }
+    let mut walk = arena.iter_mut();
+    assert_equal!(rt; walk.len(), 10);
+    let (key, item) = walk.next_back().expect(&rt, "last");
+    *item = key.wrapping_add(100);
+    let (key, item) = walk.next().expect(&rt, "first");
+    *item = key.wrapping_add(200);
+    drop(walk);
+    let wanted = [200, 2, 4, 6, 8, 10, 12, 14, 16, 109];
+    assert_equal!(rt; &arena, &Arena::from_iter(rt.alloc(), wanted).or_abort(&rt));
 }
 
 // Which pairs of an arena of three items are refused, and why.
 #[test]
 fn pairs_out_of_bounds_come_before_equal_ones(rt: HostRuntime) {
-    let mut arena: Arena<usize, u8> = Arena::from_iter(rt.alloc(), 0..3).or_abort(&rt);
+    let mut arena: Arena<usize, usize> = Arena::from_iter(rt.alloc(), 0..3).or_abort(&rt);
     let room = arena.room();
     for (first, second, error) in [
         (5, 5, ArenaError::KeyOutOfBounds),
@@ -185,70 +116,62 @@ fn pairs_out_of_bounds_come_before_equal_ones(rt: HostRuntime) {
         (3, 3, ArenaError::KeyOutOfBounds),
     ] {
         let refused = arena.get_disjoint_mut([first, second]).err();
-        assert_equal!(rt; refused, Some(error), "{first} {second}");
-        assert_equal!(rt; arena.swap(first, second), Err(error), "{first} {second}");
-        // Nothing has changed.
-        assert_equal!(rt;
-            (arena.get(0), arena.get(1), arena.get(2), arena.room()),
-            (Ok(&0), Ok(&1), Ok(&2), room)
-        );
+        assert_equal!(rt; (refused, arena.swap(first, second)), (Some(error), Err(error)), "{first} {second}");
+        let found = (arena.get(0), arena.get(1), arena.get(2), arena.room());
+        assert_equal!(rt; found, (Ok(&0), Ok(&1), Ok(&2), room));
     }
+}
+
+/// The numbers of a range of keys.
+pub fn numbers<Key: ArenaKey>(
+    keys: Result<Range<Key>, ArenaError>,
+) -> Result<(usize, usize), ArenaError> {
+    let keys = keys?;
+    Ok((keys.start.into_usize(), keys.end.into_usize()))
 }
 
 #[test]
 fn four_keys_are_enough_for_four_items(rt: HostRuntime) {
+    let refused = Err(ArenaError::NotEnoughKeys);
     let mut arena: Arena<Tiny, i32> = Arena::new(rt.alloc());
-    assert_equal!(rt; arena.alloc_many(4).err(), Some(ArenaError::NotEnoughKeys));
-    assert_equal!(rt; arena.len(), 0);
-    let three = arena.alloc_many(3).or_abort(&rt);
-    assert_equal!(rt; (three.start.into_usize(), three.end.into_usize()), (0, 3));
-    assert_equal!(rt; arena.alloc_many(1).err(), Some(ArenaError::NotEnoughKeys));
-    assert_equal!(rt; arena.len(), 3);
-    let none = arena.alloc_many(0).or_abort(&rt);
-    assert_equal!(rt; (none.start.into_usize(), none.end.into_usize()), (3, 3));
-    assert_equal!(rt; arena.alloc(9).or_abort(&rt).into_usize(), 3);
-    assert_equal!(rt; arena.alloc(9).err(), Some(ArenaError::NotEnoughKeys));
-    assert_equal!(rt; arena.alloc_many(0).err(), Some(ArenaError::NotEnoughKeys));
-    assert_equal!(rt; arena.next_key().err(), Some(ArenaError::NotEnoughKeys));
-    assert_equal!(rt; arena.len(), 4);
-    let full: Arena<Tiny, i32> = Arena::from_iter(rt.alloc(), 0..4).or_abort(&rt);
-    for (index, (key, item)) in full.iter().enumerate() {
-        assert_equal!(rt; (key.into_usize(), *item), (index, index as i32));
-    }
-    let more: Result<Arena<Tiny, i32>, ArenaError> = Arena::from_iter(rt.alloc(), 0..5);
-    assert_equal!(rt; more.err(), Some(ArenaError::NotEnoughKeys));
+    assert_equal!(rt; (numbers(arena.alloc_many(4)), arena.len()), (refused, 0));
+    assert_equal!(rt; numbers(arena.alloc_many(3)), Ok((0, 3)));
+    assert_equal!(rt; (numbers(arena.alloc_many(1)), arena.len()), (refused, 3));
+    assert_equal!(rt; numbers(arena.alloc_many(0)), Ok((3, 3)));
+    assert_equal!(rt; arena.alloc(9).map(Tiny::into_usize), Ok(3));
+    let again = (
+        arena.alloc(9).err(),
+        arena.next_key().err(),
+        numbers(arena.alloc_many(0)),
+    );
+    assert_equal!(rt; (again, arena.len()), ((refused.err(), refused.err(), refused), 4));
     let mut one: Arena<One, i32> = Arena::new(rt.alloc());
-    let none = one.alloc_many(0).or_abort(&rt);
-    assert_equal!(rt; (none.start.into_usize(), none.end.into_usize()), (0, 0));
-    assert_equal!(rt; one.alloc_many(1).err(), Some(ArenaError::NotEnoughKeys));
-    assert_equal!(rt; one.len(), 0);
+    assert_equal!(rt; numbers(one.alloc_many(0)), Ok((0, 0)));
+    assert_equal!(rt; (numbers(one.alloc_many(1)), one.len()), (refused, 0));
 }
 
 #[test]
-fn many_items_come_at_once(rt: HostRuntime) {
-    let mut arena: Arena<usize, i32> = Arena::new(rt.alloc());
-    assert_equal!(rt;
-        arena.alloc_many(usize::MAX).err(),
-        Some(ArenaError::OutOfSystemMemory)
-    );
-    assert_equal!(rt; (arena.len(), arena.alloc(0)), (0, Ok(0)));
-    assert_equal!(rt;
-        arena.alloc_many(usize::MAX).err(),
-        Some(ArenaError::NotEnoughKeys)
-    );
-    let keys = arena.alloc_many(9).or_abort(&rt);
-    assert_equal!(rt; (keys.start, keys.end, arena.len()), (1, 10, 10));
-    for (_, item) in &arena {
-        assert_equal!(rt; *item, 0);
+fn four_of_four_keys_are_collected(rt: HostRuntime) {
+    let four: Arena<Tiny, usize> = Arena::from_iter(rt.alloc(), 0..4).or_abort(&rt);
+    assert_equal!(rt; four.len(), 4);
+    for (number, (key, item)) in four.iter().enumerate() {
+        assert_equal!(rt; (key.into_usize(), *item), (number, number));
     }
-    assert_equal!(rt;
-        arena.alloc_many(usize::MAX).err(),
-        Some(ArenaError::NotEnoughKeys)
-    );
-    assert_equal!(rt; arena.len(), 10);
+    let five: Result<Arena<Tiny, usize>, ArenaError> = Arena::from_iter(rt.alloc(), 0..5);
+    assert_equal!(rt; five.err(), Some(ArenaError::NotEnoughKeys));
 }
 
-// The replies of an empty arena to one list of commands.
+// No block is so large; and with one item no number is the new length.
+#[test]
+fn too_many_items_at_once(rt: HostRuntime) {
+    let mut arena: Arena<usize, i32> = Arena::new(rt.alloc());
+    assert_equal!(rt; numbers(arena.alloc_many(usize::MAX)), Err(ArenaError::OutOfSystemMemory));
+    assert_equal!(rt; (arena.len(), arena.alloc(0)), (0, Ok(0)));
+    assert_equal!(rt; numbers(arena.alloc_many(usize::MAX)), Err(ArenaError::NotEnoughKeys));
+    assert_equal!(rt; (numbers(arena.alloc_many(9)), arena.len()), (Ok((1, 10)), 10));
+}
+
+// The replies of an arena to one list of commands.
 fn replies_of<S: AnyArena<usize, i32>>(
     alloc: Global,
     arena: &mut S,
@@ -272,51 +195,40 @@ fn replies_of<S: AnyArena<usize, i32>>(
 fn one_run_for_both_arenas(rt: HostRuntime) {
     let mut dense: Arena<usize, i32> = Arena::new(rt.alloc());
     let mut stable: StableArena<usize, i32> = StableArena::new(rt.alloc());
-    let of_dense = replies_of(rt.alloc(), &mut dense).or_abort(&rt);
-    let of_stable = replies_of(rt.alloc(), &mut stable).or_abort(&rt);
     for (replies, last) in [
-        (&of_dense, ArenaError::KeyOutOfBounds),
-        (&of_stable, ArenaError::AliasingPairAccess),
+        (
+            replies_of(rt.alloc(), &mut dense),
+            ArenaError::KeyOutOfBounds,
+        ),
+        (
+            replies_of(rt.alloc(), &mut stable),
+            ArenaError::AliasingPairAccess,
+        ),
     ] {
-        assert_equal!(rt;
-            replies.as_slice(),
-            [
-                ArenaReply::Key(0),
-                ArenaReply::Key(1),
-                ArenaReply::Done,
-                ArenaReply::Old(8),
-                ArenaReply::Has(true),
-                ArenaReply::Has(false),
-                ArenaReply::Refused(ArenaError::KeyOutOfBounds),
-                ArenaReply::Refused(ArenaError::AliasingPairAccess),
-                ArenaReply::Refused(last)
-            ]
-            .as_slice()
-        );
+        let wanted = [
+            ArenaReply::Key(0),
+            ArenaReply::Key(1),
+            ArenaReply::Done,
+            ArenaReply::Old(8),
+            ArenaReply::Has(true),
+            ArenaReply::Has(false),
+            ArenaReply::Refused(ArenaError::KeyOutOfBounds),
+            ArenaReply::Refused(ArenaError::AliasingPairAccess),
+            ArenaReply::Refused(last),
+        ];
+        assert_equal!(rt; replies.or_abort(&rt).as_slice(), wanted.as_slice());
     }
-    assert_equal!(rt;
-        (dense.len(), dense.get(0), dense.get(1)),
-        (2, Ok(&9), Ok(&7))
-    );
-    assert_equal!(rt;
-        (stable.len(), stable.get(0), stable.get(1)),
-        (2, Ok(&9), Ok(&7))
-    );
+    assert_equal!(rt; (dense.len(), dense.get(0), dense.get(1)), (2, Ok(&9), Ok(&7)));
+    assert_equal!(rt; (stable.len(), stable.get(0), stable.get(1)), (2, Ok(&9), Ok(&7)));
 }
 
 #[test]
 fn an_arena_prints_as_a_map(rt: HostRuntime) {
-    let arena: Arena<usize, i32> = Arena::from_iter(rt.alloc(), 7..9).or_abort(&rt);
-    assert_equal!(rt;
-        format!(in rt.alloc(); "{arena:?}").or_abort(&rt).as_str(),
-        "{0: 7, 1: 8}"
-    );
     let empty: Arena<usize, i32> = Arena::new(rt.alloc());
-    assert_equal!(rt; format!(in rt.alloc(); "{empty:?}").or_abort(&rt).as_str(), "{}");
+    let none = format!(in rt.alloc(); "{empty:?}{empty:#?}").or_abort(&rt);
+    assert_equal!(rt; none.as_str(), "{}{}");
     // Its keys, and not its positions.
     let keyed: Arena<NonZero<u32>, i32> = Arena::from_iter(rt.alloc(), 7..9).or_abort(&rt);
-    assert_equal!(rt;
-        format!(in rt.alloc(); "{keyed:?}").or_abort(&rt).as_str(),
-        "{1: 7, 2: 8}"
-    );
+    let two = format!(in rt.alloc(); "{keyed:?} {keyed:#?}").or_abort(&rt);
+    assert_equal!(rt; two.as_str(), "{1: 7, 2: 8} {\n    1: 7,\n    2: 8,\n}");
 }

@@ -2,12 +2,14 @@
 #![tactic(auto)]
 
 #[cfg(test)]
-mod arena_memory;
-#[cfg(test)]
 mod arenas;
 #[cfg(test)]
 mod components;
 #[cfg(test)]
+mod large;
+#[cfg(test)]
+mod no_memory;
+#[cfg(test)]
 mod or_abort;
 #[cfg(test)]
-mod taken;
+mod refused;

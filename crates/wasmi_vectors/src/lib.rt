@@ -9,4 +9,5 @@ pub mod logged;
 pub mod noted;
 pub mod observed;
 pub mod one;
+pub mod tally;
 pub mod tiny;
