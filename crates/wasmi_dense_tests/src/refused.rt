@@ -92,7 +92,7 @@ fn an_arena_goes_on_after_each_refusal(rt: HostRuntime) {
         (Call::WithCapacity, 1, (0, 100_000)),
         (Call::Collect, 3, (9, 0)),
     ] {
-        for nth in 1..=requests + 1 {
+        for nth in 1..requests + 2 {
             let log = Log::new();
             {
                 let handle = Observed::new(rt.alloc(), &log);
@@ -122,10 +122,14 @@ fn has_the_even_ones(
     components: &ComponentVec<usize, Item<'_>, Observed<'_>>,
     extent: usize,
 ) -> bool {
-    let is_number = |(key, item): (usize, &Item<'_>)| key % 2 == 0 && item.number() == key as u64;
-    components.extent() == extent
-        && components.iter().count() == extent.div_ceil(2)
-        && components.iter().all(is_number)
+    let mut count: usize = 0;
+    for (key, item) in components {
+        if key % 2 != 0 || item.number() != key as u64 {
+            return false;
+        }
+        count = count.wrapping_add(1);
+    }
+    components.extent() == extent && count == extent.div_ceil(2)
 }
 
 // Each growth of the places is refused once, up to 131,073 of them.
