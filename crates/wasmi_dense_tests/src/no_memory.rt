@@ -98,7 +98,7 @@ fn components_below_the_extent_need_no_memory(rt: HostRuntime) {
     }
     assert_equal!(rt; components.get_mut(39), Some(&mut 7));
     assert_equal!(rt; (components.has(39), components.extent()), (true, 40));
-    assert_equal!(rt; components.iter_mut().count(), 1);
+    assert!(rt; components.iter_mut().next().is_some());
     {
         let mut iter = components.iter();
         assert_equal!(rt; (iter.next(), iter.next()), (Some((39, &7)), None));
