@@ -2,9 +2,7 @@
 #![tactic(auto)]
 
 use std::alloc::Global;
-use std::env;
-use std::fs;
-use std::io;
+use std::{env, fs, io};
 use wasmi_link_lib::{Module, decode};
 
 fn main(rt: HostRuntime) -> io::Result<()> {
@@ -27,7 +25,10 @@ fn dump(rt: &impl Print, module: &Module<'_, Global>) -> io::Result<()> {
         println!(rt; "type {:?} {:?}", ty.params, ty.results)?;
     }
     for import in &module.imports {
-        println!(rt; "import {} {} {:?}", import.module, import.field, import.item)?;
+        println!(rt;
+            "import {} {} {:?}",
+            import.module, import.field, import.item
+        )?;
     }
     for index in &module.functions {
         println!(rt; "func {index}")?;
