@@ -5,3 +5,4 @@ pub mod Views
 pub mod Format
 pub mod Sections
 pub mod Valid
+pub mod Matching

@@ -67,13 +67,11 @@ impl<'a> Reader<'a> {
         counts.memories = imported(&imports, Kind::Memory) + memories.len();
         let globals = self.section(6, alloc, &counts)?;
         counts.globals = imported(&imports, Kind::Global) + globals.len();
-        if !are_inits_within(&globals, &counts) {
-            return Err(Expected::InitIndex.at(self.offset()));
-        }
+        let within = are_inits_within(&globals, &counts);
+        self.require(within, Expected::InitIndex)?;
         let exports = self.section(7, alloc, &counts)?;
-        if !are_distinct(alloc, &exports)? {
-            return Err(Expected::FreshName.at(self.offset()));
-        }
+        let distinct = are_distinct(alloc, &exports)?;
+        self.require(distinct, Expected::FreshName)?;
         Ok(Module {
             types,
             imports,

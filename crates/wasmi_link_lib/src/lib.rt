@@ -9,6 +9,7 @@ mod error;
 mod item;
 mod items;
 pub mod laws;
+mod matching;
 mod module;
 mod numbers;
 mod reader;

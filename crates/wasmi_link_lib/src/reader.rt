@@ -91,7 +91,14 @@ impl<'a> Reader<'a> {
     pub(crate) fn end(&self, expected: Expected) -> Result<(), DecodeError>
         ensures { OnOk result (self.now ≡ []) }
     {
-        if self.rest.is_empty() {
+        self.require(self.rest.is_empty(), expected)
+    }
+
+    /// Fails with this error unless this holds.
+    pub(crate) fn require(&self, holds: bool, expected: Expected) -> Result<(), DecodeError>
+        ensures { OnOk result (IsTrue holds) }
+    {
+        if holds {
             Ok(())
         } else {
             Err(expected.at(self.offset()))

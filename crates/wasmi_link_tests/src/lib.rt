@@ -8,6 +8,8 @@ mod decoded;
 #[cfg(test)]
 mod malformed;
 #[cfg(test)]
+mod matching;
+#[cfg(test)]
 mod memory;
 #[cfg(test)]
 mod or_abort;

@@ -1,4 +1,4 @@
-use Rattle.std.proofs.Common.{rules, ◌≡◌, ◌+◌, length, List, refl, subst, map}
+use Rattle.std.proofs.Common.{rules, ◌≡◌, ◌+◌, length, List, subst, map}
 use Rattle.std.specs.List.{All}
 use Rattle.wasmi_link_lib.specs.declared.counts.Counts.{Counts}
 use Rattle.wasmi_link_lib.specs.declared.module.Module as rust_module
@@ -54,6 +54,6 @@ returns-clause-valid g c =
       globals = counted m Global _ _ (length m.globals.items) _ c.imported-4.ensures.count c.deref-4.ensures.value len_of_globals;
     })
     c.in_ok-imports.ensures.valid c.in_ok-functions.ensures.valid
-    (subst (λ (globals : List rust_global.Global). All (λ item. IsInitWithin late (init_of item.init)) globals) c.deref-5.ensures.value (c.if-not-are_inits_within.ensures refl))
+    (subst (λ (globals : List rust_global.Global). All (λ item. IsInitWithin late (init_of item.init)) globals) c.deref-5.ensures.value (c.are_inits_within-within.ensures c.in_ok-require.ensures))
     c.in_ok-exports.ensures.valid
-    (subst (λ (exports : List rust_export.Export). AreDistinct (map (λ e. e.name.now) exports)) c.deref-6.ensures.value (c.in_ok-are_distinct.ensures c.if-not-branch.false))
+    (subst (λ (exports : List rust_export.Export). AreDistinct (map (λ e. e.name.now) exports)) c.deref-6.ensures.value (c.in_ok-distinct.ensures c.in_ok-require-2.ensures))
