@@ -44,6 +44,7 @@ val_type_code val.V128 = 123
 val_type_code val.FuncRef = 112
 val_type_code val.ExternRef = 111
 
+-- the byte of a value type: 7F of i32
 abbrev pub IsValType : ValType → List ℕ → Type 0
 IsValType type = Byte (val_type_code type)
 
@@ -54,6 +55,8 @@ ref_type_code ref.ExternRef = 111
 abbrev pub IsRefType : RefType → List ℕ → Type 0
 IsRefType type = Byte (ref_type_code type)
 
+-- the byte 60, the types of the parameters and those of the results: 60 01 7F 00 of a function that
+-- takes an i32 and returns nothing
 abbrev pub IsFuncType : FuncType → List ℕ → Type 0
 IsFuncType type = Byte 96 ⋅ IsVector IsValType type.params ⋅ IsVector IsValType type.results
 
@@ -66,6 +69,7 @@ pub record IsLimits (limits : Limits) (text : List ℕ) : Type 0 where
   pub order : IfSome limits.max (λ max. limits.min ≤ max)
   pub written : AreBounds limits.min limits.max text
 
+-- the type of its elements, and its limits: 70 00 01 of a table of one function at least
 abbrev pub IsTableType : TableType → List ℕ → Type 0
 IsTableType type = IsRefType type.element ⋅ IsLimits type.limits
 
@@ -83,6 +87,8 @@ IsImportType (import.Table type) = Byte 1 ⋅ IsTableType type
 IsImportType (import.Memory type) = Byte 2 ⋅ IsMemoryType type
 IsImportType (import.Global type) = Byte 3 ⋅ IsGlobalType type
 
+-- the names of the module that is asked and of its export, and what this is to be: 01 68 01 69 00 02
+-- of the function i of the module h, which is to have type 2
 abbrev pub IsImport : Import → List ℕ → Type 0
 IsImport item = IsName item.asked ⋅ IsName item.field ⋅ IsImportType item.item
 
@@ -107,5 +113,6 @@ kind_code kind.Table = 1
 kind_code kind.Memory = 2
 kind_code kind.Global = 3
 
+-- its name, the byte of its kind, and its index: 01 68 00 02 of function 2 under the name h
 abbrev pub IsExport : Export → List ℕ → Type 0
 IsExport item = IsName item.name ⋅ Byte (kind_code item.kind) ⋅ IsU32 item.index

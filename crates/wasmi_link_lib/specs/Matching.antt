@@ -10,9 +10,11 @@ pub record LimitsMatch (asked given : Limits) : Type 0 where
   pub least : asked.min ≤ given.min
   pub most : IfSome asked.max (λ most. IsSomeAnd given.max (λ max. max ≤ most))
 
+-- elements of one type, and limits that match
 pub record TableMatches (asked given : TableType) : Type 0 where
   pub element : asked.element ≡ given.element
   pub limits : LimitsMatch asked.limits given.limits
 
+-- limits that match: 2 to 3 pages are one that asks for 1 to 4, and 2 or more aren't
 abbrev pub MemoryMatches : MemoryType → MemoryType → Type 0
 MemoryMatches asked given = LimitsMatch asked.limits given.limits

@@ -39,6 +39,7 @@ pub record Export : Type 0 where
   -- among the module's items of this kind, those that it imports first
   pub index : ℕ
 
+-- its types, what it asks for, what it has of its own, and what others may ask for
 pub record Module : Type 0 where
   pub types : List FuncType
   pub imports : List Import

@@ -12,6 +12,7 @@ use Rattle.wasmi_link_lib.specs.Modules.{Import, Init, I32, I64, F32, F64, V128,
 abbrev pub IsAnything : {X : Type 0} → Counts → X → Type 0
 IsAnything counts x = Unit {0}
 
+-- the index is that of one of the module's types
 abbrev pub IsTypeIndex : Counts → ℕ → Type 0
 IsTypeIndex counts index = index < counts.types
 
@@ -29,6 +30,7 @@ count_of counts Table = counts.tables
 count_of counts Memory = counts.memories
 count_of counts Global = counts.globals
 
+-- what is exported is there: its index is below the number of those of its kind
 abbrev pub IsExportWithin : Counts → Export → Type 0
 IsExportWithin counts item = item.index < count_of counts item.kind
 

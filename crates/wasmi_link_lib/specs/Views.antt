@@ -10,9 +10,11 @@ use Rattle.wasmi_link_lib.specs.declared.module.Module as rust_module
 use Rattle.wasmi_link_lib.specs.Modules.{FuncType, Import, Init, Global, Export, Module}
 use Rattle.wasmi_link_lib.specs.Modules as plain
 
+-- a function's type as two lists
 abbrev pub func_type_of : {A : Type 0} → rust_func.FuncType A → FuncType
 func_type_of f = record { params = f.params.items; results = f.results.items }
 
+-- an import with its names as bytes
 abbrev pub import_of : rust_import.Import → Import
 import_of i = record { asked = i.module.now; field = i.field.now; item = i.item }
 
@@ -26,12 +28,15 @@ init_of (init.RefNull type) = plain.RefNull type
 init_of (init.RefFunc index) = plain.RefFunc index
 init_of (init.GlobalGet index) = plain.GlobalGet index
 
+-- a global with its first value
 abbrev pub global_of : rust_global.Global → Global
 global_of g = record { ty = g.ty; init = init_of g.init }
 
+-- an export with its name as bytes
 abbrev pub export_of : rust_export.Export → Export
 export_of e = record { name = e.name.now; kind = e.kind; index = e.index }
 
+-- the plain module of a decoded one
 abbrev pub module_of : {A : Type 0} → rust_module.Module A → Module
 module_of m = record {
   types = map func_type_of m.types.items;
