@@ -1,4 +1,4 @@
-"""A plain decoder of modules, to judge the proved one by: `lines` says of a module what `wasmi_link_dump` writes."""
+"""A plain decoder of modules, to judge the proved one by: `lines` says of a module what `wasmi_module_dump` writes."""
 
 VAL = {0x7F: "I32", 0x7E: "I64", 0x7D: "F32", 0x7C: "F64", 0x7B: "V128", 0x70: "FuncRef", 0x6F: "ExternRef"}
 KINDS = ["Func", "Table", "Memory", "Global"]

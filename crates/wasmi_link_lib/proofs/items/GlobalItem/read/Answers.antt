@@ -1,5 +1,0 @@
-use Rattle.wasmi_link_lib.proofs.ReadLemmas.{reads-then}
-use Rattle.wasmi_link_lib.proofs.items.GlobalItem.read.Goals as goal
-
-pub returns-clause-written : goal.returns-clause-written
-returns-clause-written g c = reads-then _ _ _ c.global_type.new.self _ c.in_ok-ty.ensures c.in_ok-init.ensures

@@ -1,4 +1,0 @@
-use Rattle.wasmi_link_lib.proofs.reader.Reader.+signed.Given as goal
-
-abbrev pub decreases-signed : goal.decreases-signed
-decreases-signed l = l.half

@@ -1,5 +1,0 @@
-use Rattle.wasmi_link_lib.proofs.ReadLemmas.{reads-then, reads-byte}
-use Rattle.wasmi_link_lib.proofs.reader.Reader.init.Goals as goal
-
-pub returns : goal.returns
-returns c = reads-then _ _ _ c.constant.new.self _ c.in_ok-init.ensures (reads-byte _ 11 _ _ c.if-branch-ne11.false c.in_ok-byte.ensures)

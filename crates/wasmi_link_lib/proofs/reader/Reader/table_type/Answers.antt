@@ -1,5 +1,0 @@
-use Rattle.wasmi_link_lib.proofs.ReadLemmas.{reads-then}
-use Rattle.wasmi_link_lib.proofs.reader.Reader.table_type.Goals as goal
-
-pub returns : goal.returns
-returns c = reads-then _ _ _ c.ref_type.new.self _ c.in_ok-element.ensures c.in_ok-limits.ensures

@@ -1,0 +1,81 @@
+//! What is checked of a whole list.
+ghost use Rattle.std.specs.Prelude.{◌≡◌, ◌≤◌, IfOk, IsTrue, All, length, map};
+ghost use Rattle.std.specs.List.{count_by};
+ghost use Rattle.wasmi_module.specs.Valid.{is_of, IsImportWithin, IsInitWithin, AreDistinct};
+ghost use Rattle.wasmi_module.specs.Views.{init_of};
+
+use crate::counts::Counts;
+use crate::module::{Export, Global, Import, ImportType, Init, Kind};
+use std::alloc::{AllocError, Allocator};
+use std::collections::BTreeSet;
+
+/// Whether an import has a type of the module.
+pub(crate) fn is_import_within(item: &ImportType, counts: &Counts) -> bool
+    ensures { IsTrue result → IsImportWithin counts.now item.now }
+{
+    match item {
+        ImportType::Func(index) => (*index as usize) < counts.types,
+        _ => true,
+    }
+}
+
+impl ImportType {
+    // Whether it is of this kind.
+    fn is_of(&self, kind: Kind) -> bool
+        ensures { result ≡ is_of kind self.now }
+    {
+        match kind {
+            Kind::Func => matches!(self, ImportType::Func(_)),
+            Kind::Table => matches!(self, ImportType::Table(_)),
+            Kind::Memory => matches!(self, ImportType::Memory(_)),
+            Kind::Global => matches!(self, ImportType::Global(_)),
+        }
+    }
+}
+
+/// How many imports are of this kind.
+pub(crate) fn imported(imports: &[Import<'_>], kind: Kind) -> usize
+    ensures count { result ≡ count_by (λ import. is_of kind import.item) imports.now }
+    ensures bound { result ≤ length imports.now }
+{
+    imports
+        .iter()
+        .filter(|import| import.item.is_of(kind))
+        .count()
+}
+
+/// Whether the first values of globals refer only to what there is.
+pub(crate) fn are_inits_within(globals: &[Global<'_>], counts: &Counts) -> bool
+    ensures { IsTrue result → All (λ global. IsInitWithin counts.now (init_of global.init)) globals.now }
+{
+    globals
+        .iter()
+        .all(|global| is_init_within(&global.init, counts))
+}
+
+// Whether a first value refers only to what there is.
+fn is_init_within(init: &Init<'_>, counts: &Counts) -> bool
+    ensures { IsTrue result → IsInitWithin counts.now (init_of init.now) }
+{
+    match init {
+        Init::RefFunc(index) => (*index as usize) < counts.functions,
+        Init::GlobalGet(index) => (*index as usize) < counts.globals,
+        _ => true,
+    }
+}
+
+/// Whether no two exports have one name.
+pub(crate) fn are_distinct<A: Allocator + Copy>(
+    alloc: A,
+    exports: &[Export<'_>],
+) -> Result<bool, AllocError>
+    ensures { IfOk result (λ distinct. IsTrue distinct → AreDistinct (map (λ export. export.name.now) exports.now)) }
+{
+    let mut names = BTreeSet::new(alloc);
+    for export in exports {
+        if !names.insert(export.name)? {
+            return Ok(false);
+        }
+    }
+    Ok(true)
+}
