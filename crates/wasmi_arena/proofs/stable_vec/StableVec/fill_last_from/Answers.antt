@@ -5,7 +5,7 @@ use Rattle.wasmi_arena.specs.Geometry.{start}
 use Rattle.wasmi_arena.specs.Table.{items_of}
 use Rattle.wasmi_arena.proofs.Apart.{len_is, open_is}
 use Rattle.wasmi_arena.proofs.LaidOut.{first_free, open_size, place-open, len-le_slots, slots-le_max, free-last, items_of-fill, IsLaidOut-fill}
-use Rattle.wasmi_arena.proofs.Geometry.{place_fits}
+use Rattle.wasmi_arena.proofs.Doubling.{place_fits}
 use Rattle.wasmi_arena.proofs.stable_vec.StableVec.fill_last_from.Goals as goal
 
 pub place_in_last-place-requires-clause-below : goal.place_in_last-place-requires-clause-below

@@ -1,5 +1,5 @@
 use Rattle.std.proofs.Common.{◌≡◌, ℕ, ◌+◌, ◌-◌, ◌<◌, sym, arith}
-use Rattle.wasmi_arena.proofs.Geometry.{fewest-le, place-le_max}
+use Rattle.wasmi_arena.proofs.Doubling.{fewest-le, place-le_max}
 use Rattle.wasmi_arena.proofs.LaidOut.{items_of-pop, IsLaidOut-pop, last_in_place, popped}
 use Rattle.wasmi_arena.proofs.stable_vec.StableVec.pop.Goals as goal
 

@@ -1,5 +1,5 @@
 use Rattle.std.proofs.Common.{arith, ◌+◌}
-use Rattle.wasmi_arena.proofs.Geometry.{fewest-le}
+use Rattle.wasmi_arena.proofs.Doubling.{fewest-le}
 use Rattle.wasmi_arena.proofs.Apart.{len_is}
 use Rattle.wasmi_arena.proofs.stable_vec.StableVec.push_defaults.Goals as goal
 

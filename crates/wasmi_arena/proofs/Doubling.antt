@@ -1,4 +1,4 @@
--- Facts on the buckets of a stable vector.
+-- Facts on buckets of doubling size, and on places in them.
 use Rattle.std.proofs.Common.{◌≡◌, ℕ, zero, suc, ◌+◌, ◌-◌, ◌*◌, ◌<◌, ◌≤◌, Bool, true, false, cond, nat_le, refl, ap, ◌∙◌, ◌^◌, subst, inl, inr, add-one, arith, Fits, w64}
 use Rattle.std.proofs.Math.Nat.{pow-succ'}
 use Rattle.std.proofs.lemmas.Bool.{cases_lt, cases_eq, cases_order, leb-true, leb-false, le-leb}
@@ -204,6 +204,11 @@ slots-le n some small =
       | inr late ↦ absurd (let fewer = few.least b late in omega arith)
     ] in
     omega (arith, start-size b)
+
+-- also where there are none
+pub slots-few : (n : ℕ) → n ≤ max_len → slots n ≤ 2 * n + 30
+slots-few zero small = omega (arith, slots-zero)
+slots-few (suc n) small = slots-le (suc n) (omega arith) small
 
 -- where the fewest buckets for n items are open, the place of the next item
 module _ (n b : ℕ) (small : n ≤ max_len) (open_is : b ≡ fewest n) where

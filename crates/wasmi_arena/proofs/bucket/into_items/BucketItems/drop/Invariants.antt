@@ -1,5 +1,5 @@
 use Rattle.std.proofs.Common.{◌≡◌, ◌+◌, length}
-use Rattle.wasmi_arena.proofs.bucket.taken.BucketItems.drop.Given as goal
+use Rattle.wasmi_arena.proofs.bucket.into_items.BucketItems.drop.Given as goal
 
 -- the slots before this one are empty, and the others are as they were
 abbrev pub invariant-loop-slot : goal.invariant-loop-slot

@@ -1,5 +1,5 @@
 use Rattle.wasmi_arena.specs.Apart.{AreOpenApart}
-use Rattle.wasmi_arena.proofs.stable_vec.defaults.open_apart.Given as goal
+use Rattle.wasmi_arena.proofs.bucket_table.fill.open_apart.Given as goal
 
 -- the buckets so far are open
 abbrev pub invariant-loop-bucket : goal.invariant-loop-bucket

@@ -1,7 +1,7 @@
 use Rattle.std.proofs.Common.{◌∙◌, sym, ap, arith}
 use Rattle.wasmi_arena.specs.Geometry.{fewest}
-use Rattle.wasmi_arena.proofs.Geometry.{fewest_is, fewest_of_none, fewest_of_place}
-use Rattle.wasmi_arena.proofs.stable_vec.defaults.buckets_for.Goals as goal
+use Rattle.wasmi_arena.proofs.Doubling.{fewest_is, fewest_of_none, fewest_of_place}
+use Rattle.wasmi_arena.proofs.geometry.buckets_for.Goals as goal
 
 pub returns-then-len-eq0 : goal.returns-then-len-eq0
 returns-then-len-eq0 c = rw c.if-len-eq0.true (sym (fewest_is (omega arith) fewest_of_none))

@@ -1,4 +1,4 @@
-//! Calls on all items of a stable arena, or on the last.
+//! The last item of a stable arena, its keys and its items apart, and all let go.
 ghost use Rattle.std.specs.Prelude.{◌≡◌, ◌-◌, ◌≤◌, [], length, map, option_copied, slice_get};
 ghost use Rattle.std.specs.List.{range_with_len};
 ghost use Rattle.wasmi_arena.specs.Geometry.{max_len};

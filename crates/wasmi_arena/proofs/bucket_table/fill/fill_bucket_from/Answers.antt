@@ -3,7 +3,7 @@ use Rattle.wasmi_arena.specs.Bucket.{bucket}
 use Rattle.wasmi_arena.specs.Table.{bucket_filled}
 use Rattle.wasmi_arena.specs.Geometry.{size}
 use Rattle.wasmi_arena.proofs.Table.{read_there}
-use Rattle.wasmi_arena.proofs.stable_vec.grow.fill_bucket_from.Goals as goal
+use Rattle.wasmi_arena.proofs.bucket_table.fill.fill_bucket_from.Goals as goal
 
 pub returns-clause-items : goal.returns-clause-items
 returns-clause-items g c =

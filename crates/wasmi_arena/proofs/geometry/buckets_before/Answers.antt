@@ -1,7 +1,7 @@
 use Rattle.std.proofs.Common.{sym, subst, arith, ◌<◌}
 use Rattle.wasmi_arena.specs.Geometry.{IsPlace}
-use Rattle.wasmi_arena.proofs.Geometry.{fewest_is, place-le_max, fewest_before_first, fewest_before_other}
-use Rattle.wasmi_arena.proofs.stable_vec.ends.buckets_before.Goals as goal
+use Rattle.wasmi_arena.proofs.Doubling.{fewest_is, place-le_max, fewest_before_first, fewest_before_other}
+use Rattle.wasmi_arena.proofs.geometry.buckets_before.Goals as goal
 
 pub returns-then-place-eq0 : goal.returns-then-place-eq0
 returns-then-place-eq0 c =

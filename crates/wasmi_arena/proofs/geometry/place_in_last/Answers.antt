@@ -1,7 +1,7 @@
 use Rattle.std.proofs.Common.{arith, ◌+◌, ◌-◌, ◌/◌, ◌≡◌, suc, ap, ℕ, ◌<◌}
 use Rattle.wasmi_arena.specs.Geometry.{start}
-use Rattle.wasmi_arena.proofs.Geometry.{start-last, start-size, place-last, below_of_start}
-use Rattle.wasmi_arena.proofs.stable_vec.place_in_last.Goals as goal
+use Rattle.wasmi_arena.proofs.Doubling.{start-last, start-size, place-last, below_of_start}
+use Rattle.wasmi_arena.proofs.geometry.place_in_last.Goals as goal
 
 -- the buckets before the last have half of what is past 32 slots
 start-half : (b slots n : ℕ) → slots ≡ start b → n < slots → (slots - 32) / 2 ≡ start (b - 1)
