@@ -27,7 +27,7 @@ pub use block::{BlockPtr, DeallocRight, Slots};
 pub use bucket_table::{BucketTable, ItemsLoan};
 pub use error::ArenaError;
 pub use geometry::{BUCKETS, MAX_LEN};
-pub use key::ArenaKey;
+pub use key::{ArenaKey, key_at};
 pub use run::{ArenaCommand, ArenaReply, run_arena};
 pub use stable_arena::{StableArena, StableArenaIntoIter, StableArenaIter, StableArenaIterMut};
 pub use stable_vec::{
