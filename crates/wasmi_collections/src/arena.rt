@@ -5,10 +5,10 @@ pub mod laws;
 
 pub use dedup::DedupArena;
 pub use wasmi_arena::{
-    AnyArena, ArenaCommand, ArenaError, ArenaKey, ArenaKeys, ArenaReply, Bucket, MAX_LEN,
+    AnyArena, ArenaCommand, ArenaError, ArenaKey, ArenaKeys, ArenaReply, BUCKETS, Bucket, MAX_LEN,
     StableArena, StableArenaIntoIter, StableArenaIter, StableArenaIterMut, StableVec,
     StableVecIntoIter, StableVecIter, StableVecIterMut, StableVecSlices, StableVecSlicesMut,
-    run_arena,
+    TypedKey, key_at, run_arena,
 };
 pub use wasmi_dense::arena::{IntoIter, Iter, IterMut};
 pub use wasmi_dense::{Arena, ComponentVec, ComponentVecIter, ComponentVecIterMut};
