@@ -1,6 +1,18 @@
 //! Links modules of WebAssembly: which module gives what another one asks for.
 #![tactic(auto)]
 
+mod exports;
+mod firsts;
+mod ids;
+mod imported;
+mod item;
 mod line;
+mod linker;
+mod named;
+mod names;
+mod resolve;
+mod types;
 
 pub use line::{Answer, ItemType, Line, Linked};
+pub use named::NamedModule;
+pub use resolve::resolve;
