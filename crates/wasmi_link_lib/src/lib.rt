@@ -10,9 +10,13 @@ mod line;
 mod linker;
 mod named;
 mod names;
+mod path;
 mod resolve;
+mod text;
 mod types;
 
 pub use line::{Answer, ItemType, Line, Linked};
 pub use named::NamedModule;
+pub use path::module_name;
 pub use resolve::resolve;
+pub use text::{exit_status, report};

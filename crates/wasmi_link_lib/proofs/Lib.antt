@@ -1,0 +1,2 @@
+pub mod PathLemmas
+pub mod ReportLemmas
