@@ -3,3 +3,4 @@ pub mod Linking
 pub mod Tables
 pub mod Paths
 pub mod Report
+pub mod Files

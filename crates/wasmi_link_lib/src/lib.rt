@@ -2,6 +2,7 @@
 #![tactic(auto)]
 
 mod exports;
+mod files;
 mod firsts;
 mod ids;
 mod imported;
@@ -15,6 +16,7 @@ mod resolve;
 mod text;
 mod types;
 
+pub use files::{File, LinkError, Outcome, link};
 pub use line::{Answer, ItemType, Line, Linked};
 pub use named::NamedModule;
 pub use path::module_name;
