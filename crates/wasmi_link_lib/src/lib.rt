@@ -6,6 +6,7 @@ mod firsts;
 mod ids;
 mod imported;
 mod item;
+pub mod laws;
 mod line;
 mod linker;
 mod named;
