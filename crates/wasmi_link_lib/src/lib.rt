@@ -11,9 +11,9 @@ mod line;
 mod linker;
 mod named;
 mod names;
-mod resolve;
+mod resolver;
 mod types;
 
 pub use line::{Answer, ItemType, Line, Linked};
 pub use named::NamedModule;
-pub use resolve::resolve;
+pub use resolver::resolve;
