@@ -1,2 +1,8 @@
+pub mod Lists
+pub mod Matches
+pub mod Symbols
+pub mod Keys
+pub mod Noted
+pub mod Asked
 pub mod PathLemmas
 pub mod ReportLemmas

@@ -1,10 +1,11 @@
 -- Which module gives what another one asks for: what linking is.
-use Rattle.std.specs.Prelude.{ℕ, ◌==◌, Bool, true, false, ◌&&◌, if◌then◌else◌, List, [], ◌∷◌, ◌++◌, length, map, filter, find, fold, nat_le, Option, Some, None, is_some, option_and_then, position, slice_get, slice_index_or}
+use Rattle.std.specs.Prelude.{◌≡◌, ℕ, ◌==◌, Bool, true, false, ◌&&◌, if◌then◌else◌, List, [], ◌∷◌, ◌++◌, length, map, filter, find, fold, nat_le, Option, Some, None, is_some, option_and_then, position, slice_get, slice_index_or}
 use Rattle.std.specs.Bool.{beq}
 use Rattle.std.specs.Cmp.Lexicographic.{pointwise}
 use Rattle.std.specs.List.{flat_map, All}
 use Rattle.std.specs.Str.{bytes_eq}
 use Rattle.wasmi_module.specs.Format.{val_type_code, ref_type_code}
+use Rattle.wasmi_module.specs.Matching.{TableMatches, MemoryMatches}
 use Rattle.wasmi_module.specs.Modules.{FuncType, Import, Export, Module}
 use Rattle.wasmi_module.specs.Valid.{is_of, IsValid}
 use Rattle.wasmi_module.specs.Views.{module_of}
@@ -73,7 +74,7 @@ exported m name = option_and_then (λ e. slice_get (items_of m e.kind) e.index) 
 abbrev pub module_named : List Named → List ℕ → Option Named
 module_named modules name = find (λ m. bytes_eq name m.name) modules
 
--- ---- when what is given is what is asked for. `laws::matching_types` says the same without tests
+-- ---- when what is given is what is asked for
 
 abbrev pub val_type_eq : ValType → ValType → Bool
 val_type_eq a b = val_type_code a == val_type_code b
@@ -93,13 +94,21 @@ abbrev pub limits_match : Limits → Limits → Bool
 limits_match asked given = nat_le asked.min given.min && most_matches asked.max given.max
 
 -- functions and globals have equal types; of tables the types of the elements are equal, and the limits
--- match; of memories the limits match
+-- match; of memories the limits match. `laws::matching_types`: this is `Matches`
 abbrev pub matches : ItemType → ItemType → Bool
 matches (Func asked) (Func given) = func_type_eq asked given
 matches (Table asked) (Table given) = (ref_type_code asked.element == ref_type_code given.element) && limits_match asked.limits given.limits
 matches (Memory asked) (Memory given) = limits_match asked.limits given.limits
 matches (Global asked) (Global given) = val_type_eq asked.value given.value && beq asked.mutable given.mutable
 matches asked given = false
+
+-- the same, as the specification of WebAssembly says it
+abbrev pub Matches : ItemType → ItemType → Type 0
+Matches (Func asked) (Func given) = asked ≡ given
+Matches (Table asked) (Table given) = TableMatches asked given
+Matches (Memory asked) (Memory given) = MemoryMatches asked given
+Matches (Global asked) (Global given) = asked ≡ given
+Matches asked given = ⊥
 
 -- ---- the answers
 

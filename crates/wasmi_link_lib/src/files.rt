@@ -6,7 +6,7 @@ ghost use Rattle.wasmi_link_lib.specs.Linking.{AreValid, named_of};
 
 use crate::named::NamedModule;
 use crate::path::module_name;
-use crate::resolve::resolve;
+use crate::resolver::resolve;
 use crate::text::{exit_status, report};
 use std::alloc::Allocator;
 use thiserror::Error;

@@ -46,7 +46,7 @@ impl ArenaKey for ModuleId {
 /// The key of a type of functions: its number among those that differ.
 #[derive(Clone, Copy, PartialEq, Eq)]
 pub(crate) struct TypeId {
-    number: u32,
+    pub(crate) number: u32,
 }
 
 impl Model for TypeId {

@@ -8,7 +8,7 @@ ghost use Rattle.wasmi_link_lib.specs.Tables.{HasKeys, keyed, keyed_of, keyed_ma
 
 use crate::ids::TypeId;
 use crate::line::ItemType;
-use crate::types::{Signature, key_of};
+use crate::types::{Signature, id_of};
 use std::alloc::Allocator;
 use wasmi_collections::DedupArena;
 use wasmi_module::{FuncType, GlobalType, ImportType, Kind, MemoryType, Module, TableType};
@@ -61,7 +61,8 @@ fn func<'a, A: Allocator>(
         ≡ keyed (map signature_of types.now.handed) (Func (type_at (module_of body.now) index)) }
 {
     let ty = &body.types[index as usize];
-    Item::Func(key_of(types, ty), ty)
+    let id = id_of(types, ty);
+    Item::Func(id, ty)
 }
 
 /// What an import asks for.

@@ -115,8 +115,13 @@ impl<'a, A: Allocator + Copy> Linker<'a, A> {
         };
         let named = &modules[id.into_usize()];
         match self.exported(modules, id, &named.module, import.field) {
-            Some(given) if asked.admits(&given) => Answer::Found(named.name),
-            Some(given) => Answer::Differs(named.name, given.ty()),
+            Some(given) => {
+                if asked.admits(&given) {
+                    Answer::Found(named.name)
+                } else {
+                    Answer::Differs(named.name, given.ty())
+                }
+            }
             None => Answer::Missing,
         }
     }

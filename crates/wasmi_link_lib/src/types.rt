@@ -78,7 +78,7 @@ fn take_type<'a, A: Allocator + Copy>(
 }
 
 /// The key of a type that is there.
-pub(crate) fn key_of<'a, A: Allocator>(
+pub(crate) fn id_of<'a, A: Allocator>(
     types: &DedupArena<TypeId, Signature<'a>, A>,
     ty: &'a FuncType<A>,
 ) -> TypeId

@@ -1,0 +1,97 @@
+-- What is asked for, what is given, and the answer.
+use Rattle.std.proofs.Common.{◌≡◌, ℕ, ◌+◌, ◌<◌, ◌≤◌, Bool, true, false, cond, List, [], ◌++◌, length, map, get_or, filter, All, Option, Some, None, IsSome, is_some, option_map, slice_get, refl, sym, ap, ◌∙◌, subst, arith}
+use Rattle.std.proofs.lemmas.List.{length-map, get_or-map}
+use Rattle.std.proofs.lemmas.List.Elements.{All-map, All-filter}
+use Rattle.std.proofs.lemmas.Option.{none-some, same_Some}
+use Rattle.wasmi_module.specs.Modules.{FuncType, Import, Module}
+use Rattle.wasmi_module.specs.Valid.{is_of, IsImportWithin, IsValid, counts_of}
+use Rattle.wasmi_module.specs.Views.{func_type_of}
+use Rattle.wasmi_module.specs.declared.module.FuncType as rust_func
+use Rattle.wasmi_module.specs.declared.module.ImportType.{ImportType}
+use Rattle.wasmi_module.specs.declared.module.Kind.{Kind}
+use Rattle.wasmi_link_lib.specs.declared.item.Item as rust_item
+use Rattle.wasmi_link_lib.specs.declared.item.Item.TheVariants as item
+use Rattle.wasmi_link_lib.specs.Lines.{ItemType, Func, Table, Memory, Global, Answer, Found, Missing, Differs}
+use Rattle.wasmi_link_lib.specs.Linking.{asked_item, imported_items, own_items, items_of, matches, answer_given, answer_by}
+use Rattle.wasmi_link_lib.specs.Tables.{Keyed, keyed, keyed_of, keyed_matches, key_of, imported_of}
+use Rattle.wasmi_link_lib.proofs.Lists.{slice_get_left, slice_get_right, slice_get_map, All_get}
+use Rattle.wasmi_link_lib.proofs.Keys.{IsKeyed, keyed-matches}
+
+-- ---- imports, and what is a module's own
+
+-- an import of a kind has one of the module's types
+pub imported_within : (m : Module) (kind : Kind) (i : ℕ) (x : ImportType) → IsValid m → slice_get (imported_of kind m) i ≡ Some x → IsImportWithin (counts_of m) x
+imported_within m kind i x valid is =
+    All_get (IsImportWithin (counts_of m)) (imported_of kind m) i x
+    (All-filter (is_of kind) (IsImportWithin (counts_of m)) (map (λ j. j.item) m.imports) (All-map (IsImportWithin (counts_of m)) (λ (j : Import). j.item) m.imports valid.imports)) is
+
+-- the item of an index is that of an import,
+pub imported_item : (m : Module) (kind : Kind) (i : ℕ) (x : ImportType) → slice_get (imported_of kind m) i ≡ Some x → slice_get (items_of m kind) i ≡ Some (asked_item m x)
+imported_item m kind i x is = slice_get_left (imported_items m kind) (own_items m kind) i (asked_item m x) (slice_get_map (asked_item m) (imported_of kind m) i (Some x) is)
+
+-- or, past these, one of its own
+pub own_item : (m : Module) (kind : Kind) (i j : ℕ) → length (imported_of kind m) + j ≡ i → slice_get (items_of m kind) i ≡ slice_get (own_items m kind) j
+own_item m kind i j e =
+    let same = length-map (imported_of kind m) (asked_item m) in
+    slice_get_right (imported_items m kind) (own_items m kind) i j (omega (arith, e, same))
+
+-- ---- keys
+
+module _ {Z : Type 0} (types : List FuncType) where
+  keyed-type : (x : ItemType) → (keyed types x).type ≡ x
+  keyed-type (Func type) = refl
+  keyed-type (Table type) = refl
+  keyed-type (Memory type) = refl
+  keyed-type (Global type) = refl
+
+  keyed-key : (x : ItemType) → IsSome (keyed types x).key → IsKeyed types x
+  keyed-key (Func type) is = is
+  keyed-key (Table type) is = tt
+  keyed-key (Memory type) is = tt
+  keyed-key (Global type) is = tt
+
+  is_func : ItemType → Bool
+  is_func (Func type) = true
+  is_func (Table type) = false
+  is_func (Memory type) = false
+  is_func (Global type) = false
+
+  -- an item whose type is that of a function has a key
+  item_key : (x : rust_item.Item Z) → is_func (keyed_of x).type ≡ true → IsSome (keyed_of x).key
+  unfolding is_func
+  item_key (item.Func id type) is = refl
+  item_key (item.Table type) is = is
+  item_key (item.Memory type) is = is
+  item_key (item.Global type) is = is
+
+  keyed_if_func : (x : ItemType) → (is_func x ≡ true → IsSome (keyed types x).key) → IsKeyed types x
+  unfolding is_func
+  keyed_if_func (Func type) is = is refl
+  keyed_if_func (Table type) is = tt
+  keyed_if_func (Memory type) is = tt
+  keyed_if_func (Global type) is = tt
+
+  -- an item that has the key of its type has one
+  pub is_keyed : (x : rust_item.Item Z) (y : ItemType) → keyed_of x ≡ keyed types y → IsKeyed types y
+  is_keyed x y is =
+      keyed_if_func y (λ f. subst (λ (k : Keyed). IsSome k.key) is (item_key x (ap is_func (ap (λ (k : Keyed). k.type) is ∙ keyed-type y) ∙ f)))
+
+  -- ---- the answer
+
+  none_given : (o : Option ItemType) → None ≡ option_map (keyed types) o → o ≡ None
+  none_given None is = refl
+  none_given (Some x) is = absurd (none-some _ is)
+
+  pub missing : (asked : ItemType) (name : List ℕ) (o : Option ItemType) → None ≡ option_map (keyed types) o → Missing ≡ answer_given asked name o
+  missing asked name o is = sym (ap (answer_given asked name) (none_given o is))
+
+  -- what was given, with its type and whether it matches
+  module _ (x y : rust_item.Item Z) (asked : ItemType) (is_asked : keyed_of x ≡ keyed types asked) where
+    pub answered : (name : List ℕ) (o : Option ItemType) → Some (keyed_of y) ≡ option_map (keyed types) o → cond (keyed_matches (keyed_of x) (keyed_of y)) (Found name) (Differs name (keyed_of y).type) ≡ answer_given asked name o
+    answered name None is = absurd (none-some _ (sym is))
+    answered name (Some given) is =
+        let is_given : keyed_of y ≡ keyed types given = same_Some (keyed_of y) (keyed types given) is in
+        let tested : keyed_matches (keyed_of x) (keyed_of y) ≡ matches asked given =
+            (λ i. keyed_matches (is_asked i) (is_given i)) ∙ keyed-matches types asked given (is_keyed x asked is_asked) (is_keyed y given is_given) in
+        let type : (keyed_of y).type ≡ given = ap (λ (k : Keyed). k.type) is_given ∙ keyed-type given in
+        λ i. cond (tested i) (Found name) (Differs name (type i))

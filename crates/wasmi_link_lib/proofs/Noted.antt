@@ -1,0 +1,57 @@
+-- What tables by symbols have of modules, one more at a time.
+use Rattle.std.proofs.Common.{◌≡◌, ◌≢◌, ℕ, ◌+◌, ◌<◌, Bool, true, false, cond, List, [], ◌∷◌, ◌++◌, length, map, get_or, take, find, Option, Some, None, option_map, option_and_then, slice_get, bytes_eq, le_refl, refl, sym, ap, ◌∙◌, subst, inl, inr, arith}
+use Rattle.std.specs.Option.{option_or}
+use Rattle.std.proofs.lemmas.Bool.{cases_eq}
+use Rattle.std.proofs.lemmas.List.Folds.{find-append}
+use Rattle.std.proofs.lemmas.Option.{slice_get_past}
+use Rattle.wasmi_dense.specs.Components.{component_at}
+use Rattle.wasmi_interner.specs.Interner.{symbol_of}
+use Rattle.wasmi_module.specs.Modules.{Export}
+use Rattle.wasmi_link_lib.specs.declared.exports.Place.{Place}
+use Rattle.wasmi_link_lib.specs.Linking.{Named, export_named}
+use Rattle.wasmi_link_lib.specs.Tables.{Notes, HasFirsts, HasExports, place_at, place_in, place_of}
+use Rattle.wasmi_link_lib.proofs.Lists.{position_push, slice_get_last, slice_get_other}
+
+-- one more module, whose name was noted
+pub firsts_more : (names : List (List ℕ)) (old new : List (Option ℕ)) (modules : List Named) (m : Named) (id : ℕ) → id ≡ length modules → HasFirsts names old modules → Notes names (component_at old) m.name id (component_at new) → HasFirsts names new (modules ++ m ∷ [])
+firsts_more names old new modules m id last has notes text symbol is =
+    notes text symbol is
+    ∙ (λ i. option_or (has text symbol is i) (cond (bytes_eq text m.name) (Some (last i)) None))
+    ∙ sym (position_push (λ n. bytes_eq text n.name) modules m)
+
+-- one more export, whose name was noted
+pub places_more : (names : List (List ℕ)) (old new : ℕ → Option Place) (exports : List Export) (e : Export)
+    → ((text : List ℕ) (symbol : ℕ) → symbol_of names text ≡ Some symbol → old symbol ≡ option_map place_of (find (λ x. bytes_eq text x.name) exports))
+    → Notes names old e.name (place_of e) new
+    → (text : List ℕ) (symbol : ℕ) → symbol_of names text ≡ Some symbol → new symbol ≡ option_map place_of (find (λ x. bytes_eq text x.name) (exports ++ e ∷ []))
+places_more names old new exports e has notes text symbol is =
+    notes text symbol is
+    ∙ ap (λ o. option_or o (cond (bytes_eq text e.name) (Some (place_of e)) None)) (has text symbol is)
+    ∙ joined (find (λ x. bytes_eq text x.name) exports) (bytes_eq text e.name)
+    ∙ sym (ap (option_map place_of) (find-append (λ x. bytes_eq text x.name) exports (e ∷ [])))
+  where
+    joined : (o : Option Export) (b : Bool) → option_or (option_map place_of o) (cond b (Some (place_of e)) None) ≡ option_map place_of (option_or o (cond b (Some e) None))
+    joined (Some x) b = refl
+    joined None true = refl
+    joined None false = refl
+
+-- no export of a module that is yet to come was noted
+pub places_absent : (names : List (List ℕ)) (exports : List ((ℕ × ℕ) × Place)) (modules : List Named) (id : ℕ) → id ≡ length modules → HasExports names exports modules
+    → (text : List ℕ) (symbol : ℕ) → symbol_of names text ≡ Some symbol → place_in exports id symbol ≡ None
+places_absent names exports modules id last has text symbol is =
+    has id symbol text is ∙ ap (option_and_then (λ m. option_map place_of (export_named m.body text))) (slice_get_past modules id (omega (arith, last)))
+
+-- one more module, whose exports were noted
+pub exports_more : (names : List (List ℕ)) (old new : List ((ℕ × ℕ) × Place)) (modules : List Named) (m : Named) (id : ℕ) → id ≡ length modules → HasExports names old modules
+    → ((text : List ℕ) (symbol : ℕ) → symbol_of names text ≡ Some symbol → place_in new id symbol ≡ option_map place_of (export_named m.body text))
+    → ((other symbol : ℕ) → other ≢ id → place_in new other symbol ≡ place_in old other symbol)
+    → HasExports names new (modules ++ m ∷ [])
+exports_more names old new modules m id last has own others at symbol text is =
+    elim (cases_eq at id) [
+      | inl here ↦
+        ap (λ k. place_in new k symbol) here ∙ own text symbol is
+        ∙ sym (ap (option_and_then (λ (n : Named). option_map place_of (export_named n.body text))) (ap (slice_get (modules ++ m ∷ [])) (here ∙ last) ∙ slice_get_last modules m))
+      | inr apart ↦
+        others at symbol apart ∙ has at symbol text is
+        ∙ sym (ap (option_and_then (λ (n : Named). option_map place_of (export_named n.body text))) (slice_get_other modules m at (λ e. apart (e ∙ sym last))))
+    ]
