@@ -42,6 +42,7 @@ fn each_request_is_refused_in_turn(rt: HostRuntime) {
                 assert_equal!(rt; error, LinkError::Refused(ArenaError::OutOfSystemMemory), "{nth}");
                 refused = refused.wrapping_add(1);
             }
+            log.refuse_none();
             let outcome = link(heap, &files).or_abort(&rt);
             assert_equal!(rt; outcome.text.as_str(), TEXT, "{nth}");
         }

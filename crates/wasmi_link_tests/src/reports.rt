@@ -84,24 +84,26 @@ fn modules_of_one_name_and_names_with_control_characters(rt: HostRuntime) {
     reported(&rt, rt.alloc(), &files, text, 1);
 }
 
-// The other order: what is asked of `two` is asked of the other module of this name.
+// The other order: of two modules of one name the other one comes first. A module without anything, and no module.
 #[test]
 fn small_reports(rt: HostRuntime) {
     let empty = b"\0asm\x01\0\0\0".as_slice();
+    let swapped = [("second/two.wasm", SECOND_TWO), ("two", FIRST_TWO)];
+    let alone = [("/usr/lib/x.wasm", empty)];
     let cases = [
         (
-            [("second/two.wasm", SECOND_TWO), ("two", FIRST_TWO)].as_slice(),
+            &swapped[..],
             "two: func self.again () -> (): missing\n\
             2 modules, 3 types of 3, 5 names, 1 imports: 0 found, 1 missing, 0 differs\n",
             1,
         ),
         (
-            [("/usr/lib/x.wasm", empty)].as_slice(),
+            &alone[..],
             "1 modules, 0 types of 0, 1 names, 0 imports: 0 found, 0 missing, 0 differs\n",
             0,
         ),
         (
-            [].as_slice(),
+            &alone[..0],
             "0 modules, 0 types of 0, 0 names, 0 imports: 0 found, 0 missing, 0 differs\n",
             0,
         ),
