@@ -92,6 +92,6 @@ module _ {Z : Type 0} (types : List FuncType) where
     answered name (Some given) is =
         let is_given : keyed_of y ≡ keyed types given = same_Some (keyed_of y) (keyed types given) is in
         let tested : keyed_matches (keyed_of x) (keyed_of y) ≡ matches asked given =
-        (λ i. keyed_matches (is_asked i) (is_given i)) ∙ keyed-matches types asked given (is_keyed x asked is_asked) (is_keyed y given is_given) in
+            (λ i. keyed_matches (is_asked i) (is_given i)) ∙ keyed-matches types asked given (is_keyed x asked is_asked) (is_keyed y given is_given) in
         let type : (keyed_of y).type ≡ given = ap (λ (k : Keyed). k.type) is_given ∙ keyed-type given in
         λ i. cond (tested i) (Found name) (Differs name (type i))
