@@ -8,6 +8,7 @@ use std::rt::{Env, Files};
 use std::{env, fs};
 use thiserror::Error;
 use wasmi_link_lib::{File, LinkError, link};
+use wasmi_module::DecodeError;
 
 // Why there is no report.
 #[derive(Debug, Drop, Error)]
@@ -18,8 +19,10 @@ enum Failure<'a> {
     NoMemory,
     #[error("{0}: {1}")]
     Unread(&'a str, io::Error),
+    #[error("{0}: {1}")]
+    NotAModule(&'a str, DecodeError),
     #[error("{0}")]
-    Unlinked(LinkError<'a>),
+    Unlinked(LinkError),
     #[error("standard output: {0}")]
     Unwritten(io::Error),
 }
@@ -87,9 +90,21 @@ fn run<'a>(
         };
         files.push(file).map_err(|_| Failure::NoMemory)?;
     }
-    let outcome = link(rt.alloc(), &files).map_err(Failure::Unlinked)?;
-    match rt.print(outcome.text.as_str()) {
-        Ok(()) => Ok(outcome.status),
-        Err(error) => Err(Failure::Unwritten(error)),
+    match link(rt.alloc(), &files) {
+        Ok(outcome) => match rt.print(outcome.text.as_str()) {
+            Ok(()) => Ok(outcome.status),
+            Err(error) => Err(Failure::Unwritten(error)),
+        },
+        Err(error) => Err(failure(paths, error)),
     }
+}
+
+// Why there is no report, with the path of the file.
+fn failure(paths: &[String], error: LinkError) -> Failure<'_> {
+    if let LinkError::NotAModule(place, why) = error
+        && let Some(path) = paths.get(place)
+    {
+        return Failure::NotAModule(path.as_str(), why);
+    }
+    Failure::Unlinked(error)
 }

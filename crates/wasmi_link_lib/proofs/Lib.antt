@@ -4,5 +4,6 @@ pub mod Symbols
 pub mod Keys
 pub mod Noted
 pub mod Asked
+pub mod FileLemmas
 pub mod PathLemmas
 pub mod ReportLemmas

@@ -3,6 +3,7 @@ use crate::modules::{CONTROL, FIRST_TWO, SELF};
 use crate::or_abort::OrAbort;
 use wasmi_arena::ArenaError;
 use wasmi_link_lib::{File, LinkError, link};
+use wasmi_module::{DecodeError, Expected};
 use wasmi_vectors::assert_equal;
 use wasmi_vectors::logged::Logged;
 use wasmi_vectors::observed::Log;
@@ -68,11 +69,16 @@ fn the_first_file_that_is_no_module(rt: HostRuntime) {
             bytes: b"",
         },
     ];
-    let error = link(rt.alloc(), &files).err();
-    let text = format!(in rt.alloc(); "{error:?}").or_abort(&rt);
-    assert_equal!(rt; text.as_str(), "Some(NotAModule(\"libs/two.wasm\", Malformed { offset: 13, expected: Kind }))");
-    if let Some(error) = error {
-        let text = format!(in rt.alloc(); "{error}").or_abort(&rt);
-        assert_equal!(rt; text.as_str(), "libs/two.wasm: offset 13: expected the byte 00, 01, 02 or 03 of a kind");
-    }
+    let malformed = DecodeError::Malformed {
+        offset: 13,
+        expected: Expected::Kind,
+    };
+    let error = LinkError::NotAModule(1, malformed);
+    assert_equal!(rt; link(rt.alloc(), &files).err(), Some(error));
+    let text = format!(in rt.alloc();
+        "{error}; {}",
+        LinkError::Refused(ArenaError::OutOfSystemMemory)
+    );
+    assert_equal!(rt; text.or_abort(&rt).as_str(), "file 1: offset 13: \
+        expected the byte 00, 01, 02 or 03 of a kind; ran out of system memory");
 }
