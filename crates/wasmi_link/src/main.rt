@@ -95,12 +95,12 @@ fn run<'a>(
             Ok(()) => Ok(outcome.status),
             Err(error) => Err(Failure::Unwritten(error)),
         },
-        Err(error) => Err(failure(paths, error)),
+        Err(error) => Err(with_path(paths, error)),
     }
 }
 
 // Why there is no report, with the path of the file.
-fn failure(paths: &[String], error: LinkError) -> Failure<'_> {
+fn with_path(paths: &[String], error: LinkError) -> Failure<'_> {
     if let LinkError::NotAModule(place, why) = error
         && let Some(path) = paths.get(place)
     {
