@@ -37,32 +37,26 @@ own_item m kind i j e =
 
 -- ---- keys
 
-module _ {Z : Type 0} (types : List FuncType) where
+is_func : ItemType → Bool
+is_func (Func type) = true
+is_func (Table type) = false
+is_func (Memory type) = false
+is_func (Global type) = false
+
+-- an item whose type is that of a function has a key
+item_key : {Z : Type 0} (x : rust_item.Item Z) → is_func (keyed_of x).type ≡ true → IsSome (keyed_of x).key
+unfolding is_func
+item_key (item.Func id type) is = refl
+item_key (item.Table type) is = is
+item_key (item.Memory type) is = is
+item_key (item.Global type) is = is
+
+module _ (types : List FuncType) where
   keyed-type : (x : ItemType) → (keyed types x).type ≡ x
   keyed-type (Func type) = refl
   keyed-type (Table type) = refl
   keyed-type (Memory type) = refl
   keyed-type (Global type) = refl
-
-  keyed-key : (x : ItemType) → IsSome (keyed types x).key → IsKeyed types x
-  keyed-key (Func type) is = is
-  keyed-key (Table type) is = tt
-  keyed-key (Memory type) is = tt
-  keyed-key (Global type) is = tt
-
-  is_func : ItemType → Bool
-  is_func (Func type) = true
-  is_func (Table type) = false
-  is_func (Memory type) = false
-  is_func (Global type) = false
-
-  -- an item whose type is that of a function has a key
-  item_key : (x : rust_item.Item Z) → is_func (keyed_of x).type ≡ true → IsSome (keyed_of x).key
-  unfolding is_func
-  item_key (item.Func id type) is = refl
-  item_key (item.Table type) is = is
-  item_key (item.Memory type) is = is
-  item_key (item.Global type) is = is
 
   keyed_if_func : (x : ItemType) → (is_func x ≡ true → IsSome (keyed types x).key) → IsKeyed types x
   unfolding is_func
@@ -72,7 +66,7 @@ module _ {Z : Type 0} (types : List FuncType) where
   keyed_if_func (Global type) is = tt
 
   -- an item that has the key of its type has one
-  pub is_keyed : (x : rust_item.Item Z) (y : ItemType) → keyed_of x ≡ keyed types y → IsKeyed types y
+  pub is_keyed : {Z : Type 0} (x : rust_item.Item Z) (y : ItemType) → keyed_of x ≡ keyed types y → IsKeyed types y
   is_keyed x y is =
       keyed_if_func y (λ f. subst (λ (k : Keyed). IsSome k.key) is (item_key x (ap is_func (ap (λ (k : Keyed). k.type) is ∙ keyed-type y) ∙ f)))
 
@@ -86,7 +80,7 @@ module _ {Z : Type 0} (types : List FuncType) where
   missing asked name o is = sym (ap (answer_given asked name) (none_given o is))
 
   -- what was given, with its type and whether it matches
-  module _ (x y : rust_item.Item Z) (asked : ItemType) (is_asked : keyed_of x ≡ keyed types asked) where
+  module _ {Z : Type 0} (x y : rust_item.Item Z) (asked : ItemType) (is_asked : keyed_of x ≡ keyed types asked) where
     pub answered : (name : List ℕ) (o : Option ItemType) → Some (keyed_of y) ≡ option_map (keyed types) o → cond (keyed_matches (keyed_of x) (keyed_of y)) (Found name) (Differs name (keyed_of y).type) ≡ answer_given asked name o
     answered name None is = absurd (none-some _ (sym is))
     answered name (Some given) is =

@@ -1,5 +1,5 @@
 -- Types and names have keys, and to compare keys is to compare types.
-use Rattle.std.proofs.Common.{◌≡◌, ℕ, zero, suc, ◌<◌, Bool, true, false, cond, ◌==◌, List, [], ◌∷◌, ◌++◌, length, map, get_or, Contains, flat_map, Option, Some, None, IsSome, is_some, position, bytes_eq, Decides, refl, sym, ap, ◌∙◌, inl, inr, subst, eqb-true, eq-eqb, lit<, ◌⊎◌}
+use Rattle.std.proofs.Common.{◌≡◌, ℕ, zero, suc, ◌<◌, Bool, true, false, cond, ◌==◌, List, [], ◌∷◌, ◌++◌, length, map, get_or, Contains, flat_map, Option, Some, None, IsSome, is_some, position, bytes_eq, Decides, refl, sym, ap, ◌∙◌, inl, inr, subst, eqb-true, eq-eqb, lit<, true≢false}
 use Rattle.std.specs.Bool.{one_answer}
 use Rattle.std.specs.Cmp.Lexicographic.{nat_list_eq_equiv}
 use Rattle.std.specs.Option.{option_eq}
@@ -73,10 +73,7 @@ keys_decide types a b i j is_a is_b =
         sym ((func_type_eq-Decides t _).0 (position-Some (func_type_eq t) types k a is).1)
 
 some_key : (o : Option ℕ) → IsSome o → (k : ℕ) × (o ≡ Some k)
-some_key None is = absurd (none_true is)
-  where
-    none_true : false ≡ true → ⊥
-    none_true e = cc
+some_key None is = absurd (true≢false (sym is))
 some_key (Some k) is = (k, refl)
 
 -- a type's key, where it is that of a function, is there

@@ -1,15 +1,16 @@
 -- Lists that grow at their end, and where an element stands in them.
-use Rattle.std.proofs.Common.{◌≡◌, ◌≢◌, ◌⊎◌, ℕ, zero, suc, ◌+◌, ◌-◌, ◌<◌, ◌≤◌, Bool, true, false, not, cond, List, [], ◌∷◌, ◌++◌, length, map, get_or, take, fold, filter, flat_map, find, Contains, All, Option, Some, None, is_some, IsSome, option_map, option_and_then, position, slice_get, ltb, eqb, refl, sym, ap, ap₂, ◌∙◌, subst, inl, inr, append-nil, add-zero, eq-eqb, ne_eqb, lt-ltb, le-ltb, ltb-true, arith}
+use Rattle.std.proofs.Common.{◌≡◌, ◌≢◌, ◌⊎◌, ℕ, zero, suc, ◌+◌, ◌-◌, ◌<◌, ◌≤◌, Bool, true, false, not, cond, List, [], ◌∷◌, ◌++◌, length, map, get_or, take, fold, filter, flat_map, find, Contains, All, bytes_eq, Option, Some, None, is_some, IsSome, option_map, option_and_then, position, slice_get, ltb, eqb, refl, sym, ap, ap₂, ◌∙◌, subst, inl, inr, append-nil, add-zero, eq-eqb, ne_eqb, lt-ltb, le-ltb, ltb-true, true≢false, arith}
 use Rattle.std.specs.List.{position_or_len, prefix_len}
 use Rattle.std.specs.Option.{option_or}
 use Rattle.std.proofs.lemmas.Bool.{cases_lt, cases_Bool, cond_both}
-use Rattle.std.proofs.lemmas.List.{take_more, map_push, map-append, length_push, length-map}
+use Rattle.std.proofs.lemmas.List.{take_more, map_more, map_push, map-append, length_push, length-map}
 use Rattle.std.proofs.lemmas.List.Concat.{flat_map-append, get_or-flat_map}
 use Rattle.std.proofs.lemmas.List.Elements.{filter-append}
 use Rattle.std.proofs.lemmas.List.Folds.{position_or_len_push, find_at, find-append, length-flat_map-take}
 use Rattle.std.proofs.lemmas.List.Sums.{fold-append, prefix_len-le-length}
 use Rattle.std.proofs.lemmas.Option.{slice_get_past, slice_get-map, slice_get_within, get_or_from_slice_get, cond_some, none-some}
-use Rattle.wasmi_link_lib.specs.Linking.{with_value, without_repetitions}
+use Rattle.wasmi_module.specs.Modules.{Import, Export}
+use Rattle.wasmi_link_lib.specs.Linking.{with_value, without_repetitions, import_names}
 
 -- ---- one more element, as a loop reads it
 
@@ -27,6 +28,33 @@ flat_map_read g f xs i x in' is =
 
 pub filter_read : {X Y : Type 0} (p : Y → Bool) (f : X → Y) (xs : List X) (i : ℕ) (x : X) → i < length xs → x ≡ get_or xs i x → filter p (map f (take (i + 1) xs)) ≡ filter p (map f (take i xs)) ++ cond (p (f x)) (f x ∷ []) []
 filter_read p f xs i x in' is = ap (filter p) (map_read f xs i x in' is) ∙ filter-append p (map f (take i xs)) (f x ∷ [])
+
+-- the same of what is pushed for it
+pub mapped_step : {X Y Z W : Type 0} (v : W → Z) (g : Y → Z) (f : X → Y) (old new : List W) (y : W) (xs : List X) (i : ℕ) (x : X) → i < length xs → x ≡ get_or xs i x → map v old ≡ map g (map f (take i xs)) → new ≡ old ++ y ∷ [] → v y ≡ g (f x) → map v new ≡ map g (map f (take (i + 1) xs))
+mapped_step v g f old new y xs i x in' is before pushed same =
+    ap (map v) pushed ∙ map_push v old y
+    ∙ (λ j. before j ++ same j ∷ [])
+    ∙ sym (map_push g (map f (take i xs)) (f x)) ∙ ap (map g) (sym (map_read f xs i x in' is))
+
+-- two names of an import were taken,
+pub names_step : {X : Type 0} (f : X → Import) (start old next new : List (List ℕ)) (xs : List X) (i : ℕ) (d : X) → i < length xs → old ≡ fold (with_value bytes_eq) start (flat_map import_names (map f (take i xs)))
+    → next ≡ with_value bytes_eq old (f (get_or xs i d)).asked → new ≡ with_value bytes_eq next (f (get_or xs i d)).field
+    → new ≡ fold (with_value bytes_eq) start (flat_map import_names (map f (take (i + 1) xs)))
+names_step f start old next new xs i d in' before first second =
+    let x = f (get_or xs i d) in
+    second ∙ ap (λ ns. with_value bytes_eq ns x.field) (first ∙ ap (λ ns. with_value bytes_eq ns x.asked) before)
+    ∙ sym (fold-append (with_value bytes_eq) start (flat_map import_names (map f (take i xs))) (import_names x))
+    ∙ ap (fold (with_value bytes_eq) start) (sym (ap (flat_map import_names) (map_more f xs i d in') ∙ flat_map-append import_names (map f (take i xs)) (x ∷ [])))
+
+-- and the name of an export
+pub export_names_step : {X : Type 0} (f : X → Export) (start old new : List (List ℕ)) (xs : List X) (i : ℕ) (d : X) → i < length xs → old ≡ fold (with_value bytes_eq) start (map (λ e. e.name) (map f (take i xs)))
+    → new ≡ with_value bytes_eq old (f (get_or xs i d)).name → new ≡ fold (with_value bytes_eq) start (map (λ e. e.name) (map f (take (i + 1) xs)))
+export_names_step f start old new xs i d in' before taken =
+    let x = f (get_or xs i d) in
+    let names : List Export → List (List ℕ) = map (λ e. e.name) in
+    taken ∙ ap (λ ns. with_value bytes_eq ns x.name) before
+    ∙ sym (fold-append (with_value bytes_eq) start (names (map f (take i xs))) (x.name ∷ []))
+    ∙ ap (fold (with_value bytes_eq) start) (sym (ap names (map_more f xs i d in') ∙ map_push (λ e. e.name) (map f (take i xs)) x))
 
 -- ---- what is read of a list with one more, and of two
 
@@ -113,7 +141,7 @@ module _ {X : Type 0} (p : X → Bool) where
 -- ---- without repetitions
 
 or_some : {X : Type 0} (o z : Option X) → is_some o ≡ true → is_some (option_or o z) ≡ true
-or_some None z is = is
+or_some None z is = absurd (true≢false (sym is))
 or_some (Some x) z is = refl
 
 or_last : {X : Type 0} (o : Option X) (x : X) → is_some (option_or o (Some x)) ≡ true
