@@ -3,12 +3,13 @@ use Rattle.std.proofs.Common.{◌≡◌, ℕ, ◌+◌, ◌<◌, ◌≤◌, Bool,
 use Rattle.std.proofs.lemmas.List.{length-map, get_or-map}
 use Rattle.std.proofs.lemmas.List.Elements.{All-map, All-filter}
 use Rattle.std.proofs.lemmas.Option.{none-some, same_Some}
-use Rattle.wasmi_module.specs.Modules.{FuncType, Import, Module}
+use Rattle.wasmi_module.specs.Modules.{FuncType, Import, Global as PlainGlobal, Module}
 use Rattle.wasmi_module.specs.Valid.{is_of, IsImportWithin, IsValid, counts_of}
 use Rattle.wasmi_module.specs.Views.{func_type_of}
 use Rattle.wasmi_module.specs.declared.module.FuncType as rust_func
 use Rattle.wasmi_module.specs.declared.module.ImportType.{ImportType}
 use Rattle.wasmi_module.specs.declared.module.Kind.{Kind}
+use Rattle.wasmi_module.specs.declared.module.Kind.TheVariants as kinds
 use Rattle.wasmi_link_lib.specs.declared.item.Item as rust_item
 use Rattle.wasmi_link_lib.specs.declared.item.Item.TheVariants as item
 use Rattle.wasmi_link_lib.specs.Lines.{ItemType, Func, Table, Memory, Global, Answer, Found, Missing, Differs}
@@ -34,6 +35,23 @@ pub own_item : (m : Module) (kind : Kind) (i j : ℕ) → length (imported_of ki
 own_item m kind i j e =
     let same = length-map (imported_of kind m) (asked_item m) in
     slice_get_right (imported_items m kind) (own_items m kind) i j (omega (arith, e, same))
+
+-- a global of its own
+global_item : PlainGlobal → ItemType
+global_item g = Global g.ty
+
+keyed_global : {X : Type 0} (types : List FuncType) (f : X → PlainGlobal) (o : Option X) → option_map (λ x. record { type = Global (f x).ty; key = None }) o ≡ option_map (keyed types) (option_map global_item (option_map f o))
+unfolding global_item
+keyed_global types f None = refl
+keyed_global types f (Some x) = refl
+
+pub own_global : {X : Type 0} (types : List FuncType) (m : Module) (kind : Kind) (f : X → PlainGlobal) (xs : List X) (i : ℕ) (o : Option X) → kind ≡ kinds.Global → m.globals ≡ map f xs → slice_get xs i ≡ o
+    → option_map (λ x. record { type = Global (f x).ty; key = None }) o ≡ option_map (keyed types) (slice_get (own_items m kind) i)
+unfolding global_item
+own_global types m kind f xs i o is_kind globals is =
+    keyed_global types f o
+    ∙ sym (ap (λ k. option_map (keyed types) (slice_get (own_items m k) i)) is_kind ∙ ap (λ gs. option_map (keyed types) (slice_get (map global_item gs) i)) globals
+    ∙ ap (option_map (keyed types)) (slice_get_map global_item (map f xs) i (option_map f o) (slice_get_map f xs i o is)))
 
 -- ---- keys
 
@@ -89,3 +107,11 @@ module _ (types : List FuncType) where
             (λ i. keyed_matches (is_asked i) (is_given i)) ∙ keyed-matches types asked given (is_keyed x asked is_asked) (is_keyed y given is_given) in
         let type : (keyed_of y).type ≡ given = ap (λ (k : Keyed). k.type) is_given ∙ keyed-type given in
         λ i. cond (tested i) (Found name) (Differs name (type i))
+
+-- ---- types by index
+
+-- the type that is read has a key
+pub key_at : {X : Type 0} (f : X → FuncType) (types : List FuncType) (xs : List X) (i : ℕ) (x : X) → All (λ t. IsSome (key_of types t)) (map f xs) → i < length (map f xs) → x ≡ get_or xs i x → IsSome (key_of types (f x))
+key_at f types xs i x has in' is =
+    let in_xs : i < length xs = omega (arith, in', length-map xs f) in
+    subst (λ t. IsSome (key_of types t)) (get_or-map f xs i x (f x) in_xs ∙ ap f (sym is)) (has i (f x) in')

@@ -4,3 +4,4 @@ pub mod Symbols
 pub mod Keys
 pub mod Noted
 pub mod Asked
+pub mod Signatures

@@ -8,7 +8,7 @@ use Rattle.std.proofs.lemmas.List.Concat.{flat_map-append, get_or-flat_map}
 use Rattle.std.proofs.lemmas.List.Elements.{filter-append}
 use Rattle.std.proofs.lemmas.List.Folds.{position_or_len_push, find_at, find-append, length-flat_map-take}
 use Rattle.std.proofs.lemmas.List.Sums.{fold-append, prefix_len-le-length}
-use Rattle.std.proofs.lemmas.Option.{slice_get_past, slice_get-map, slice_get_within, get_or_from_slice_get, cond_some, none-some}
+use Rattle.std.proofs.lemmas.Option.{slice_get_past, slice_get-map, slice_get_within, slice_get_read, get_or_from_slice_get, cond_some, none-some}
 use Rattle.wasmi_module.specs.Modules.{Import, Export}
 use Rattle.wasmi_link_lib.specs.Linking.{with_value, without_repetitions, import_names}
 
@@ -80,6 +80,14 @@ slice_get_right (x ∷ xs) ys (suc i) j e = slice_get_right xs ys i j (omega (ar
 
 pub slice_get_map : {X Y : Type 0} (f : X → Y) (xs : List X) (i : ℕ) (o : Option X) → slice_get xs i ≡ o → slice_get (map f xs) i ≡ option_map f o
 slice_get_map f xs i o is = slice_get-map f xs i ∙ ap (option_map f) is
+
+pub is_some-map : {X Y : Type 0} (f : X → Y) (o : Option X) → is_some (option_map f o) ≡ is_some o
+is_some-map f None = refl
+is_some-map f (Some x) = refl
+
+-- what `get` returns
+pub got : {X : Type 0} (xs : List X) (i : ℕ) (x : X) → i < length xs → x ≡ get_or xs i x → slice_get xs i ≡ Some x
+got xs i x in' is = slice_get_read xs (length xs) i x refl in' is
 
 -- what holds of each element holds of what is read
 pub All_get : {X : Type 0} (P : X → Type 0) (xs : List X) (i : ℕ) (x : X) → All P xs → slice_get xs i ≡ Some x → P x
