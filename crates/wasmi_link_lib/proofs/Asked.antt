@@ -1,20 +1,21 @@
 -- What is asked for, what is given, and the answer.
-use Rattle.std.proofs.Common.{◌≡◌, ℕ, ◌+◌, ◌<◌, ◌≤◌, Bool, true, false, cond, List, [], ◌++◌, length, map, get_or, filter, All, Option, Some, None, IsSome, is_some, option_map, slice_get, refl, sym, ap, ◌∙◌, subst, arith}
+use Rattle.std.proofs.Common.{◌≡◌, ℕ, ◌+◌, ◌<◌, ◌≤◌, Bool, true, false, cond, List, [], ◌++◌, length, map, get_or, filter, All, Option, Some, None, IsSome, is_some, option_map, option_and_then, slice_get, refl, sym, ap, ◌∙◌, subst, arith}
 use Rattle.std.proofs.lemmas.List.{length-map, get_or-map}
 use Rattle.std.proofs.lemmas.List.Elements.{All-map, All-filter}
-use Rattle.std.proofs.lemmas.Option.{none-some, same_Some}
-use Rattle.wasmi_module.specs.Modules.{FuncType, Import, Global as PlainGlobal, Module}
+use Rattle.std.proofs.lemmas.Option.{none-some, same_Some, slice_get-map}
+use Rattle.wasmi_module.specs.Modules.{FuncType, Import, Export, Global as PlainGlobal, Module}
 use Rattle.wasmi_module.specs.Valid.{is_of, IsImportWithin, IsValid, counts_of}
 use Rattle.wasmi_module.specs.Views.{func_type_of}
 use Rattle.wasmi_module.specs.declared.module.FuncType as rust_func
 use Rattle.wasmi_module.specs.declared.module.ImportType.{ImportType}
 use Rattle.wasmi_module.specs.declared.module.Kind.{Kind}
 use Rattle.wasmi_module.specs.declared.module.Kind.TheVariants as kinds
+use Rattle.wasmi_link_lib.specs.declared.exports.Place.{Place}
 use Rattle.wasmi_link_lib.specs.declared.item.Item as rust_item
 use Rattle.wasmi_link_lib.specs.declared.item.Item.TheVariants as item
 use Rattle.wasmi_link_lib.specs.Lines.{ItemType, Func, Table, Memory, Global, Answer, Found, Missing, Differs}
-use Rattle.wasmi_link_lib.specs.Linking.{asked_item, imported_items, own_items, items_of, matches, answer_given, answer_by}
-use Rattle.wasmi_link_lib.specs.Tables.{Keyed, keyed, keyed_of, keyed_matches, key_of, imported_of}
+use Rattle.wasmi_link_lib.specs.Linking.{Named, export_named, asked_item, imported_items, own_items, items_of, matches, answer_given, answer_by}
+use Rattle.wasmi_link_lib.specs.Tables.{ImportedItems, all_imported, place_at, place_in, place_of, Keyed, keyed, keyed_of, keyed_matches, key_of, imported_of}
 use Rattle.wasmi_link_lib.proofs.Lists.{slice_get_left, slice_get_right, slice_get_map, All_get}
 use Rattle.wasmi_link_lib.proofs.Keys.{IsKeyed, keyed-matches}
 
@@ -53,6 +54,35 @@ own_global types m kind f xs i o is_kind globals is =
     ∙ sym (ap (λ k. option_map (keyed types) (slice_get (own_items m k) i)) is_kind ∙ ap (λ gs. option_map (keyed types) (slice_get (map global_item gs) i)) globals
     ∙ ap (option_map (keyed types)) (slice_get_map global_item (map f xs) i (option_map f o) (slice_get_map f xs i o is)))
 
+-- ---- what a module exports
+
+bodies : {Y : Type 0} (f : Module → Y) (o : Option Named) → option_map (λ m. f m.body) o ≡ option_map f (option_map (λ m. m.body) o)
+bodies f None = refl
+bodies f (Some m) = refl
+
+-- what the module of a number imports
+pub imported_is : {X : Type 0} (view : X → ImportedItems) (items : List X) (modules : List Named) (id : ℕ) (x : X) (m : Module) → map view items ≡ map (λ n. all_imported n.body) modules → slice_get items id ≡ Some x → option_map (λ n. n.body) (slice_get modules id) ≡ Some m → view x ≡ all_imported m
+imported_is view items modules id x m has read there =
+    same_Some (view x) (all_imported m)
+    (sym (slice_get_map view items id (Some x) read) ∙ ap (λ l. slice_get l id) has ∙ slice_get-map (λ (n : Named). all_imported n.body) modules id ∙ bodies all_imported (slice_get modules id) ∙ ap (option_map all_imported) there)
+
+-- where the module of a number has an export
+pub place_given : (exports : List ((ℕ × ℕ) × Place)) (modules : List Named) (id symbol : ℕ) (name : List ℕ) (m : Module) → place_in exports id symbol ≡ place_at modules id name → option_map (λ n. n.body) (slice_get modules id) ≡ Some m → place_in exports id symbol ≡ option_map place_of (export_named m name)
+place_given exports modules id symbol name m has there =
+    has ∙ along (slice_get modules id) ∙ ap (option_and_then (λ (b : Module). option_map place_of (export_named b name))) there
+  where
+    along : (o : Option Named) → option_and_then (λ n. option_map place_of (export_named n.body name)) o ≡ option_and_then (λ (b : Module). option_map place_of (export_named b name)) (option_map (λ n. n.body) o)
+    along None = refl
+    along (Some n) = refl
+
+pub exported_at : (m : Module) (place : Place) (o : Option Export) → Some place ≡ option_map place_of o → slice_get (items_of m place.kind) place.index ≡ option_and_then (λ e. slice_get (items_of m e.kind) e.index) o
+exported_at m place None is = absurd (none-some place (sym is))
+exported_at m place (Some e) is = ap (λ (p : Place). slice_get (items_of m p.kind) p.index) (same_Some place (place_of e) is)
+
+pub exported_none : (m : Module) (o : Option Export) → None ≡ option_map place_of o → None ≡ option_and_then (λ e. slice_get (items_of m e.kind) e.index) o
+exported_none m None is = refl
+exported_none m (Some e) is = absurd (none-some (place_of e) is)
+
 -- ---- keys
 
 is_func : ItemType → Bool
@@ -70,7 +100,7 @@ item_key (item.Memory type) is = is
 item_key (item.Global type) is = is
 
 module _ (types : List FuncType) where
-  keyed-type : (x : ItemType) → (keyed types x).type ≡ x
+  pub keyed-type : (x : ItemType) → (keyed types x).type ≡ x
   keyed-type (Func type) = refl
   keyed-type (Table type) = refl
   keyed-type (Memory type) = refl

@@ -1,9 +1,9 @@
 -- Lists that grow at their end, and where an element stands in them.
-use Rattle.std.proofs.Common.{◌≡◌, ◌≢◌, ◌⊎◌, ℕ, zero, suc, ◌+◌, ◌-◌, ◌<◌, ◌≤◌, Bool, true, false, not, cond, List, [], ◌∷◌, ◌++◌, length, map, get_or, take, fold, filter, flat_map, find, Contains, All, bytes_eq, Option, Some, None, is_some, IsSome, option_map, option_and_then, position, slice_get, ltb, eqb, refl, sym, ap, ap₂, ◌∙◌, subst, inl, inr, append-nil, add-zero, eq-eqb, ne_eqb, lt-ltb, le-ltb, ltb-true, true≢false, arith}
+use Rattle.std.proofs.Common.{◌≡◌, ◌≢◌, ◌⊎◌, ℕ, zero, suc, ◌+◌, ◌-◌, ◌<◌, ◌≤◌, Bool, true, false, not, cond, List, [], ◌∷◌, ◌++◌, length, map, get_or, take, fold, filter, flat_map, find, Contains, All, bytes_eq, Option, Some, None, is_some, IsSome, option_map, option_and_then, position, slice_get, ltb, eqb, refl, sym, ap, ap₂, ◌∙◌, subst, inl, inr, append-nil, append_assoc, add-zero, eq-eqb, ne_eqb, lt-ltb, le-ltb, ltb-true, true≢false, arith}
 use Rattle.std.specs.List.{position_or_len, prefix_len}
 use Rattle.std.specs.Option.{option_or}
 use Rattle.std.proofs.lemmas.Bool.{cases_lt, cases_Bool, cond_both}
-use Rattle.std.proofs.lemmas.List.{take_more, map_more, map_push, map-append, length_push, length-map}
+use Rattle.std.proofs.lemmas.List.{take_more, map_more, map_push, map-append, length_push, length-map, get_or-map}
 use Rattle.std.proofs.lemmas.List.Concat.{flat_map-append, get_or-flat_map}
 use Rattle.std.proofs.lemmas.List.Elements.{filter-append}
 use Rattle.std.proofs.lemmas.List.Folds.{position_or_len_push, find_at, find-append, length-flat_map-take}
@@ -35,6 +35,18 @@ mapped_step v g f old new y xs i x in' is before pushed same =
     ap (map v) pushed ∙ map_push v old y
     ∙ (λ j. before j ++ same j ∷ [])
     ∙ sym (map_push g (map f (take i xs)) (f x)) ∙ ap (map g) (sym (map_read f xs i x in' is))
+
+-- behind others,
+pub joined_step : {X Y Z W : Type 0} (v : W → Z) (g : Y → Z) (f : X → Y) (start : List Z) (old new : List W) (y : W) (xs : List X) (i : ℕ) (d : X) → i < length xs → map v old ≡ start ++ map g (map f (take i xs)) → new ≡ old ++ y ∷ [] → v y ≡ g (f (get_or xs i d)) → map v new ≡ start ++ map g (map f (take (i + 1) xs))
+joined_step v g f start old new y xs i d in' before pushed same =
+    ap (map v) pushed ∙ map_push v old y
+    ∙ (λ j. before j ++ same j ∷ [])
+    ∙ append_assoc start (map g (map f (take i xs))) (g (f (get_or xs i d)) ∷ [])
+    ∙ ap (λ l. start ++ l) (sym (map_push g (map f (take i xs)) (f (get_or xs i d))) ∙ ap (map g) (sym (map_more f xs i d in')))
+
+-- or many at a time
+pub pieces_step : {X Y Z : Type 0} (g : Y → List Z) (f : X → Y) (old new : List Z) (xs : List X) (i : ℕ) (x : X) → i < length xs → x ≡ get_or xs i x → old ≡ flat_map g (map f (take i xs)) → new ≡ old ++ g (f x) → new ≡ flat_map g (map f (take (i + 1) xs))
+pieces_step g f old new xs i x in' is before pushed = pushed ∙ ap (λ l. l ++ g (f x)) before ∙ sym (flat_map_read g f xs i x in' is)
 
 -- two names of an import were taken,
 pub names_step : {X : Type 0} (f : X → Import) (start old next new : List (List ℕ)) (xs : List X) (i : ℕ) (d : X) → i < length xs → old ≡ fold (with_value bytes_eq) start (flat_map import_names (map f (take i xs)))
@@ -88,6 +100,14 @@ is_some-map f (Some x) = refl
 -- what `get` returns
 pub got : {X : Type 0} (xs : List X) (i : ℕ) (x : X) → i < length xs → x ≡ get_or xs i x → slice_get xs i ≡ Some x
 got xs i x in' is = slice_get_read xs (length xs) i x refl in' is
+
+-- what is read is there
+pub Contains-got : {X : Type 0} (xs : List X) (i : ℕ) (x : X) → slice_get xs i ≡ Some x → Contains xs x
+Contains-got xs i x is = (i, slice_get_within xs i x is, get_or_from_slice_get xs i x x is)
+
+-- what holds of each value of a function holds of what is read
+pub All_at : {X Y : Type 0} (P : Y → Type 0) (f : X → Y) (xs : List X) (i : ℕ) (d : X) → i < length xs → All P (map f xs) → P (f (get_or xs i d))
+All_at P f xs i d in' all = subst P (get_or-map f xs i d (f d) in') (all i (f d) (omega (arith, in', length-map xs f)))
 
 -- what holds of each element holds of what is read
 pub All_get : {X : Type 0} (P : X → Type 0) (xs : List X) (i : ℕ) (x : X) → All P xs → slice_get xs i ≡ Some x → P x

@@ -1,13 +1,27 @@
+use Rattle.std.proofs.Common.{◌∙◌, ap, map, option_map, sym}
+use Rattle.wasmi_module.specs.Views.{module_of}
+use Rattle.wasmi_link_lib.specs.Linking.{named_of, export_named}
+use Rattle.wasmi_link_lib.specs.Tables.{imported_view, keyed, signature_of}
+use Rattle.wasmi_link_lib.proofs.Asked.{imported_is, place_given, exported_at, exported_none}
 use Rattle.wasmi_link_lib.proofs.linker.Linker.exported.Goals as goal
 
-pub index-imported-requires : goal.index-imported-requires
-index-imported-requires g c = ?
-
 pub item-requires-clause-imported : goal.item-requires-clause-imported
-item-requires-clause-imported g c = ?
+item-requires-clause-imported g c =
+    imported_is imported_view c.args.self.now.imported.items (map named_of c.args.modules.now) c.args.id c.in-Ok.imported.now (module_of c.args.body.now) c.requires.linker.has_imported c.in-Ok.ensures.item c.requires.there
 
-pub returns-in-Some-get : goal.returns-in-Some-get
-returns-in-Some-get g c = ?
+pub returns-in-Ok : goal.returns-in-Ok
+returns-in-Ok g c =
+    let m = module_of c.args.body.now in
+    let modules = map named_of c.args.modules.now in
+    let has = c.requires.linker.has_exports c.args.id c.in-Some.symbol c.args.name.now (sym c.in-Some.ensures.symbol) in
+    c.item.ensures
+    ∙ ap (option_map (keyed (map signature_of c.args.self.now.types.handed))) (exported_at m c.in-Some-get.place.now (export_named m c.args.name.now)
+    (c.in-Some-get.ensures ∙ place_given c.args.self.now.exports.entries modules c.args.id c.in-Some.symbol c.args.name.now m has c.requires.there))
 
 pub returns-in-None : goal.returns-in-None
-returns-in-None g c = ?
+returns-in-None g c =
+    let m = module_of c.args.body.now in
+    let modules = map named_of c.args.modules.now in
+    let has = c.requires.linker.has_exports c.args.id c.in-Some.symbol c.args.name.now (sym c.in-Some.ensures.symbol) in
+    ap (option_map (keyed (map signature_of c.args.self.now.types.handed))) (exported_none m (export_named m c.args.name.now)
+    (c.in-None.ensures ∙ place_given c.args.self.now.exports.entries modules c.args.id c.in-Some.symbol c.args.name.now m has c.requires.there))
