@@ -2,7 +2,7 @@
 use Rattle.std.proofs.Common.{◌≡◌, ℕ, ◌+◌, ◌<◌, ◌≤◌, Bool, true, false, cond, List, [], ◌++◌, length, map, get_or, filter, All, Option, Some, None, IsSome, is_some, option_map, option_and_then, slice_get, refl, sym, ap, ◌∙◌, subst, arith}
 use Rattle.std.proofs.lemmas.List.{length-map, get_or-map}
 use Rattle.std.proofs.lemmas.List.Elements.{All-map, All-filter}
-use Rattle.std.proofs.lemmas.Option.{none-some, same_Some, slice_get-map}
+use Rattle.std.proofs.lemmas.Option.{none-some, same_Some, slice_get-map, slice_get_within}
 use Rattle.wasmi_module.specs.Modules.{FuncType, Import, Export, Global as PlainGlobal, Module}
 use Rattle.wasmi_module.specs.Valid.{is_of, IsImportWithin, IsValid, counts_of}
 use Rattle.wasmi_module.specs.Views.{func_type_of}
@@ -65,6 +65,14 @@ pub imported_is : {X : Type 0} (view : X → ImportedItems) (items : List X) (mo
 imported_is view items modules id x m has read there =
     same_Some (view x) (all_imported m)
     (sym (slice_get_map view items id (Some x) read) ∙ ap (λ l. slice_get l id) has ∙ slice_get-map (λ (n : Named). all_imported n.body) modules id ∙ bodies all_imported (slice_get modules id) ∙ ap (option_map all_imported) there)
+
+pub imported_there : {X : Type 0} (view : X → ImportedItems) (items : List X) (modules : List Named) (id : ℕ) (m : Module) → map view items ≡ map (λ n. all_imported n.body) modules → option_map (λ n. n.body) (slice_get modules id) ≡ Some m → id < length items
+imported_there view items modules id m has there =
+    let read : slice_get (map view items) id ≡ Some (all_imported m) =
+        ap (λ l. slice_get l id) has ∙ slice_get-map (λ (n : Named). all_imported n.body) modules id ∙ bodies all_imported (slice_get modules id) ∙ ap (option_map all_imported) there in
+    let in' : id < length (map view items) = slice_get_within (map view items) id (all_imported m) read in
+    let same = length-map items view in
+    omega (arith, in', same)
 
 -- where the module of a number has an export
 pub place_given : (exports : List ((ℕ × ℕ) × Place)) (modules : List Named) (id symbol : ℕ) (name : List ℕ) (m : Module) → place_in exports id symbol ≡ place_at modules id name → option_map (λ n. n.body) (slice_get modules id) ≡ Some m → place_in exports id symbol ≡ option_map place_of (export_named m name)

@@ -9,9 +9,9 @@ use Rattle.wasmi_dense.specs.Components.{component_at}
 use Rattle.wasmi_interner.specs.Interner.{symbol_of}
 use Rattle.wasmi_module.specs.Modules.{Export}
 use Rattle.wasmi_link_lib.specs.declared.exports.Place.{Place}
-use Rattle.wasmi_link_lib.specs.Linking.{Named, export_named}
-use Rattle.wasmi_link_lib.specs.Tables.{Notes, HasFirsts, HasExports, place_at, place_in, place_of}
-use Rattle.wasmi_link_lib.proofs.Lists.{map_read, position_push, slice_get_last, slice_get_other}
+use Rattle.wasmi_link_lib.specs.Linking.{Named, export_named, module_named}
+use Rattle.wasmi_link_lib.specs.Tables.{Notes, first_of, HasFirsts, HasExports, place_at, place_in, place_of}
+use Rattle.wasmi_link_lib.proofs.Lists.{got, map_read, find_position, position_push, position_within, slice_get_map, slice_get_last, slice_get_other}
 
 -- the key that a number has
 pub some_iff : (P : Type 0) (r : Option ℕ) (v x : ℕ) → SomeIff r P v → r ≡ Some x → x ≡ v
@@ -96,3 +96,19 @@ absent_step f names exports xs i id in' same has = places_absent names exports (
 
 pub exports_all : {X : Type 0} (f : X → Named) (names : List (List ℕ)) (exports : List ((ℕ × ℕ) × Place)) (xs : List X) (n : ℕ) → length xs ≤ n → HasExports names exports (map f (take n xs)) → HasExports names exports (map f xs)
 exports_all f names exports xs n all has = subst (HasExports names exports) (ap (map f) (take_all n xs all)) has
+
+-- ---- the first module of a name
+
+pub read_first : {X : Type 0} (f : X → Named) (xs : List X) (name : List ℕ) (id i : ℕ) (x : X) → Some id ≡ first_of (map f xs) name → i ≡ id → x ≡ get_or xs i x → slice_get (map f xs) id ≡ Some (f x)
+read_first f xs name id i x first same is =
+    let in' : id < length (map f xs) = position_within (λ m. bytes_eq name m.name) (map f xs) id (sym first) in
+    let as_many = length-map xs f in
+    let in_xs : i < length xs = omega (arith, in', as_many, same) in
+    slice_get_map f xs id (Some x) (ap (slice_get xs) (sym same) ∙ got xs i x in_xs is)
+
+pub the_module : (modules : List Named) (name : List ℕ) (id : ℕ) (m : Named) → Some id ≡ first_of modules name → slice_get modules id ≡ Some m → module_named modules name ≡ Some m
+the_module modules name id m first is =
+    find_position (λ n. bytes_eq name n.name) modules ∙ ap (option_and_then (slice_get modules)) (sym first) ∙ is
+
+pub no_module : (modules : List Named) (name : List ℕ) → None ≡ first_of modules name → module_named modules name ≡ None
+no_module modules name first = find_position (λ n. bytes_eq name n.name) modules ∙ ap (option_and_then (slice_get modules)) (sym first)

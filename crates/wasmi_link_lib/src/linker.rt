@@ -87,12 +87,12 @@ impl<'a, A: Allocator + Copy> Linker<'a, A> {
             unreachable!()
         };
         match self.exports.get(&(id, symbol)) {
-            Some(place) => {
-                let Ok(imported) = self.imported.get(id) else {
-                    unreachable!()
-                };
-                imported::item(imported, &self.types, body, place.kind, place.index)
-            }
+            Some(place) => match self.imported.get(id) {
+                Ok(imported) => {
+                    imported::item(imported, &self.types, body, place.kind, place.index)
+                }
+                Err(_) => unreachable!(),
+            },
             None => None,
         }
     }
