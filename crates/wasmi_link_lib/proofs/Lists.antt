@@ -109,6 +109,9 @@ Contains-got xs i x is = (i, slice_get_within xs i x is, get_or_from_slice_get x
 pub All_at : {X Y : Type 0} (P : Y → Type 0) (f : X → Y) (xs : List X) (i : ℕ) (d : X) → i < length xs → All P (map f xs) → P (f (get_or xs i d))
 All_at P f xs i d in' all = subst P (get_or-map f xs i d (f d) in') (all i (f d) (omega (arith, in', length-map xs f)))
 
+pub All_along : {X Y : Type 0} (P : Y → Type 0) (f : X → Y) (xs ys : List X) → ys ≡ xs → All P (map f xs) → All P (map f ys)
+All_along P f xs ys same all = subst (λ l. All P (map f l)) (sym same) all
+
 -- what holds of each element holds of what is read
 pub All_get : {X : Type 0} (P : X → Type 0) (xs : List X) (i : ℕ) (x : X) → All P xs → slice_get xs i ≡ Some x → P x
 All_get P xs i x all is = subst P (get_or_from_slice_get xs i x x is) (all i x (slice_get_within xs i x is))
