@@ -69,7 +69,7 @@ imported_is view items modules id x m has read there =
 pub imported_there : {X : Type 0} (view : X → ImportedItems) (items : List X) (modules : List Named) (id : ℕ) (m : Module) → map view items ≡ map (λ n. all_imported n.body) modules → option_map (λ n. n.body) (slice_get modules id) ≡ Some m → id < length items
 imported_there view items modules id m has there =
     let read : slice_get (map view items) id ≡ Some (all_imported m) =
-        ap (λ l. slice_get l id) has ∙ slice_get-map (λ (n : Named). all_imported n.body) modules id ∙ bodies all_imported (slice_get modules id) ∙ ap (option_map all_imported) there in
+    ap (λ l. slice_get l id) has ∙ slice_get-map (λ (n : Named). all_imported n.body) modules id ∙ bodies all_imported (slice_get modules id) ∙ ap (option_map all_imported) there in
     let in' : id < length (map view items) = slice_get_within (map view items) id (all_imported m) read in
     let same = length-map items view in
     omega (arith, in', same)
@@ -142,7 +142,7 @@ module _ (types : List FuncType) where
     answered name (Some given) is =
         let is_given : keyed_of y ≡ keyed types given = same_Some (keyed_of y) (keyed types given) is in
         let tested : keyed_matches (keyed_of x) (keyed_of y) ≡ matches asked given =
-            (λ i. keyed_matches (is_asked i) (is_given i)) ∙ keyed-matches types asked given (is_keyed x asked is_asked) (is_keyed y given is_given) in
+        (λ i. keyed_matches (is_asked i) (is_given i)) ∙ keyed-matches types asked given (is_keyed x asked is_asked) (is_keyed y given is_given) in
         let type : (keyed_of y).type ≡ given = ap (λ (k : Keyed). k.type) is_given ∙ keyed-type given in
         λ i. cond (tested i) (Found name) (Differs name (type i))
 

@@ -137,15 +137,15 @@ module _ {X : Type 0} (p : X → Bool) where
       let moved : position p (xs ++ y ∷ []) ≡ cond (ltb (cond (eqb k (length xs)) (length xs + cond (p y) 0 1) k) (length xs + 1)) (Some (cond (eqb k (length xs)) (length xs + cond (p y) 0 1) k)) None = λ i. cond (ltb (position_or_len_push p xs y i) (length_push xs y i)) (Some (position_or_len_push p xs y i)) None in
       elim (cases_lt k (length xs)) [
         | inl in' ↦
-          let stays : cond (eqb k (length xs)) (length xs + cond (p y) 0 1) k ≡ k = ap (λ b. cond b (length xs + cond (p y) 0 1) k) (ne_eqb k (length xs) (λ e. omega (arith, e, in'))) in
-          moved ∙ ap (λ m. cond (ltb m (length xs + 1)) (Some m) None) stays
-          ∙ ap (λ b. cond b (Some k) None) (lt-ltb k (length xs + 1) (omega (arith, in')))
-          ∙ sym (ap (λ o. option_or o (cond (p y) (Some (length xs)) None)) (position_in xs in'))
+            let stays : cond (eqb k (length xs)) (length xs + cond (p y) 0 1) k ≡ k = ap (λ b. cond b (length xs + cond (p y) 0 1) k) (ne_eqb k (length xs) (λ e. omega (arith, e, in'))) in
+            moved ∙ ap (λ m. cond (ltb m (length xs + 1)) (Some m) None) stays
+            ∙ ap (λ b. cond b (Some k) None) (lt-ltb k (length xs + 1) (omega (arith, in')))
+            ∙ sym (ap (λ o. option_or o (cond (p y) (Some (length xs)) None)) (position_in xs in'))
         | inr out ↦
-          let all : k ≡ length xs = omega (arith, out, prefix_len-le-length (λ x. not (p x)) xs) in
-          let ends : cond (eqb k (length xs)) (length xs + cond (p y) 0 1) k ≡ length xs + cond (p y) 0 1 = ap (λ b. cond b (length xs + cond (p y) 0 1) k) (eq-eqb k (length xs) all) in
-          moved ∙ ap (λ m. cond (ltb m (length xs + 1)) (Some m) None) ends ∙ last_position (length xs) (p y)
-          ∙ sym (ap (λ o. option_or o (cond (p y) (Some (length xs)) None)) (position_out xs out))
+            let all : k ≡ length xs = omega (arith, out, prefix_len-le-length (λ x. not (p x)) xs) in
+            let ends : cond (eqb k (length xs)) (length xs + cond (p y) 0 1) k ≡ length xs + cond (p y) 0 1 = ap (λ b. cond b (length xs + cond (p y) 0 1) k) (eq-eqb k (length xs) all) in
+            moved ∙ ap (λ m. cond (ltb m (length xs + 1)) (Some m) None) ends ∙ last_position (length xs) (p y)
+            ∙ sym (ap (λ o. option_or o (cond (p y) (Some (length xs)) None)) (position_out xs out))
       ]
 
   -- what is found is what is read at its position

@@ -76,11 +76,11 @@ pub exports_more : (names : List (List ℕ)) (old new : List ((ℕ × ℕ) × Pl
 exports_more names old new modules m id last has own others at symbol text is =
     elim (cases_eq at id) [
       | inl here ↦
-        ap (λ k. place_in new k symbol) here ∙ own text symbol is
-        ∙ sym (ap (option_and_then (λ (n : Named). option_map place_of (export_named n.body text))) (ap (slice_get (modules ++ m ∷ [])) (here ∙ last) ∙ slice_get_last modules m))
+          ap (λ k. place_in new k symbol) here ∙ own text symbol is
+          ∙ sym (ap (option_and_then (λ (n : Named). option_map place_of (export_named n.body text))) (ap (slice_get (modules ++ m ∷ [])) (here ∙ last) ∙ slice_get_last modules m))
       | inr apart ↦
-        others at symbol apart ∙ has at symbol text is
-        ∙ sym (ap (option_and_then (λ (n : Named). option_map place_of (export_named n.body text))) (slice_get_other modules m at (λ e. apart (e ∙ sym last))))
+          others at symbol apart ∙ has at symbol text is
+          ∙ sym (ap (option_and_then (λ (n : Named). option_map place_of (export_named n.body text))) (slice_get_other modules m at (λ e. apart (e ∙ sym last))))
     ]
 
 pub exports_step : {X : Type 0} (f : X → Named) (names : List (List ℕ)) (old new : List ((ℕ × ℕ) × Place)) (xs : List X) (i id : ℕ) (x : X) → i < length xs → x ≡ get_or xs i x → id ≡ i → HasExports names old (map f (take i xs))

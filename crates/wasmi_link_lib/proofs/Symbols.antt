@@ -43,9 +43,10 @@ symbol_reads names text symbol is = (bytes_eq-Decides text _).0 (position-Some (
 module _ (names : List (List ℕ)) (name : List ℕ) (noted : ℕ) (is_noted : symbol_of names name ≡ Some noted) where
   pub same_symbol : (text : List ℕ) (symbol : ℕ) → symbol_of names text ≡ Some symbol → bytes_eq text name ≡ (noted == symbol)
   same_symbol text symbol is =
-      one_answer (bytes_eq text name) (noted == symbol) (bytes_eq-Decides text name)
-      (λ e. symbol_reads names text symbol is ∙ sym (ap (λ k. get_or names k []) (eqb-true noted symbol e)) ∙ sym (symbol_reads names name noted is_noted),
-       λ e. eq-eqb noted symbol (same_Some noted symbol (sym is_noted ∙ sym (ap (symbol_of names) e) ∙ is)))
+      one_answer (bytes_eq text name) (noted == symbol) (bytes_eq-Decides text name) (
+        λ e. symbol_reads names text symbol is ∙ sym (ap (λ k. get_or names k []) (eqb-true noted symbol e)) ∙ sym (symbol_reads names name noted is_noted),
+        λ e. eq-eqb noted symbol (same_Some noted symbol (sym is_noted ∙ sym (ap (symbol_of names) e) ∙ is)),
+      )
 
   module _ {V : Type 0} (old new : ℕ → Option V) (value : V) where
     -- a name that has nothing yet

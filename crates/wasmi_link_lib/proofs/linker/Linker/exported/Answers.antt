@@ -29,6 +29,6 @@ returns-in-None g c =
 pub unreachable-requires-in-Err : goal.unreachable-requires-in-Err
 unreachable-requires-in-Err g c =
     let there : c.args.id < length c.args.self.now.imported.items =
-        imported_there imported_view c.args.self.now.imported.items (map named_of c.args.modules.now) c.args.id (module_of c.args.body.now) c.requires.linker.has_imported c.requires.there in
+    imported_there imported_view c.args.self.now.imported.items (map named_of c.args.modules.now) c.args.id (module_of c.args.body.now) c.requires.linker.has_imported c.requires.there in
     let past = c.in-Err.ensures.out_of_bounds.0 (ap Err c.in-Err.ensures.errors) in
     omega (arith, there, past)
