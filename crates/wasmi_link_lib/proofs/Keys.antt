@@ -1,5 +1,5 @@
 -- Types and names have keys, and to compare keys is to compare types.
-use Rattle.std.proofs.Common.{◌≡◌, ℕ, zero, suc, ◌<◌, Bool, true, false, cond, ◌==◌, List, [], ◌∷◌, ◌++◌, length, map, get_or, Contains, flat_map, Option, Some, None, IsSome, is_some, position, bytes_eq, Decides, refl, sym, ap, ◌∙◌, inl, inr, subst, eqb-true, eq-eqb, lit<, ◌⊎◌}
+use Rattle.std.proofs.Common.{◌≡◌, ℕ, zero, suc, ◌<◌, Bool, true, false, cond, ◌==◌, List, [], ◌∷◌, ◌++◌, length, map, get_or, Contains, flat_map, Option, Some, None, IsSome, is_some, position, bytes_eq, Decides, refl, sym, ap, ◌∙◌, inl, inr, subst, eqb-true, eq-eqb, lit<, true≢false}
 use Rattle.std.specs.Bool.{one_answer}
 use Rattle.std.specs.Cmp.Lexicographic.{nat_list_eq_equiv}
 use Rattle.std.specs.Option.{option_eq}
@@ -36,8 +36,8 @@ pub has_import_names : (names : List (List ℕ)) (modules : List Named) (m : Nam
 has_import_names names modules m are there k d in' =
     let i = get_or m.body.imports k d in
     let among : (name : List ℕ) → Contains (import_names i) name → Contains (names_of m) name =
-        λ name is. Contains-append_left (m.name ∷ [] ++ flat_map import_names m.body.imports) (map (λ e. e.name) m.body.exports) name
-        (Contains-append_right (m.name ∷ []) (flat_map import_names m.body.imports) name (Contains-flat_map import_names m.body.imports i name (Contains-get_or m.body.imports k d in') is)) in
+    λ name is. Contains-append_left (m.name ∷ [] ++ flat_map import_names m.body.imports) (map (λ e. e.name) m.body.exports) name
+    (Contains-append_right (m.name ∷ []) (flat_map import_names m.body.imports) name (Contains-flat_map import_names m.body.imports i name (Contains-get_or m.body.imports k d in') is)) in
     (name_known names modules m i.asked are there (among i.asked (0, lit< tt, refl)), name_known names modules m i.field are there (among i.field (1, lit< tt, refl)))
 
 -- ---- the types that were taken
@@ -51,7 +51,7 @@ module _ {S : Type 0} (eq : S → S → Bool) (view : S → FuncType) (same : (a
   pub type_taken : {K : Type 0} (keys : Keys K) (clones : S → S → Type 0) (old new : DedupState S) (x : S) (key : K) → AllocatesValue keys eq clones old x key new → map view new.handed ≡ with_value func_type_eq (map view old.handed) (view x)
   type_taken keys clones old new x key allocates =
       let step : (o : Option ℕ) → key_of (map view old.handed) (view x) ≡ o → cond (is_some o) (map view old.handed) (map view old.handed ++ view x ∷ []) ≡ with_value func_type_eq (map view old.handed) (view x) =
-          λ o is. ap (λ (p : Option ℕ). cond (is_some p) (map view old.handed) (map view old.handed ++ view x ∷ [])) (sym is) in
+      λ o is. ap (λ (p : Option ℕ). cond (is_some p) (map view old.handed) (map view old.handed ++ view x ∷ [])) (sym is) in
       elim allocates [
         | inl (p, found, key_is, stays) ↦ ap (λ (s : DedupState S). map view s.handed) stays ∙ step (Some p) (key_seen old.handed x ∙ found)
         | inr added ↦ ap (map view) added.handed_are ∙ map-append view old.handed (x ∷ []) ∙ step None (key_seen old.handed x ∙ added.absent)
@@ -63,7 +63,7 @@ module _ {S : Type 0} (eq : S → S → Bool) (view : S → FuncType) (same : (a
 keys_decide : (types : List FuncType) (a b : FuncType) (i j : ℕ) → key_of types a ≡ Some i → key_of types b ≡ Some j → (i == j) ≡ func_type_eq a b
 keys_decide types a b i j is_a is_b =
     let reads : (t : FuncType) (k : ℕ) → key_of types t ≡ Some k → t ≡ get_or types k t =
-        λ t k is. (func_type_eq-Decides t _).0 (position-Some (func_type_eq t) types k t is).1 in
+    λ t k is. (func_type_eq-Decides t _).0 (position-Some (func_type_eq t) types k t is).1 in
     one_answer (i == j) (func_type_eq a b)
     (λ e. reads a i is_a ∙ ap (λ k. get_or types k a) (eqb-true i j e) ∙ same_default j b is_b, λ e. eq-eqb i j (same_Some i j (sym is_a ∙ ap (key_of types) e ∙ is_b)))
     (func_type_eq-Decides a b)
@@ -73,10 +73,7 @@ keys_decide types a b i j is_a is_b =
         sym ((func_type_eq-Decides t _).0 (position-Some (func_type_eq t) types k a is).1)
 
 some_key : (o : Option ℕ) → IsSome o → (k : ℕ) × (o ≡ Some k)
-some_key None is = absurd (none_true is)
-  where
-    none_true : false ≡ true → ⊥
-    none_true e = cc
+some_key None is = absurd (true≢false (sym is))
 some_key (Some k) is = (k, refl)
 
 -- a type's key, where it is that of a function, is there

@@ -4,6 +4,7 @@ pub mod Symbols
 pub mod Keys
 pub mod Noted
 pub mod Asked
+pub mod Signatures
 pub mod FileLemmas
 pub mod PathLemmas
 pub mod ReportLemmas

@@ -1,15 +1,16 @@
 -- Lists that grow at their end, and where an element stands in them.
-use Rattle.std.proofs.Common.{◌≡◌, ◌≢◌, ◌⊎◌, ℕ, zero, suc, ◌+◌, ◌-◌, ◌<◌, ◌≤◌, Bool, true, false, not, cond, List, [], ◌∷◌, ◌++◌, length, map, get_or, take, fold, filter, flat_map, find, Contains, All, Option, Some, None, is_some, IsSome, option_map, option_and_then, position, slice_get, ltb, eqb, refl, sym, ap, ap₂, ◌∙◌, subst, inl, inr, append-nil, add-zero, eq-eqb, ne_eqb, lt-ltb, le-ltb, ltb-true, arith}
+use Rattle.std.proofs.Common.{◌≡◌, ◌≢◌, ◌⊎◌, ℕ, zero, suc, ◌+◌, ◌-◌, ◌<◌, ◌≤◌, Bool, true, false, not, cond, List, [], ◌∷◌, ◌++◌, length, map, get_or, take, fold, filter, flat_map, find, Contains, All, bytes_eq, Option, Some, None, is_some, IsSome, option_map, option_and_then, position, slice_get, ltb, eqb, refl, sym, ap, ap₂, ◌∙◌, subst, inl, inr, append-nil, append_assoc, add-zero, eq-eqb, ne_eqb, lt-ltb, le-ltb, ltb-true, true≢false, arith}
 use Rattle.std.specs.List.{position_or_len, prefix_len}
 use Rattle.std.specs.Option.{option_or}
 use Rattle.std.proofs.lemmas.Bool.{cases_lt, cases_Bool, cond_both}
-use Rattle.std.proofs.lemmas.List.{take_more, map_push, map-append, length_push, length-map}
+use Rattle.std.proofs.lemmas.List.{take_more, map_more, map_push, map-append, length_push, length-map, get_or-map}
 use Rattle.std.proofs.lemmas.List.Concat.{flat_map-append, get_or-flat_map}
 use Rattle.std.proofs.lemmas.List.Elements.{filter-append}
 use Rattle.std.proofs.lemmas.List.Folds.{position_or_len_push, find_at, find-append, length-flat_map-take}
 use Rattle.std.proofs.lemmas.List.Sums.{fold-append, prefix_len-le-length}
-use Rattle.std.proofs.lemmas.Option.{slice_get_past, slice_get-map, slice_get_within, get_or_from_slice_get, cond_some, none-some}
-use Rattle.wasmi_link_lib.specs.Linking.{with_value, without_repetitions}
+use Rattle.std.proofs.lemmas.Option.{slice_get_past, slice_get-map, slice_get_within, slice_get_read, get_or_from_slice_get, cond_some, none-some}
+use Rattle.wasmi_module.specs.Modules.{Import, Export}
+use Rattle.wasmi_link_lib.specs.Linking.{with_value, without_repetitions, import_names}
 
 -- ---- one more element, as a loop reads it
 
@@ -27,6 +28,45 @@ flat_map_read g f xs i x in' is =
 
 pub filter_read : {X Y : Type 0} (p : Y → Bool) (f : X → Y) (xs : List X) (i : ℕ) (x : X) → i < length xs → x ≡ get_or xs i x → filter p (map f (take (i + 1) xs)) ≡ filter p (map f (take i xs)) ++ cond (p (f x)) (f x ∷ []) []
 filter_read p f xs i x in' is = ap (filter p) (map_read f xs i x in' is) ∙ filter-append p (map f (take i xs)) (f x ∷ [])
+
+-- the same of what is pushed for it
+pub mapped_step : {X Y Z W : Type 0} (v : W → Z) (g : Y → Z) (f : X → Y) (old new : List W) (y : W) (xs : List X) (i : ℕ) (x : X) → i < length xs → x ≡ get_or xs i x → map v old ≡ map g (map f (take i xs)) → new ≡ old ++ y ∷ [] → v y ≡ g (f x) → map v new ≡ map g (map f (take (i + 1) xs))
+mapped_step v g f old new y xs i x in' is before pushed same =
+    ap (map v) pushed ∙ map_push v old y
+    ∙ (λ j. before j ++ same j ∷ [])
+    ∙ sym (map_push g (map f (take i xs)) (f x)) ∙ ap (map g) (sym (map_read f xs i x in' is))
+
+-- behind others,
+pub joined_step : {X Y Z W : Type 0} (v : W → Z) (g : Y → Z) (f : X → Y) (start : List Z) (old new : List W) (y : W) (xs : List X) (i : ℕ) (d : X) → i < length xs → map v old ≡ start ++ map g (map f (take i xs)) → new ≡ old ++ y ∷ [] → v y ≡ g (f (get_or xs i d)) → map v new ≡ start ++ map g (map f (take (i + 1) xs))
+joined_step v g f start old new y xs i d in' before pushed same =
+    ap (map v) pushed ∙ map_push v old y
+    ∙ (λ j. before j ++ same j ∷ [])
+    ∙ append_assoc start (map g (map f (take i xs))) (g (f (get_or xs i d)) ∷ [])
+    ∙ ap (λ l. start ++ l) (sym (map_push g (map f (take i xs)) (f (get_or xs i d))) ∙ ap (map g) (sym (map_more f xs i d in')))
+
+-- or many at a time
+pub pieces_step : {X Y Z : Type 0} (g : Y → List Z) (f : X → Y) (old new : List Z) (xs : List X) (i : ℕ) (x : X) → i < length xs → x ≡ get_or xs i x → old ≡ flat_map g (map f (take i xs)) → new ≡ old ++ g (f x) → new ≡ flat_map g (map f (take (i + 1) xs))
+pieces_step g f old new xs i x in' is before pushed = pushed ∙ ap (λ l. l ++ g (f x)) before ∙ sym (flat_map_read g f xs i x in' is)
+
+-- two names of an import were taken,
+pub names_step : {X : Type 0} (f : X → Import) (start old next new : List (List ℕ)) (xs : List X) (i : ℕ) (d : X) → i < length xs → old ≡ fold (with_value bytes_eq) start (flat_map import_names (map f (take i xs)))
+    → next ≡ with_value bytes_eq old (f (get_or xs i d)).asked → new ≡ with_value bytes_eq next (f (get_or xs i d)).field
+    → new ≡ fold (with_value bytes_eq) start (flat_map import_names (map f (take (i + 1) xs)))
+names_step f start old next new xs i d in' before first second =
+    let x = f (get_or xs i d) in
+    second ∙ ap (λ ns. with_value bytes_eq ns x.field) (first ∙ ap (λ ns. with_value bytes_eq ns x.asked) before)
+    ∙ sym (fold-append (with_value bytes_eq) start (flat_map import_names (map f (take i xs))) (import_names x))
+    ∙ ap (fold (with_value bytes_eq) start) (sym (ap (flat_map import_names) (map_more f xs i d in') ∙ flat_map-append import_names (map f (take i xs)) (x ∷ [])))
+
+-- and the name of an export
+pub export_names_step : {X : Type 0} (f : X → Export) (start old new : List (List ℕ)) (xs : List X) (i : ℕ) (d : X) → i < length xs → old ≡ fold (with_value bytes_eq) start (map (λ e. e.name) (map f (take i xs)))
+    → new ≡ with_value bytes_eq old (f (get_or xs i d)).name → new ≡ fold (with_value bytes_eq) start (map (λ e. e.name) (map f (take (i + 1) xs)))
+export_names_step f start old new xs i d in' before taken =
+    let x = f (get_or xs i d) in
+    let names : List Export → List (List ℕ) = map (λ e. e.name) in
+    taken ∙ ap (λ ns. with_value bytes_eq ns x.name) before
+    ∙ sym (fold-append (with_value bytes_eq) start (names (map f (take i xs))) (x.name ∷ []))
+    ∙ ap (fold (with_value bytes_eq) start) (sym (ap names (map_more f xs i d in') ∙ map_push (λ e. e.name) (map f (take i xs)) x))
 
 -- ---- what is read of a list with one more, and of two
 
@@ -53,6 +93,25 @@ slice_get_right (x ∷ xs) ys (suc i) j e = slice_get_right xs ys i j (omega (ar
 pub slice_get_map : {X Y : Type 0} (f : X → Y) (xs : List X) (i : ℕ) (o : Option X) → slice_get xs i ≡ o → slice_get (map f xs) i ≡ option_map f o
 slice_get_map f xs i o is = slice_get-map f xs i ∙ ap (option_map f) is
 
+pub is_some-map : {X Y : Type 0} (f : X → Y) (o : Option X) → is_some (option_map f o) ≡ is_some o
+is_some-map f None = refl
+is_some-map f (Some x) = refl
+
+-- what `get` returns
+pub got : {X : Type 0} (xs : List X) (i : ℕ) (x : X) → i < length xs → x ≡ get_or xs i x → slice_get xs i ≡ Some x
+got xs i x in' is = slice_get_read xs (length xs) i x refl in' is
+
+-- what is read is there
+pub Contains-got : {X : Type 0} (xs : List X) (i : ℕ) (x : X) → slice_get xs i ≡ Some x → Contains xs x
+Contains-got xs i x is = (i, slice_get_within xs i x is, get_or_from_slice_get xs i x x is)
+
+-- what holds of each value of a function holds of what is read
+pub All_at : {X Y : Type 0} (P : Y → Type 0) (f : X → Y) (xs : List X) (i : ℕ) (d : X) → i < length xs → All P (map f xs) → P (f (get_or xs i d))
+All_at P f xs i d in' all = subst P (get_or-map f xs i d (f d) in') (all i (f d) (omega (arith, in', length-map xs f)))
+
+pub All_along : {X Y : Type 0} (P : Y → Type 0) (f : X → Y) (xs ys : List X) → ys ≡ xs → All P (map f xs) → All P (map f ys)
+All_along P f xs ys same all = subst (λ l. All P (map f l)) (sym same) all
+
 -- what holds of each element holds of what is read
 pub All_get : {X : Type 0} (P : X → Type 0) (xs : List X) (i : ℕ) (x : X) → All P xs → slice_get xs i ≡ Some x → P x
 All_get P xs i x all is = subst P (get_or_from_slice_get xs i x x is) (all i x (slice_get_within xs i x is))
@@ -78,15 +137,15 @@ module _ {X : Type 0} (p : X → Bool) where
       let moved : position p (xs ++ y ∷ []) ≡ cond (ltb (cond (eqb k (length xs)) (length xs + cond (p y) 0 1) k) (length xs + 1)) (Some (cond (eqb k (length xs)) (length xs + cond (p y) 0 1) k)) None = λ i. cond (ltb (position_or_len_push p xs y i) (length_push xs y i)) (Some (position_or_len_push p xs y i)) None in
       elim (cases_lt k (length xs)) [
         | inl in' ↦
-          let stays : cond (eqb k (length xs)) (length xs + cond (p y) 0 1) k ≡ k = ap (λ b. cond b (length xs + cond (p y) 0 1) k) (ne_eqb k (length xs) (λ e. omega (arith, e, in'))) in
-          moved ∙ ap (λ m. cond (ltb m (length xs + 1)) (Some m) None) stays
-          ∙ ap (λ b. cond b (Some k) None) (lt-ltb k (length xs + 1) (omega (arith, in')))
-          ∙ sym (ap (λ o. option_or o (cond (p y) (Some (length xs)) None)) (position_in xs in'))
+            let stays : cond (eqb k (length xs)) (length xs + cond (p y) 0 1) k ≡ k = ap (λ b. cond b (length xs + cond (p y) 0 1) k) (ne_eqb k (length xs) (λ e. omega (arith, e, in'))) in
+            moved ∙ ap (λ m. cond (ltb m (length xs + 1)) (Some m) None) stays
+            ∙ ap (λ b. cond b (Some k) None) (lt-ltb k (length xs + 1) (omega (arith, in')))
+            ∙ sym (ap (λ o. option_or o (cond (p y) (Some (length xs)) None)) (position_in xs in'))
         | inr out ↦
-          let all : k ≡ length xs = omega (arith, out, prefix_len-le-length (λ x. not (p x)) xs) in
-          let ends : cond (eqb k (length xs)) (length xs + cond (p y) 0 1) k ≡ length xs + cond (p y) 0 1 = ap (λ b. cond b (length xs + cond (p y) 0 1) k) (eq-eqb k (length xs) all) in
-          moved ∙ ap (λ m. cond (ltb m (length xs + 1)) (Some m) None) ends ∙ last_position (length xs) (p y)
-          ∙ sym (ap (λ o. option_or o (cond (p y) (Some (length xs)) None)) (position_out xs out))
+            let all : k ≡ length xs = omega (arith, out, prefix_len-le-length (λ x. not (p x)) xs) in
+            let ends : cond (eqb k (length xs)) (length xs + cond (p y) 0 1) k ≡ length xs + cond (p y) 0 1 = ap (λ b. cond b (length xs + cond (p y) 0 1) k) (eq-eqb k (length xs) all) in
+            moved ∙ ap (λ m. cond (ltb m (length xs + 1)) (Some m) None) ends ∙ last_position (length xs) (p y)
+            ∙ sym (ap (λ o. option_or o (cond (p y) (Some (length xs)) None)) (position_out xs out))
       ]
 
   -- what is found is what is read at its position
@@ -113,7 +172,7 @@ module _ {X : Type 0} (p : X → Bool) where
 -- ---- without repetitions
 
 or_some : {X : Type 0} (o z : Option X) → is_some o ≡ true → is_some (option_or o z) ≡ true
-or_some None z is = is
+or_some None z is = absurd (true≢false (sym is))
 or_some (Some x) z is = refl
 
 or_last : {X : Type 0} (o : Option X) (x : X) → is_some (option_or o (Some x)) ≡ true

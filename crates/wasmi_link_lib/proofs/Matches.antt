@@ -84,7 +84,7 @@ global-Decides asked given =
     (Decides-and _ _ (val_type_eq-Decides asked.value given.value) (bool_eq-Decides asked.mutable given.mutable))
 
 never : Decides false ⊥
-never = (λ e. true≢false (sym e), λ h. h)
+never = (λ e. true≢false (sym e), λ h. absurd h)
 
 pub matches-Decides : (asked given : ItemType) → Decides (matches asked given) (Matches asked given)
 matches-Decides (Func asked) (Func given) = func_type_eq-Decides asked given

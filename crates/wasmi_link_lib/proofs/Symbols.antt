@@ -1,13 +1,40 @@
 -- To compare symbols is to compare texts, and what a table by symbols has after a name was noted.
-use Rattle.std.proofs.Common.{◌≡◌, ◌≢◌, ℕ, ◌<◌, Bool, true, false, cond, ◌&&◌, ◌==◌, List, [], get_or, Option, Some, None, IsSome, is_some, bytes_eq, Decides, refl, sym, ap, ◌∙◌, eqb-true, eq-eqb, true≢false, arith}
+use Rattle.std.proofs.Common.{◌≡◌, ◌≢◌, ℕ, ◌<◌, Bool, true, false, cond, ◌&&◌, ◌==◌, List, [], get_or, Option, Some, None, IsSome, is_some, bytes_eq, Decides, refl, sym, ap, ◌∙◌, eqb-true, eq-eqb, ne_eqb, inl, inr, true≢false, arith}
 use Rattle.std.specs.Bool.{one_answer}
 use Rattle.std.specs.Option.{option_or}
-use Rattle.std.proofs.lemmas.Bool.{cases_Bool}
+use Rattle.std.proofs.lemmas.Bool.{cases_eq}
 use Rattle.std.proofs.lemmas.List.Quantifiers.{position-Some}
 use Rattle.std.proofs.lemmas.Option.{none-some, same_Some}
 use Rattle.std.proofs.lemmas.Slice.Eq.{bytes_eq-Decides}
 use Rattle.wasmi_interner.specs.Interner.{symbol_of}
-use Rattle.wasmi_link_lib.specs.Tables.{Notes}
+use Rattle.wasmi_dense.specs.Components.{component_at, ChangesAt}
+use Rattle.wasmi_map_specs.specs.Maps.{value_at}
+use Rattle.wasmi_link_lib.specs.declared.exports.Place.{Place}
+use Rattle.wasmi_link_lib.specs.Tables.{Notes, export_key_eq, place_in}
+
+pub nothing : {V : Type 0} (o : Option V) (b : Bool) → b ≡ is_some o → b ≡ false → o ≡ None
+nothing None b is_b is_false = refl
+nothing (Some v) b is_b is_false = absurd (true≢false (sym is_b ∙ is_false))
+
+pub something : {V : Type 0} (o : Option V) (b : Bool) → b ≡ is_some o → b ≡ true → IsSome o
+something o b is_b is_true = sym is_b ∙ is_true
+
+-- a component changes at one number
+pub component_changes : {V : Type 0} (old new : List (Option V)) (n : ℕ) (slot : Option V) → ChangesAt old n slot new → (q : ℕ) → component_at new q ≡ cond (n == q) slot (component_at old q)
+component_changes old new n slot changes q =
+    elim (cases_eq n q) [
+      | inl same ↦ ap (component_at new) (sym same) ∙ changes.there ∙ sym (ap (λ b. cond b slot (component_at old q)) (eq-eqb n q same))
+      | inr apart ↦ changes.elsewhere q (λ e. apart (sym e)) ∙ sym (ap (λ b. cond b slot (component_at old q)) (ne_eqb n q apart))
+    ]
+
+-- and an entry at one key
+module _ (old new : List ((ℕ × ℕ) × Place)) (id noted : ℕ) (slot : Option Place) (changes : (q : ℕ × ℕ) → value_at export_key_eq new q ≡ cond (export_key_eq (id, noted) q) slot (value_at export_key_eq old q)) where
+  pub place_changes : (q : ℕ) → place_in new id q ≡ cond (noted == q) slot (place_in old id q)
+  place_changes q = changes (id, q) ∙ ap (λ b. cond (b && (noted == q)) slot (place_in old id q)) (eq-eqb id id refl)
+
+  pub place_stays : (other symbol : ℕ) → other ≢ id → place_in new other symbol ≡ place_in old other symbol
+  place_stays other symbol apart =
+      changes (other, symbol) ∙ ap (λ b. cond (b && (noted == symbol)) slot (place_in old other symbol)) (ne_eqb id other (λ e. apart (sym e)))
 
 -- a symbol reads its text
 symbol_reads : (names : List (List ℕ)) (text : List ℕ) (symbol : ℕ) → symbol_of names text ≡ Some symbol → text ≡ get_or names symbol []
@@ -16,9 +43,10 @@ symbol_reads names text symbol is = (bytes_eq-Decides text _).0 (position-Some (
 module _ (names : List (List ℕ)) (name : List ℕ) (noted : ℕ) (is_noted : symbol_of names name ≡ Some noted) where
   pub same_symbol : (text : List ℕ) (symbol : ℕ) → symbol_of names text ≡ Some symbol → bytes_eq text name ≡ (noted == symbol)
   same_symbol text symbol is =
-      one_answer (bytes_eq text name) (noted == symbol) (bytes_eq-Decides text name)
-      (λ e. symbol_reads names text symbol is ∙ sym (ap (λ k. get_or names k []) (eqb-true noted symbol e)) ∙ sym (symbol_reads names name noted is_noted),
-       λ e. eq-eqb noted symbol (same_Some noted symbol (sym is_noted ∙ sym (ap (symbol_of names) e) ∙ is)))
+      one_answer (bytes_eq text name) (noted == symbol) (bytes_eq-Decides text name) (
+        λ e. symbol_reads names text symbol is ∙ sym (ap (λ k. get_or names k []) (eqb-true noted symbol e)) ∙ sym (symbol_reads names name noted is_noted),
+        λ e. eq-eqb noted symbol (same_Some noted symbol (sym is_noted ∙ sym (ap (symbol_of names) e) ∙ is)),
+      )
 
   module _ {V : Type 0} (old new : ℕ → Option V) (value : V) where
     -- a name that has nothing yet

@@ -150,4 +150,4 @@ pub record IsLinker (modules : List Named) (names : List (List ℕ)) (types : Li
 
 abbrev pub IsLinkerOf : {A : Type 0} → List Named → rust_linker.Linker A → Type 0
 IsLinkerOf modules l =
-    IsLinker modules l.names (map signature_of l.types.handed) l.firsts l.exports.entries (map imported_view l.imported)
+    IsLinker modules l.names (map signature_of l.types.handed) l.firsts l.exports.entries (map imported_view l.imported.items)

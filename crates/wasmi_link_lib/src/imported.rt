@@ -11,8 +11,9 @@ use crate::item::{Item, asked, own};
 use crate::named::NamedModule;
 use crate::types::Signature;
 use std::alloc::{AllocError, Allocator};
-use wasmi_arena::{ArenaError, StableArena};
+use wasmi_arena::ArenaError;
 use wasmi_collections::DedupArena;
+use wasmi_dense::Arena;
 use wasmi_module::{ImportType, Kind, Module};
 
 /// What a module imports of each kind, in order.
@@ -73,13 +74,13 @@ fn of_kind<A: Allocator>(
 pub(crate) fn of_all<A: Allocator + Copy>(
     alloc: A,
     modules: &[NamedModule<'_, A>],
-) -> Result<StableArena<ModuleId, Imported<A>, A>, ArenaError>
-    ensures ok { IfOk result (λ imported. map imported_view imported
+) -> Result<Arena<ModuleId, Imported<A>, A>, ArenaError>
+    ensures ok { IfOk result (λ imported. map imported_view imported.items
         ≡ map (λ m. all_imported m.body) (map named_of modules.now)) }
     ensures errors { IfErr result (λ error. (error ≡ ArenaError.NotEnoughKeys)
         ⊎ (error ≡ ArenaError.OutOfSystemMemory)) }
 {
-    let mut all = StableArena::new(alloc);
+    let mut all = Arena::new(alloc);
     for named in modules {
         let imported = Imported::of(alloc, &named.module)?;
         all.alloc(imported)?;

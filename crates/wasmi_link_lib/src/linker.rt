@@ -17,9 +17,9 @@ use crate::named::NamedModule;
 use crate::names;
 use crate::types::{self, Signature};
 use std::alloc::Allocator;
-use wasmi_arena::{ArenaError, ArenaKey, StableArena};
+use wasmi_arena::{ArenaError, ArenaKey};
 use wasmi_collections::DedupArena;
-use wasmi_dense::ComponentVec;
+use wasmi_dense::{Arena, ComponentVec};
 use wasmi_hashed::Map;
 use wasmi_hashed::hash::FixedState;
 use wasmi_interner::{StringInterner, Sym};
@@ -33,7 +33,7 @@ pub(crate) struct Linker<'a, A: Allocator> {
     pub(crate) types: DedupArena<TypeId, Signature<'a>, A>,
     firsts: ComponentVec<Sym, ModuleId, A>,
     exports: Map<(ModuleId, Sym), Place, FixedState, A>,
-    imported: StableArena<ModuleId, Imported<A>, A>,
+    imported: Arena<ModuleId, Imported<A>, A>,
 }
 
 impl<'a, A: Allocator + Copy> Linker<'a, A> {
@@ -87,10 +87,12 @@ impl<'a, A: Allocator + Copy> Linker<'a, A> {
             unreachable!()
         };
         match self.exports.get(&(id, symbol)) {
-            Some(place) => {
-                let imported = &self.imported[id];
-                imported::item(imported, &self.types, body, place.kind, place.index)
-            }
+            Some(place) => match self.imported.get(id) {
+                Ok(imported) => {
+                    imported::item(imported, &self.types, body, place.kind, place.index)
+                }
+                Err(_) => unreachable!(),
+            },
             None => None,
         }
     }
