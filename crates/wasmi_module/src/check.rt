@@ -20,8 +20,8 @@ pub(crate) fn is_import_within(item: &ImportType, counts: &Counts) -> bool
 }
 
 impl ImportType {
-    // Whether it is of this kind.
-    fn is_of(&self, kind: Kind) -> bool
+    /// Whether it is of this kind. Constant time.
+    pub fn is_of(&self, kind: Kind) -> bool
         ensures { result ≡ is_of kind self.now }
     {
         match kind {

@@ -2,7 +2,7 @@
 use std::alloc::Allocator;
 
 /// The type of a value.
-#[derive(Clone, Copy, Debug, PartialEq, Eq)]
+#[derive(Clone, Copy, Debug, PartialEq, Eq, Hash)]
 pub enum ValType {
     /// Integers of 32 bits.
     I32,

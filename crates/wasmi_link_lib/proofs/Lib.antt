@@ -1,0 +1,10 @@
+pub mod Lists
+pub mod Matches
+pub mod Symbols
+pub mod Keys
+pub mod Noted
+pub mod Asked
+pub mod Signatures
+pub mod FileLemmas
+pub mod PathLemmas
+pub mod ReportLemmas

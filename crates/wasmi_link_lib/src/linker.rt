@@ -1,0 +1,195 @@
+//! The tables by which imports are resolved.
+ghost use Rattle.std.specs.Prelude.{◌≡◌, ◌⊎◌, ◌++◌, map, option_map, slice_get, IfOk, OnOk, IfErr, IsSome, Some};
+ghost use Rattle.wasmi_interner.specs.Interner.{symbol_of};
+ghost use Rattle.wasmi_module.specs.Valid.{IsImportWithin, IsValid, counts_of};
+ghost use Rattle.wasmi_module.specs.Views.{import_of, module_of};
+ghost use Rattle.wasmi_link_lib.specs.Lines.{answer_of, line_of};
+ghost use Rattle.wasmi_link_lib.specs.Linking.{AreValid, all_lines, answer_by, exported, line_for, module_named, named_of};
+ghost use Rattle.wasmi_link_lib.specs.Tables.{HasImportNames, HasKeys, IsLinkerOf, first_of, keyed, keyed_of, signature_of};
+
+use crate::exports::{Place, all_exports};
+use crate::firsts::first_modules;
+use crate::ids::{ModuleId, TypeId};
+use crate::imported::{self, Imported};
+use crate::item::{Item, asked};
+use crate::line::{Answer, Line};
+use crate::named::NamedModule;
+use crate::names;
+use crate::types::{self, Signature};
+use std::alloc::Allocator;
+use wasmi_arena::{ArenaError, ArenaKey};
+use wasmi_collections::DedupArena;
+use wasmi_dense::{Arena, ComponentVec};
+use wasmi_hashed::Map;
+use wasmi_hashed::hash::FixedState;
+use wasmi_interner::{StringInterner, Sym};
+use wasmi_module::{Import, Module};
+
+/// All names and types of functions of some modules; the first module of each name; and for each module where
+/// its exports are, and what it imports of each kind.
+#[derive(Drop)]
+pub(crate) struct Linker<'a, A: Allocator> {
+    pub(crate) names: StringInterner<A>,
+    pub(crate) types: DedupArena<TypeId, Signature<'a>, A>,
+    firsts: ComponentVec<Sym, ModuleId, A>,
+    exports: Map<(ModuleId, Sym), Place, FixedState, A>,
+    imported: Arena<ModuleId, Imported<A>, A>,
+}
+
+impl<'a, A: Allocator + Copy> Linker<'a, A> {
+    /// The tables of these modules.
+    pub(crate) fn new(alloc: A, modules: &'a [NamedModule<'a, A>]) -> Result<Self, ArenaError>
+        ensures ok { IfOk result (λ linker. IsLinkerOf (map named_of modules.now) linker) }
+    {
+        let names = names::intern_all(alloc, modules)?;
+        let types = types::take_all(alloc, modules)?;
+        let firsts = first_modules(alloc, &names, modules)?;
+        let exports = all_exports(alloc, &names, modules)?;
+        let imported = imported::of_all(alloc, modules)?;
+        Ok(Linker {
+            names,
+            types,
+            firsts,
+            exports,
+            imported,
+        })
+    }
+
+    // The first module of a name.
+    fn first(&self, modules: &[NamedModule<'_, A>], name: &str) -> Option<ModuleId>
+        requires linker { IsLinkerOf (map named_of modules.now) self.now }
+        requires known { IsSome (symbol_of self.now.names name.now) }
+        ensures { result ≡ first_of (map named_of modules.now) name.now }
+    {
+        match self.names.get(name) {
+            Some(symbol) => self.firsts.get(symbol).copied(),
+            None => unreachable!(),
+        }
+    }
+
+    // What a module exports under a name.
+    fn exported(
+        &self,
+        modules: &'a [NamedModule<'a, A>],
+        id: ModuleId,
+        body: &'a Module<'a, A>,
+        name: &str,
+    ) -> Option<Item<'a, A>>
+        requires linker { IsLinkerOf (map named_of modules.now) self.now }
+        requires known { IsSome (symbol_of self.now.names name.now) }
+        requires there { option_map (λ m. m.body) (slice_get (map named_of modules.now) id) ≡ Some (module_of body.now) }
+        requires valid { IsValid (module_of body.now) }
+        requires keys { HasKeys (map signature_of self.now.types.handed) (module_of body.now) }
+        ensures { option_map keyed_of result
+            ≡ option_map (keyed (map signature_of self.now.types.handed)) (exported (module_of body.now) name.now) }
+    {
+        let Some(symbol) = self.names.get(name) else {
+            unreachable!()
+        };
+        match self.exports.get(&(id, symbol)) {
+            Some(place) => match self.imported.get(id) {
+                Ok(imported) => {
+                    imported::item(imported, &self.types, body, place.kind, place.index)
+                }
+                Err(_) => unreachable!(),
+            },
+            None => None,
+        }
+    }
+
+    // What becomes of an import.
+    fn answer(
+        &self,
+        modules: &'a [NamedModule<'a, A>],
+        asked: &Item<'a, A>,
+        import: &Import<'_>,
+    ) -> Answer<'a, A>
+        requires linker { IsLinkerOf (map named_of modules.now) self.now }
+        requires valid { AreValid (map named_of modules.now) }
+        requires module_known { IsSome (symbol_of self.now.names (import_of import.now).asked) }
+        requires field_known { IsSome (symbol_of self.now.names (import_of import.now).field) }
+        requires keyed { keyed_of asked.now ≡ keyed (map signature_of self.now.types.handed) (keyed_of asked.now).type }
+        ensures { answer_of result ≡ answer_by (keyed_of asked.now).type (import_of import.now).field
+            (module_named (map named_of modules.now) (import_of import.now).asked) }
+    {
+        let Some(id) = self.first(modules, import.module) else {
+            return Answer::Missing;
+        };
+        let named = &modules[id.into_usize()];
+        match self.exported(modules, id, &named.module, import.field) {
+            Some(given) => {
+                if asked.admits(&given) {
+                    Answer::Found(named.name)
+                } else {
+                    Answer::Differs(named.name, given.ty())
+                }
+            }
+            None => Answer::Missing,
+        }
+    }
+
+    // An import with its answer.
+    fn line(
+        &self,
+        modules: &'a [NamedModule<'a, A>],
+        asker: &'a NamedModule<'a, A>,
+        import: &'a Import<'a>,
+    ) -> Line<'a, A>
+        requires linker { IsLinkerOf (map named_of modules.now) self.now }
+        requires valid { AreValid (map named_of modules.now) }
+        requires within { IsImportWithin (counts_of (named_of asker.now).body) (import_of import.now).item }
+        requires keys { HasKeys (map signature_of self.now.types.handed) (named_of asker.now).body }
+        requires module_known { IsSome (symbol_of self.now.names (import_of import.now).asked) }
+        requires field_known { IsSome (symbol_of self.now.names (import_of import.now).field) }
+        ensures { line_of result ≡ line_for (map named_of modules.now) (named_of asker.now) (import_of import.now) }
+    {
+        let item = asked(&self.types, &asker.module, &import.item);
+        let answer = self.answer(modules, &item, import);
+        Line {
+            asker: asker.name,
+            asked: import.module,
+            field: import.field,
+            item: item.ty(),
+            answer,
+        }
+    }
+
+    // The imports of a module with their answers, behind others.
+    fn push_lines(
+        &self,
+        modules: &'a [NamedModule<'a, A>],
+        asker: &'a NamedModule<'a, A>,
+        lines: &mut Vec<Line<'a, A>, A>,
+    ) -> Result<(), ArenaError>
+        requires linker { IsLinkerOf (map named_of modules.now) self.now }
+        requires valid { AreValid (map named_of modules.now) }
+        requires asker_valid { IsValid (named_of asker.now).body }
+        requires keys { HasKeys (map signature_of self.now.types.handed) (named_of asker.now).body }
+        requires known { HasImportNames self.now.names (named_of asker.now).body }
+        ensures ok { OnOk result (map line_of lines.new.items ≡ map line_of lines.old.items
+            ++ map (line_for (map named_of modules.now) (named_of asker.now)) (named_of asker.now).body.imports) }
+    {
+        for import in &asker.module.imports {
+            let line = self.line(modules, asker, import);
+            lines.push(line)?;
+        }
+        Ok(())
+    }
+
+    /// All imports of all modules with their answers.
+    pub(crate) fn lines(
+        &self,
+        alloc: A,
+        modules: &'a [NamedModule<'a, A>],
+    ) -> Result<Vec<Line<'a, A>, A>, ArenaError>
+        requires linker { IsLinkerOf (map named_of modules.now) self.now }
+        requires valid { AreValid (map named_of modules.now) }
+        ensures ok { IfOk result (λ lines. map line_of lines.items ≡ all_lines (map named_of modules.now)) }
+    {
+        let mut lines = Vec::new(alloc);
+        for asker in modules {
+            self.push_lines(modules, asker, &mut lines)?;
+        }
+        Ok(lines)
+    }
+}

@@ -1,0 +1,36 @@
+//! Which module gives what another one asks for.
+ghost use Rattle.std.specs.Prelude.{◌≡◌, ◌⊎◌, map, IfOk, IfErr};
+ghost use Rattle.wasmi_link_lib.specs.Lines.{linked_of};
+ghost use Rattle.wasmi_link_lib.specs.Linking.{AreValid, linked, named_of};
+
+use crate::line::Linked;
+use crate::linker::Linker;
+use crate::named::NamedModule;
+use crate::types;
+use std::alloc::Allocator;
+use wasmi_arena::ArenaError;
+
+/// All imports of the modules, each with what becomes of it. Expected linear time: names and types are found by
+/// their hashes.
+///
+/// The modules are valid, as those that `decode` returns. Fails with `OutOfSystemMemory` if there is no memory for
+/// the tables or the lines, and with `NotEnoughKeys` if there are more than 4,294,967,264 modules, or more than 2^32
+/// names or types of functions.
+pub fn resolve<'a, A: Allocator + Copy>(
+    alloc: A,
+    modules: &'a [NamedModule<'a, A>],
+) -> Result<Linked<'a, A>, ArenaError>
+    requires { AreValid (map named_of modules.now) }
+    ensures ok { IfOk result (λ found. linked_of found ≡ linked (map named_of modules.now)) }
+{
+    let linker = Linker::new(alloc, modules)?;
+    let lines = linker.lines(alloc, modules)?;
+    let types = types::count(modules)?;
+    Ok(Linked {
+        lines,
+        modules: modules.len(),
+        types,
+        distinct_types: linker.types.len(),
+        names: linker.names.len(),
+    })
+}
