@@ -1,5 +1,5 @@
 //! Where the export of each name is.
-ghost use Rattle.std.specs.Prelude.{◌≡◌, ◌≢◌, ℕ, ◌⊎◌, List, find, map, Some, None, option_map, IfOk, OnOk, IfErr};
+ghost use Rattle.std.specs.Prelude.{◌≡◌, ◌≢◌, ℕ, ◌⊎◌, List, find, map, Some, None, option_map, IfOk, OnOk, IfErr, IsOkUnless};
 ghost use Rattle.std.specs.Str.{bytes_eq};
 ghost use Rattle.wasmi_interner.specs.Interner.{symbol_of};
 ghost use Rattle.wasmi_module.specs.Views.{export_of};
@@ -29,6 +29,8 @@ pub(crate) fn all_exports<A: Allocator + Copy>(
     modules: &[NamedModule<'_, A>],
 ) -> Result<Map<(ModuleId, Sym), Place, FixedState, A>, ArenaError>
     ensures ok { IfOk result (λ exports. HasExports names.now exports.entries (map named_of modules.now)) }
+    ensures errors { IfErr result (λ error. (error ≡ ArenaError.NotEnoughKeys)
+        ⊎ (error ≡ ArenaError.OutOfSystemMemory)) }
 {
     let mut exports = Map::new(alloc);
     for (number, named) in modules.iter().enumerate() {
@@ -52,6 +54,7 @@ fn note_exports<A: Allocator + Copy>(
         ≡ option_map place_of (find (λ e. bytes_eq text e.name) (map export_of taken.now))) }
     ensures others { OnOk result ((other symbol : ℕ) → other ≢ id
         → place_in exports.new.entries other symbol ≡ place_in exports.old.entries other symbol) }
+    ensures errors { IsOkUnless result ArenaError.OutOfSystemMemory }
 {
     for export in taken {
         note_export(exports, names, id, export)?;
@@ -70,6 +73,7 @@ fn note_export<A: Allocator + Copy>(
         (place_of (export_of export.now)) (place_in exports.new.entries id)) }
     ensures others { OnOk result ((other symbol : ℕ) → other ≢ id
         → place_in exports.new.entries other symbol ≡ place_in exports.old.entries other symbol) }
+    ensures errors { IsOkUnless result ArenaError.OutOfSystemMemory }
 {
     if let Some(symbol) = names.get(export.name) {
         let key = (id, symbol);

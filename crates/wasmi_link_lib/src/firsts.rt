@@ -18,6 +18,8 @@ pub(crate) fn first_modules<A: Allocator>(
     modules: &[NamedModule<'_, A>],
 ) -> Result<ComponentVec<Sym, ModuleId, A>, ArenaError>
     ensures ok { IfOk result (λ firsts. HasFirsts names.now firsts (map named_of modules.now)) }
+    ensures errors { IfErr result (λ error. (error ≡ ArenaError.NotEnoughKeys)
+        ⊎ (error ≡ ArenaError.OutOfSystemMemory)) }
 {
     let mut firsts = ComponentVec::new(alloc);
     for (number, named) in modules.iter().enumerate() {
@@ -35,6 +37,8 @@ fn note_first<A: Allocator>(
     id: ModuleId,
 ) -> Result<(), ArenaError>
     ensures ok { OnOk result (Notes names.now (component_at firsts.old) name.now id (component_at firsts.new)) }
+    ensures errors { IfErr result (λ error. (error ≡ ArenaError.NotEnoughKeys)
+        ⊎ (error ≡ ArenaError.OutOfSystemMemory)) }
 {
     if let Some(symbol) = names.get(name) {
         if !firsts.has(symbol) {

@@ -1,5 +1,5 @@
 //! The tables by which imports are resolved.
-ghost use Rattle.std.specs.Prelude.{◌≡◌, ◌⊎◌, ◌++◌, map, option_map, slice_get, IfOk, OnOk, IfErr, IsSome, Some};
+ghost use Rattle.std.specs.Prelude.{◌≡◌, ◌⊎◌, ◌++◌, map, option_map, slice_get, IfOk, OnOk, IfErr, IsOkUnless, IsSome, Some};
 ghost use Rattle.wasmi_interner.specs.Interner.{symbol_of};
 ghost use Rattle.wasmi_module.specs.Valid.{IsImportWithin, IsValid, counts_of};
 ghost use Rattle.wasmi_module.specs.Views.{import_of, module_of};
@@ -40,6 +40,8 @@ impl<'a, A: Allocator + Copy> Linker<'a, A> {
     /// The tables of these modules.
     pub(crate) fn new(alloc: A, modules: &'a [NamedModule<'a, A>]) -> Result<Self, ArenaError>
         ensures ok { IfOk result (λ linker. IsLinkerOf (map named_of modules.now) linker) }
+        ensures errors { IfErr result (λ error. (error ≡ ArenaError.NotEnoughKeys)
+            ⊎ (error ≡ ArenaError.OutOfSystemMemory)) }
     {
         let names = names::intern_all(alloc, modules)?;
         let types = types::take_all(alloc, modules)?;
@@ -168,6 +170,7 @@ impl<'a, A: Allocator + Copy> Linker<'a, A> {
         requires known { HasImportNames self.now.names (named_of asker.now).body }
         ensures ok { OnOk result (map line_of lines.new.items ≡ map line_of lines.old.items
             ++ map (line_for (map named_of modules.now) (named_of asker.now)) (named_of asker.now).body.imports) }
+        ensures errors { IsOkUnless result ArenaError.OutOfSystemMemory }
     {
         for import in &asker.module.imports {
             let line = self.line(modules, asker, import);
@@ -185,6 +188,7 @@ impl<'a, A: Allocator + Copy> Linker<'a, A> {
         requires linker { IsLinkerOf (map named_of modules.now) self.now }
         requires valid { AreValid (map named_of modules.now) }
         ensures ok { IfOk result (λ lines. map line_of lines.items ≡ all_lines (map named_of modules.now)) }
+        ensures errors { IsOkUnless result ArenaError.OutOfSystemMemory }
     {
         let mut lines = Vec::new(alloc);
         for asker in modules {

@@ -22,6 +22,8 @@ pub fn resolve<'a, A: Allocator + Copy>(
 ) -> Result<Linked<'a, A>, ArenaError>
     requires { AreValid (map named_of modules.now) }
     ensures ok { IfOk result (λ found. linked_of found ≡ linked (map named_of modules.now)) }
+    ensures errors { IfErr result (λ error. (error ≡ ArenaError.NotEnoughKeys)
+        ⊎ (error ≡ ArenaError.OutOfSystemMemory)) }
 {
     let linker = Linker::new(alloc, modules)?;
     let lines = linker.lines(alloc, modules)?;

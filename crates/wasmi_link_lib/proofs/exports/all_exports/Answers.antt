@@ -17,5 +17,5 @@ loop-number-preserved g c =
     (some_iff _ c.from_usize.result c.loop-number.number c.in_ok-id.id c.from_usize.ensures c.in_ok-id.ensures.ok_part) c.loop-number.invariant
     (λ text symbol is. c.in_ok-note_exports.ensures.own text symbol is ∙ ap (λ es. option_map place_of (find (λ e. bytes_eq text e.name) (map export_of es))) c.as_slice.ensures.value) c.in_ok-note_exports.ensures.others
 
-pub returns : goal.returns
-returns g c = record { ok = exports_all named_of c.args.names.now c.loop-number.exports.entries c.args.modules.now c.loop-number.number c.loop-number-test.false c.loop-number.invariant }
+pub returns-clause-ok : goal.returns-clause-ok
+returns-clause-ok g c = exports_all named_of c.args.names.now c.loop-number.exports.entries c.args.modules.now c.loop-number.number c.loop-number-test.false c.loop-number.invariant

@@ -31,7 +31,7 @@ loop-asker-preserved g c =
     pieces_step (λ asker. map (line_for modules asker) asker.body.imports) named_of (map line_of c.loop-asker.lines.items) (map line_of c.push_lines.new.lines.items) c.args.modules.now c.loop-asker.asker-index c.asker-item.result
     c.loop-asker-test.true c.asker-item.is c.loop-asker.invariant c.in_ok-push_lines.ensures.ok
 
-pub returns : goal.returns
-returns g c =
+pub returns-clause-ok : goal.returns-clause-ok
+returns-clause-ok g c =
     let modules = map named_of c.args.modules.now in
-    record { ok = c.loop-asker.invariant ∙ ap (λ ms. flat_map (λ asker. map (line_for modules asker) asker.body.imports) (map named_of ms)) (take_all c.loop-asker.asker-index c.args.modules.now c.loop-asker-test.false) }
+    c.loop-asker.invariant ∙ ap (λ ms. flat_map (λ asker. map (line_for modules asker) asker.body.imports) (map named_of ms)) (take_all c.loop-asker.asker-index c.args.modules.now c.loop-asker-test.false)
