@@ -1,4 +1,5 @@
-"""A plain decoder of modules, to judge the proved one by: `lines` says of a module what `wasmi_module_dump` writes."""
+"""A plain decoder of modules, to judge the proved one by: `module` says what a module has, and `lines` what
+`wasmi_module_dump` writes of it. Both raise `Bad` of bytes that are no module."""
 
 VAL = {0x7F: "I32", 0x7E: "I64", 0x7D: "F32", 0x7C: "F64", 0x7B: "V128", 0x70: "FuncRef", 0x6F: "ExternRef"}
 KINDS = ["Func", "Table", "Memory", "Global"]
@@ -67,25 +68,11 @@ class Bytes:
     def table(self):
         return self.one_of({0x70: "FuncRef", 0x6F: "ExternRef"}), self.limits(2**32 - 1)
 
+    def memory(self):
+        return self.limits(65536)
+
     def global_type(self):
         return self.one_of(VAL), self.one_of({0: "false", 1: "true"})
-
-
-def show_limits(limits):
-    low, high = limits
-    return "Limits { min: %d, max: %s }" % (low, "None" if high is None else "Some(%d)" % high)
-
-
-def show_table(table):
-    return "TableType { element: %s, limits: %s }" % (table[0], show_limits(table[1]))
-
-
-def show_memory(limits):
-    return "MemoryType { limits: %s }" % show_limits(limits)
-
-
-def show_global(ty):
-    return "GlobalType { value: %s, mutable: %s }" % ty
 
 
 def sections(data):
@@ -103,10 +90,12 @@ def sections(data):
     return found
 
 
-def lines(data):
-    """The lines of a module, or `Bad`."""
-    out = []
-    found = sections(data)
+def module(data):
+    """What a module has, by name: `types`, each with its parameters and results; `imports`, each a module's name, a field,
+    a kind, and the index of a type or the type itself; `Func`, the indices of the types of its own functions; `Table`,
+    `Memory` and `Global`, the types of its own; `inits`, the first values of globals; `exports`, each a name, a kind and
+    an index."""
+    found, counts = sections(data), dict.fromkeys(KINDS, 0)
 
     def section(number, item):
         if number not in found:
@@ -120,92 +109,92 @@ def lines(data):
         need(r.byte() == 0x60)
         return r.vector(lambda: r.one_of(VAL)), r.vector(lambda: r.one_of(VAL))
 
-    types = section(1, func_type)
-    for params, results in types:
-        out.append("type [%s] [%s]" % (", ".join(params), ", ".join(results)))
-
-    counts = dict.fromkeys(KINDS, 0)
-
-    def import_(r):
-        names = r.name(), r.name()
-        kind = r.byte()
-        need(kind < 4)
-        counts[KINDS[kind]] += 1
-        if kind == 0:
-            index = r.leb(32)
-            need(index < len(types))
-            shown = str(index)
-        elif kind == 1:
-            shown = show_table(r.table())
-        elif kind == 2:
-            shown = show_memory(r.limits(65536))
-        else:
-            shown = show_global(r.global_type())
-        out.append("import %s %s %s(%s)" % (*names, KINDS[kind], shown))
-
-    section(2, import_)
-
-    def func(r):
+    def type_index(r):
         index = r.leb(32)
         need(index < len(types))
-        return "func %d" % index
+        return index
 
-    for kind, number, item in [
-        ("Func", 3, func),
-        ("Table", 4, lambda r: "table " + show_table(r.table())),
-        ("Memory", 5, lambda r: "memory " + show_memory(r.limits(65536))),
-    ]:
-        shown = section(number, item)
-        counts[kind] += len(shown)
-        out.extend(shown)
+    def kind(r):
+        code = r.byte()
+        need(code < 4)
+        return KINDS[code]
 
-    refers = []
-
-    def bytes_(name, data):
-        return "%s([%s])" % (name, ", ".join(map(str, data)))
+    def import_(r):
+        asked, field, what = r.name(), r.name(), kind(r)
+        counts[what] += 1
+        read = {"Func": type_index, "Table": Bytes.table, "Memory": Bytes.memory, "Global": Bytes.global_type}
+        return asked, field, what, read[what](r)
 
     def global_(r):
-        ty = show_global(r.global_type())
+        return r.global_type(), init(r)
+
+    def init(r):
         code = r.byte()
         if code == 0x41:
-            init = "I32(%d)" % r.leb(32, True)
+            value = "I32", r.leb(32, True)
         elif code == 0x42:
-            init = "I64(%d)" % r.leb(64, True)
+            value = "I64", r.leb(64, True)
         elif code == 0x43:
-            init = bytes_("F32", r.take(4))
+            value = "F32", list(r.take(4))
         elif code == 0x44:
-            init = bytes_("F64", r.take(8))
+            value = "F64", list(r.take(8))
         elif code == 0xFD:
             need(r.leb(32) == 12)
-            init = bytes_("V128", r.take(16))
+            value = "V128", list(r.take(16))
         elif code == 0xD0:
-            init = "RefNull(%s)" % r.one_of({0x70: "FuncRef", 0x6F: "ExternRef"})
+            value = "RefNull", r.one_of(VAL)
+            need(value[1] in ("FuncRef", "ExternRef"))
         elif code in (0xD2, 0x23):
-            kind, name = ("Func", "RefFunc") if code == 0xD2 else ("Global", "GlobalGet")
-            index = r.leb(32)
-            refers.append((kind, index))
-            init = "%s(%d)" % (name, index)
+            value = "RefFunc" if code == 0xD2 else "GlobalGet", r.leb(32)
         else:
             raise Bad()
         need(r.byte() == 0x0B)
-        return "global %s %s" % (ty, init)
-
-    shown = section(6, global_)
-    counts["Global"] += len(shown)
-    out.extend(shown)
-    for kind, index in refers:
-        need(index < counts[kind])
-
-    names = []
+        return value
 
     def export(r):
-        name, kind = r.name(), r.byte()
-        need(kind < 4)
-        index = r.leb(32)
-        need(index < counts[KINDS[kind]])
-        names.append(name)
-        return "export %s %s %d" % (name, KINDS[kind], index)
+        name, what, index = r.name(), kind(r), r.leb(32)
+        need(index < counts[what])
+        return name, what, index
 
-    out.extend(section(7, export))
+    types = section(1, func_type)
+    it = {"types": types, "imports": section(2, import_)}
+    for what, number, item in [("Func", 3, type_index), ("Table", 4, Bytes.table), ("Memory", 5, Bytes.memory), ("Global", 6, global_)]:
+        it[what] = section(number, item)
+        counts[what] += len(it[what])
+    it["inits"] = [value for _, value in it["Global"]]
+    it["Global"] = [type_ for type_, _ in it["Global"]]
+    for name, index in it["inits"]:
+        need(name not in ("RefFunc", "GlobalGet") or index < counts["Func" if name == "RefFunc" else "Global"])
+    it["exports"] = section(7, export)
+    names = [name for name, _, _ in it["exports"]]
     need(len(set(names)) == len(names))
-    return out
+    return it
+
+
+# ---- as wasmi_module_dump writes it ----
+
+
+def show_limits(limits):
+    low, high = limits
+    return "Limits { min: %d, max: %s }" % (low, "None" if high is None else "Some(%d)" % high)
+
+
+def show(kind, type_):
+    if kind == "Func":
+        return str(type_)
+    if kind == "Table":
+        return "TableType { element: %s, limits: %s }" % (type_[0], show_limits(type_[1]))
+    if kind == "Memory":
+        return "MemoryType { limits: %s }" % show_limits(type_)
+    return "GlobalType { value: %s, mutable: %s }" % type_
+
+
+def lines(data):
+    """The lines of a module."""
+    it = module(data)
+    out = ["type [%s] [%s]" % (", ".join(params), ", ".join(results)) for params, results in it["types"]]
+    out += ["import %s %s %s(%s)" % (asked, field, kind, show(kind, type_)) for asked, field, kind, type_ in it["imports"]]
+    for kind in ["Func", "Table", "Memory"]:
+        out += ["%s %s" % (kind.lower(), show(kind, type_)) for type_ in it[kind]]
+    out += ["global %s %s(%s)" % (show("Global", type_), *init) for type_, init in zip(it["Global"], it["inits"])]
+    return out + ["export %s %s %d" % item for item in it["exports"]]

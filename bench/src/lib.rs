@@ -1,6 +1,8 @@
 //! The rows of the bench, on three sides: the port, the Rust crate, and the plain container below it. Some have a fourth.
 
 pub mod chart;
+pub mod linking;
+pub mod module;
 pub mod ours;
 pub mod plain;
 pub mod progress;

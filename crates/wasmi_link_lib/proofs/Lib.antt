@@ -5,3 +5,6 @@ pub mod Keys
 pub mod Noted
 pub mod Asked
 pub mod Signatures
+pub mod FileLemmas
+pub mod PathLemmas
+pub mod ReportLemmas

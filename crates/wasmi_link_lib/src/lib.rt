@@ -2,6 +2,7 @@
 #![tactic(auto)]
 
 mod exports;
+mod files;
 mod firsts;
 mod ids;
 mod imported;
@@ -11,9 +12,14 @@ mod line;
 mod linker;
 mod named;
 mod names;
+mod path;
 mod resolver;
+mod text;
 mod types;
 
+pub use files::{File, LinkError, Outcome, link};
 pub use line::{Answer, ItemType, Line, Linked};
 pub use named::NamedModule;
+pub use path::module_name;
 pub use resolver::resolve;
+pub use text::{exit_status, report};

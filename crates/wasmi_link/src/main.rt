@@ -1,0 +1,110 @@
+//! Reports which of the modules in files gives what another one asks for.
+#![tactic(auto)]
+
+use std::fmt::Display;
+use std::io::{self, Write};
+use std::process::ExitCode;
+use std::rt::{Env, Files};
+use std::{env, fs};
+use thiserror::Error;
+use wasmi_link_lib::{File, LinkError, link};
+use wasmi_module::DecodeError;
+
+// Why there is no report.
+#[derive(Debug, Drop, Error)]
+enum Failure<'a> {
+    #[error("usage: wasmi_link FILE..")]
+    NoFiles,
+    #[error("out of memory")]
+    NoMemory,
+    #[error("{0}: {1}")]
+    Unread(&'a str, io::Error),
+    #[error("{0}: {1}")]
+    NotAModule(&'a str, DecodeError),
+    #[error("{0}")]
+    Unlinked(LinkError),
+    #[error("standard output: {0}")]
+    Unwritten(io::Error),
+}
+
+fn main(rt: HostRuntime) -> ExitCode {
+    match arguments(&rt) {
+        Ok(paths) => match read_all(&rt, &paths) {
+            Ok(contents) => match run(&rt, &paths, &contents) {
+                Ok(status) => ExitCode::from(status),
+                Err(failure) => refuse(&rt, failure),
+            },
+            Err(failure) => refuse(&rt, failure),
+        },
+        Err(error) => refuse(&rt, error),
+    }
+}
+
+// Says why there is no report.
+fn refuse(rt: &impl Eprint, why: impl Display + Drop) -> ExitCode {
+    // Where this can't be written either, the status still tells.
+    let _ = eprintln!(rt; "{why}");
+    ExitCode::from(2)
+}
+
+// The paths that the program is given.
+fn arguments(rt: &(impl Env + AllocGlobal)) -> io::Result<Vec<String>> {
+    let mut paths = Vec::new(rt.alloc());
+    for path in env::args(rt)?.skip(1) {
+        if paths.push(path).is_err() {
+            return Err(io::Error::from(io::ErrorKind::OutOfMemory));
+        }
+    }
+    Ok(paths)
+}
+
+// The bytes of each file.
+fn read_all<'a>(
+    rt: &(impl Files + AllocGlobal),
+    paths: &'a [String],
+) -> Result<Vec<Vec<u8>>, Failure<'a>> {
+    if paths.is_empty() {
+        return Err(Failure::NoFiles);
+    }
+    let mut contents = Vec::new(rt.alloc());
+    for path in paths {
+        match fs::read(rt, path.as_str()) {
+            Ok(bytes) => contents.push(bytes).map_err(|_| Failure::NoMemory)?,
+            Err(error) => return Err(Failure::Unread(path.as_str(), error)),
+        }
+    }
+    Ok(contents)
+}
+
+// Prints the report on files, and returns the status.
+fn run<'a>(
+    rt: &(impl Print + AllocGlobal),
+    paths: &'a [String],
+    contents: &'a [Vec<u8>],
+) -> Result<u8, Failure<'a>> {
+    let mut files = Vec::new(rt.alloc());
+    for (path, bytes) in paths.iter().zip(contents) {
+        let file = File {
+            path: path.as_str(),
+            bytes: bytes.as_slice(),
+        };
+        files.push(file).map_err(|_| Failure::NoMemory)?;
+    }
+    match link(rt.alloc(), &files) {
+        Ok(outcome) => match rt.print(outcome.text.as_str()) {
+            Ok(()) => Ok(outcome.status),
+            Err(error) => Err(Failure::Unwritten(error)),
+        },
+        Err(error) => Err(with_path(paths, error)),
+    }
+}
+
+// Why there is no report, with the path of the file.
+fn with_path(paths: &[String], error: LinkError) -> Failure<'_> {
+    if let LinkError::NotAModule(place, why) = error
+        && let Some(path) = paths.get(place)
+    {
+        return Failure::NotAModule(path.as_str(), why);
+    }
+    Failure::Unlinked(error)
+}

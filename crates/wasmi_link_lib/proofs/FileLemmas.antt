@@ -1,0 +1,27 @@
+-- The modules in files.
+use Rattle.std.proofs.Common.{◌≡◌, ℕ, ◌+◌, ◌<◌, List, [], ◌∷◌, ◌++◌, map, take, get_or, length, zero, suc, sym, ap, ◌∙◌, subst, arith}
+use Rattle.std.specs.List.{AllZip}
+use Rattle.std.proofs.lemmas.List.{take_more, map_push}
+use Rattle.std.proofs.lemmas.Slice.Zip.{all_zipped_more}
+use Rattle.wasmi_link_lib.specs.declared.files.File.{File}
+use Rattle.wasmi_link_lib.specs.declared.named.NamedModule as rust_named
+use Rattle.wasmi_link_lib.specs.Files.{IsIn}
+use Rattle.wasmi_link_lib.specs.Linking.{Named, AreValid, named_of}
+
+-- one more module
+pub one_more_file : {A : Type 0} (files : List File) (place : ℕ) (file : File) (old new : List (rust_named.NamedModule A)) (next : rust_named.NamedModule A) (other : File)
+    → place < length files → file ≡ get_or files place other → AllZip IsIn (take place files) (map named_of old) → IsIn file (named_of next)
+    → new ≡ old ++ next ∷ [] → AllZip IsIn (take (place + 1) files) (map named_of new)
+one_more_file files place file old new next other within is so_far here added =
+    let more = all_zipped_more IsIn (take place files) (map named_of old) file (named_of next) so_far here in
+    let left : AllZip IsIn (take (place + 1) files) (map named_of old ++ named_of next ∷ []) =
+    subst (λ fs. AllZip IsIn fs (map named_of old ++ named_of next ∷ [])) (sym (take_more files place other within ∙ ap (λ f. take place files ++ f ∷ []) (sym is))) more in
+    subst (AllZip IsIn (take (place + 1) files)) (sym (ap (map named_of) added ∙ map_push named_of old next)) left
+
+-- modules that files are writings of are valid
+pub valid_in : (files : List File) (modules : List Named) → AllZip IsIn files modules → AreValid modules
+valid_in [] [] there k d within = absurd (omega arith)
+valid_in [] (m ∷ ms) there k d within = absurd there
+valid_in (f ∷ fs) [] there k d within = absurd there
+valid_in (f ∷ fs) (m ∷ ms) there zero d within = there.0.valid
+valid_in (f ∷ fs) (m ∷ ms) there (suc k) d within = valid_in fs ms there.1 k d (omega arith)

@@ -1,0 +1,9 @@
+use Rattle.std.proofs.Common.{arith, refl}
+use Rattle.wasmi_link_lib.proofs.FileLemmas.{one_more_file, valid_in}
+use Rattle.wasmi_link_lib.proofs.files.decode_all.Goals as goal
+
+pub loop-place-preserved : goal.loop-place-preserved
+loop-place-preserved g c = one_more_file c.args.files.now c.loop-place.place _ _ _ c.in-Ok.named _ (omega arith) refl c.loop-place.invariant c.in-Ok.ensures c.in_ok-push-in-Ok.ensures.items
+
+pub returns-clause-valid : goal.returns-clause-valid
+returns-clause-valid g c = valid_in _ _ c.loop-place.invariant

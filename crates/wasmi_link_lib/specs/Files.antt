@@ -1,0 +1,22 @@
+-- What a report on files says.
+use Rattle.std.specs.Prelude.{◌≡◌, ℕ, List}
+use Rattle.std.specs.List.{AllZip}
+use Rattle.wasmi_module.specs.Sections.{IsWritten}
+use Rattle.wasmi_module.specs.Valid.{IsValid}
+use Rattle.wasmi_link_lib.specs.declared.files.File.{File}
+use Rattle.wasmi_link_lib.specs.Paths.{IsModuleName}
+use Rattle.wasmi_link_lib.specs.Report.{report_text, status_of}
+use Rattle.wasmi_link_lib.specs.Linking.{Named, linked}
+
+-- the bytes of the file are a writing of this module, which has the name that the path tells
+pub record IsIn (file : File) (named : Named) : Type 0 where
+  pub name : IsModuleName file.path.now named.name
+  pub written : IsWritten named.body file.bytes.now
+  pub valid : IsValid named.body
+
+-- the text and the status are those of linking the modules in the files
+pub record Tells (files : List File) (text : List ℕ) (status : ℕ) : Type 0 where
+  pub modules : List Named
+  pub read : AllZip IsIn files modules
+  pub reported : text ≡ report_text (linked modules)
+  pub ended : status ≡ status_of (linked modules)

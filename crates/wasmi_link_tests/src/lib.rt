@@ -1,0 +1,13 @@
+//! Tests of linking modules.
+#![tactic(auto)]
+
+#[cfg(test)]
+mod memory;
+#[cfg(test)]
+mod modules;
+#[cfg(test)]
+mod names;
+#[cfg(test)]
+mod or_abort;
+#[cfg(test)]
+mod reports;
