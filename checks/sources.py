@@ -2,7 +2,7 @@
 import os, re, types
 
 TOP = os.path.dirname(os.path.dirname(os.path.abspath(__file__)))
-LIBRARIES = ['wasmi_' + name for name in 'arena dense map_specs ordered hashed interner collections script_lib module'.split()]
+LIBRARIES = ['wasmi_' + name for name in 'arena dense map_specs ordered hashed interner collections script_lib module link_lib'.split()]
 WORD = re.compile(r'[^\W\d][\w-]*')
 ANGLES = re.compile(r'<(?:[^<>]|<(?:[^<>]|<[^<>]*>)*>)*>')
 

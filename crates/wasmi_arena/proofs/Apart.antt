@@ -6,7 +6,7 @@ use Rattle.wasmi_arena.specs.Bucket.{Bucket, bucket}
 use Rattle.wasmi_arena.specs.Geometry.{size, start, max_len, IsPlace, IsFewest, fewest, room}
 use Rattle.wasmi_arena.specs.Table.{items_of, bucket_filled, IsLaidOut}
 use Rattle.wasmi_arena.specs.Apart.{AreOpenApart}
-use Rattle.wasmi_arena.proofs.Geometry.{size_pos, start_mono, start_below, fewest_is, fewest_is_least, fewest_of_place, place-next}
+use Rattle.wasmi_arena.proofs.Doubling.{size_pos, start_mono, start_below, fewest_is, fewest_is_least, fewest_of_place, place-next}
 use Rattle.wasmi_arena.proofs.LaidOut.{place-full, items_of-open_next_with, IsLaidOut-open_next_with}
 
 some_is : {A : Type 0} (a b : A) → Some a ≡ Some b → a ≡ b
@@ -87,7 +87,8 @@ module _ {T : Type 0} (buckets : List (Option (Bucket T))) where
       pub apart_rest : (filled : ℕ) → 0 < filled → filled ≤ size (fewest n) → AreOpenApart (set buckets (fewest n) None) (fewest (n + filled)) (fewest m)
       apart_rest filled some fits = rw (fewest_next n filled (omega arith) none some fits) (apart_moved (fewest n) (fewest m) all)
 
-  module _ (open_buckets slots len : ℕ) (v : IsLaidOut buckets open_buckets slots len) (items : List T) (are : items_of buckets ≡ items) where
+module _ {T : Type 0} {buckets : List (Option (Bucket T))} where
+  module _ {open_buckets slots len : ℕ} (v : IsLaidOut buckets open_buckets slots len) (items : List T) (are : items_of buckets ≡ items) where
     pub len_is : len ≡ length items
     len_is = v.items_counted ∙ ap length are
 
@@ -103,7 +104,7 @@ module _ {T : Type 0} (buckets : List (Option (Bucket T))) where
       other = λ same. absurd (omega (arith, len_is))
 
       pub next_exists : open_buckets < 27
-      next_exists = (place-full buckets open_buckets slots len v full other).bucket_exists
+      next_exists = (place-full v full other).bucket_exists
 
       -- which is moved in with its first items
       module _ (next : Bucket T) (some : 0 < length next.items) (fits : length next.items ≤ size (fewest (length items))) (capacity : next.capacity ≡ size (fewest (length items))) where
@@ -116,9 +117,9 @@ module _ {T : Type 0} (buckets : List (Option (Bucket T))) where
         pub items_of-next : items_of (set buckets open_buckets (Some next)) ≡ items ++ next.items
         items_of-next =
             ap (λ (b : Option (Bucket T)). items_of (set buckets open_buckets b)) next_is
-            ∙ (items_of-open_next_with buckets open_buckets slots len v full other next.items some next_fits ∙ ap (λ (xs : List T). xs ++ next.items) are)
+            ∙ (items_of-open_next_with v full other next.items some next_fits ∙ ap (λ (xs : List T). xs ++ next.items) are)
 
         pub IsLaidOut-next : IsLaidOut (set buckets open_buckets (Some next)) (open_buckets + 1) (start (open_buckets + 1)) (len + length next.items)
         IsLaidOut-next =
             subst (λ (b : Option (Bucket T)). IsLaidOut (set buckets open_buckets b) (open_buckets + 1) (start (open_buckets + 1)) (len + length next.items)) (sym next_is)
-            (IsLaidOut-open_next_with buckets open_buckets slots len v full other next.items some next_fits)
+            (IsLaidOut-open_next_with v full other next.items some next_fits)

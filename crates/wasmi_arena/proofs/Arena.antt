@@ -9,7 +9,7 @@ use Rattle.wasmi_arena.specs.Geometry.{max_len, room}
 use Rattle.wasmi_arena.specs.Keys.{Keys}
 use Rattle.wasmi_arena.specs.Arena.{ArenaState, ArenaStep, ArenaRun, ArenaUnchanged, AllocatesItem, RefusesItem, SwapsItems, allocs_in, stable_limit, stable_state}
 use Rattle.wasmi_arena.specs.Growth.{RefusesOneMore}
-use Rattle.wasmi_arena.proofs.Geometry.{room-falls}
+use Rattle.wasmi_arena.proofs.Doubling.{room-falls}
 use Rattle.wasmi_arena.proofs.Growth.{refuses_one_more}
 use Rattle.wasmi_arena.proofs.Results.{ok-err}
 use Rattle.wasmi_arena.specs.declared.run.ArenaCommand.{ArenaCommand}
@@ -32,7 +32,7 @@ module _ {K T V : Type 0} (keys : Keys K) (limit : ℕ) (state : V → ArenaStat
   ArenaRun-append old (c ∷ cs) [] mid command reply new run step = absurd run
 
   -- a step lowers the room by one at the most, and only where an item goes to the end
-  room_of_step : (old : ArenaState T) (command : ArenaCommand K T) (commands : List (ArenaCommand K T)) (reply : ArenaReply K T) (next : ArenaState T) → ArenaStep keys limit old command reply next
+  pub room_of_step : (old : ArenaState T) (command : ArenaCommand K T) (commands : List (ArenaCommand K T)) (reply : ArenaReply K T) (next : ArenaState T) → ArenaStep keys limit old command reply next
       → old.room + allocs_in commands ≤ next.room + allocs_in (command ∷ commands)
   room_of_step old (Alloc item) commands (Key key) next step =
       elim (cases_lt 0 old.room) [ inl some ↦ let left = step.room_left some in omega arith | inr none ↦ omega arith ]

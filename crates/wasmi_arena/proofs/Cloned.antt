@@ -7,7 +7,7 @@ use Rattle.std.proofs.lemmas.List.Elements.{All-take, All-drop, length_all_zip}
 use Rattle.std.specs.List.{All, AllZip}
 use Rattle.wasmi_arena.specs.Geometry.{size, start, max_len, fewest, room}
 use Rattle.wasmi_arena.specs.StableVec.{filled_parts}
-use Rattle.wasmi_arena.proofs.Geometry.{size_pos, size-suc, size_allowed, below_of_start}
+use Rattle.wasmi_arena.proofs.Doubling.{size_pos, size-suc, size_allowed, below_of_start}
 use Rattle.wasmi_arena.proofs.FilledParts.{AreParts, AreParts-filled_parts}
 use Rattle.wasmi_arena.proofs.Apart.{fewest_start}
 
@@ -17,6 +17,13 @@ module _ {T : Type 0} (is_clone : T → T → Type 0) where
   AllZip-append [] zs (y ∷ ys) ws first then = absurd first
   AllZip-append (x ∷ xs) zs [] ws first then = absurd first
   AllZip-append (x ∷ xs) zs (y ∷ ys) ws first then = (first.0, AllZip-append xs zs ys ws first.1 then)
+
+  -- where each clone is its item, the clones are the items
+  pub clones_equal : ((x y : T) → is_clone x y → y ≡ x) → (items clones : List T) → AllZip is_clone items clones → clones ≡ items
+  clones_equal same [] [] cloned = refl
+  clones_equal same [] (y ∷ ys) cloned = absurd cloned
+  clones_equal same (x ∷ xs) [] cloned = absurd cloned
+  clones_equal same (x ∷ xs) (y ∷ ys) cloned = let head = same x y cloned.0 in let tail = clones_equal same xs ys cloned.1 in cc
 
   -- the first of these items have their clones, which fill the first b buckets where items are left, and these are the parts of those
   pub record IsCloned (items : List T) (parts : List (List T)) (made : List T) : Type 0 where

@@ -9,7 +9,7 @@ use Rattle.wasmi_arena.specs.Bucket.{Bucket}
 use Rattle.wasmi_arena.specs.StableVec.{filled_part, filled_parts}
 use Rattle.wasmi_arena.specs.Ahead.{joined, AreSome, HasAhead}
 use Rattle.wasmi_arena.specs.Table.{items_of, items_in, IsTable, AreFilled, IsLaidOut, HasBuckets}
-use Rattle.wasmi_arena.proofs.Geometry.{size-suc, fewest_is_least}
+use Rattle.wasmi_arena.proofs.Doubling.{size-suc, fewest_is_least}
 use Rattle.wasmi_arena.proofs.Table.{items_of-IsTable}
 use Rattle.wasmi_arena.proofs.LaidOut.{IsTable-open, AreFilled-open, open-le_27}
 
@@ -55,11 +55,11 @@ module _ {T : Type 0} where
   AreParts-items_in width (x ∷ xs) (Some bucket ∷ buckets) table filled = (omega arith, ap items_in table.0, AreParts-items_in (2 * width) (drop width (x ∷ xs)) buckets table.1 filled.1)
 
   -- the open buckets of a vector are filled, and have its parts
-  module _ (buckets : List (Option (Bucket T))) (open_buckets slots len : ℕ) (v : IsLaidOut buckets open_buckets slots len) where
+  module _ {buckets : List (Option (Bucket T))} {open_buckets slots len : ℕ} (v : IsLaidOut buckets open_buckets slots len) where
     pub parts_open : AreFilled (take open_buckets buckets) × (map items_in (take open_buckets buckets) ≡ filled_parts (items_of buckets))
     parts_open =
-        let open_table = IsTable-open buckets open_buckets slots len v in
-        let filled = AreFilled-open buckets open_buckets slots len v in
+        let open_table = IsTable-open v in
+        let filled = AreFilled-open v in
         let few : length (items_of buckets) ≤ max_len = rw (← v.items_counted) v.few_items in
         rw v.fewest_open (
           filled,
@@ -85,12 +85,12 @@ module _ {T : Type 0} where
   HasBuckets-own items buckets has = rw (HasBuckets-items items buckets has) has
 
   pub HasBuckets-open : (items : List T) (buckets : List (Option (Bucket T))) → HasBuckets items buckets → fewest (length items) ≤ length buckets
-  HasBuckets-open items buckets has = let few = open-le_27 buckets _ _ _ (HasBuckets-laid items buckets has) in omega (arith, few, has.counted)
+  HasBuckets-open items buckets has = let few = open-le_27 (HasBuckets-laid items buckets has) in omega (arith, few, has.counted)
 
   -- the first of them, as many as are open, are filled, and have its parts
   pub parts_lent : (items : List T) (buckets front back : List (Option (Bucket T))) → HasBuckets items buckets → buckets ≡ front ++ back → length front ≡ fewest (length items) → AreFilled front × (map items_in front ≡ filled_parts items)
   parts_lent items buckets front back has cut counted =
-      let whole = parts_open buckets (fewest (length items)) (start (fewest (length items))) (length items) (HasBuckets-laid items buckets has) in
+      let whole = parts_open (HasBuckets-laid items buckets has) in
       let first : take (fewest (length items)) buckets ≡ front = rw (cut, ← counted, take-append-le (length front) front back (omega arith)) (take_all (length front) front (omega arith)) in
       (rw (← first) whole.0, rw (← first) (whole.1 ∙ ap filled_parts (items_of-IsTable 32 items buckets has.table)))
 

@@ -12,7 +12,7 @@ use Rattle.wasmi_arena.specs.Geometry.{size, start, max_len, IsPlace, IsFewest, 
 use Rattle.wasmi_arena.specs.Bucket.{Bucket}
 use Rattle.wasmi_arena.specs.StableVec.{bucket_at}
 use Rattle.wasmi_arena.specs.Table.{items_of, items_in, bucket_filled, bucket_with, bucket_cut, with_item, write, bucket_from, IsTable, AreFilled, IsLaidOut, IsAhead}
-use Rattle.wasmi_arena.proofs.Geometry.{start-size, size-suc, size_pos, start_mono, start_below, fewest_is, fewest_is_least, fewest_of_none, fewest_of_place, below_of_start, place-next, place-last}
+use Rattle.wasmi_arena.proofs.Doubling.{start-size, size-suc, size_pos, start_mono, start_below, fewest_is, fewest_is_least, fewest_of_none, fewest_of_place, below_of_start, place-next, place-last}
 use Rattle.wasmi_arena.proofs.Table.{get_or-IsTable, items_of-IsTable, IsTable-set, IsTable-write, IsTable-cut, IsTable-take, AreFilled-take, IsTable-none}
 
 module _ {T : Type 0} where
@@ -41,7 +41,7 @@ module _ {T : Type 0} where
       let same = get_or-take n (drop m (x ∷ xs)) s x slot ∙ (get_or-drop m (x ∷ xs) s x ∙ ap (λ k. get_or (x ∷ xs) k x) at) in
       slice_get-get_or (take n (drop m (x ∷ xs))) s x there ∙ (ap Some same ∙ sym (slice_get-get_or (x ∷ xs) i x below))
 
-  module _ (buckets : List (Option (Bucket T))) (open_buckets slots len : ℕ) (v : IsLaidOut buckets open_buckets slots len) where
+  module _ {buckets : List (Option (Bucket T))} {open_buckets slots len : ℕ} (v : IsLaidOut buckets open_buckets slots len) where
     -- the open buckets are the fewest
     IsFewest-len : IsFewest len (fewest len)
     IsFewest-len = fewest_is_least len v.few_items
@@ -125,7 +125,7 @@ module _ {T : Type 0} where
     )
 
     -- what is read at the bucket of an index
-    module _ (i b s : ℕ) (place : IsPlace i b s) (below : i < len) (found : Option (Bucket T)) (read : found ≡ get_or buckets b found) where
+    module _ {i b s : ℕ} (place : IsPlace i b s) (below : i < len) (found : Option (Bucket T)) (read : found ≡ get_or buckets b found) where
       bucket_read : found ≡ Some record { items = take (size b) (drop (start b) (items_of buckets)); capacity = size b }
       bucket_read = read ∙ (get_or_default buckets b found None (rw v.buckets_counted place.bucket_exists) ∙ get_or-open b place.bucket_exists (omega (arith, place.index_is)))
 
@@ -146,7 +146,7 @@ module _ {T : Type 0} where
             ap Some same ∙ sym (slice_get-get_or (items_of buckets) i x (rw (← v.items_counted) below))
 
     -- an item is exchanged in its slot
-    module _ (i b s : ℕ) (place : IsPlace i b s) (below : i < len) where
+    module _ {i b s : ℕ} (place : IsPlace i b s) (below : i < len) where
       IsTable-written : (item : T) → IsTable 32 (set (items_of buckets) i item) (set buckets b (with_item (get_or buckets b None) s item))
       IsTable-written item = IsTable-write 32 b s i (items_of buckets) buckets item (lit< tt) v.table (rw v.buckets_counted place.bucket_exists) place.slot_exists
           (omega (arith, start-size b, place.index_is)) (rw (← v.items_counted) below)
@@ -175,7 +175,7 @@ module _ {T : Type 0} where
       slice_get-slot = rw items_in-place (slice_get-take_drop (items_of buckets) (start b) (size b) s i place.slot_exists place.index_is (rw (← v.items_counted) below))
 
     -- more items go to the slots of a bucket, from a place on
-    module _ (b s : ℕ) (place : IsPlace len b s) (more : List T) (some : 0 < length more) (fits : s + length more ≤ size b) where
+    module _ {b s : ℕ} (place : IsPlace len b s) (more : List T) (some : 0 < length more) (fits : s + length more ≤ size b) where
       IsTable-append : IsTable 32 (items_of buckets ++ more) (set buckets b (bucket_filled (size b) (get_or buckets b None) more))
       IsTable-append = IsTable-set 32 b (items_of buckets) buckets more (lit< tt) some v.table (rw v.buckets_counted place.bucket_exists)
           (omega (arith, start-size b, v.items_counted, place.index_is)) (omega (arith, start-size b, size-suc b, v.items_counted, place.index_is, fits))
@@ -204,7 +204,7 @@ module _ {T : Type 0} where
       }
 
     -- the slot of the next item
-    module _ (b s : ℕ) (place : IsPlace len b s) where
+    module _ {b s : ℕ} (place : IsPlace len b s) where
       -- it is the first free one of its bucket
       pub first_free : s ≡ length (items_in (get_or buckets b None))
       first_free = rw (get_or-buckets b place.bucket_exists, items_in-bucket_from)
@@ -238,11 +238,11 @@ module _ {T : Type 0} where
 
         pub items_of-fill : (more : List T) → length more ≤ slots - len → items_of (set buckets b (bucket_filled (size b) (get_or buckets b None) more)) ≡ items_of buckets ++ more
         items_of-fill [] free = ap items_of fill_none ∙ sym (append-nil (items_of buckets))
-        items_of-fill (x ∷ more) free = items_of-append b s place (x ∷ more) (omega arith) (fits-last (length (x ∷ more)) free)
+        items_of-fill (x ∷ more) free = items_of-append place (x ∷ more) (omega arith) (fits-last (length (x ∷ more)) free)
 
         pub IsLaidOut-fill : (more : List T) → length more ≤ slots - len → IsLaidOut (set buckets b (bucket_filled (size b) (get_or buckets b None) more)) open_buckets slots (len + length more)
         IsLaidOut-fill [] free = rw (fill_none, add-zero) v
-        IsLaidOut-fill (x ∷ more) free = rw (v.slots_counted, ← last) (IsLaidOut-append b s place (x ∷ more) (omega arith) (fits-last (length (x ∷ more)) free))
+        IsLaidOut-fill (x ∷ more) free = rw (v.slots_counted, ← last) (IsLaidOut-append place (x ∷ more) (omega arith) (fits-last (length (x ∷ more)) free))
 
       -- among the open buckets, it is open
       pub place-open : b < open_buckets → IsSome (get_or buckets b None)
@@ -262,17 +262,17 @@ module _ {T : Type 0} where
       -- all slots that are free are that bucket's
       pub free_counted : length (items_in (get_or buckets (open_buckets - 1) None)) + (slots - len) ≡ size (open_buckets - 1)
       free_counted =
-          let b = open_buckets - 1 in let held = first_free b (len - start b) place-free in let end = slots-end b (len - start b) place-free last-free in
+          let b = open_buckets - 1 in let held = first_free place-free in let end = slots-end place-free last-free in
           omega (arith, place-free.index_is)
 
       pub items_of-last : (item : T) → items_of (set buckets (open_buckets - 1) (bucket_with (size (open_buckets - 1)) (get_or buckets (open_buckets - 1) None) item)) ≡ items_of buckets ++ item ∷ []
-      items_of-last item = items_of-fill (open_buckets - 1) (len - start (open_buckets - 1)) place-free last-free (item ∷ []) (omega arith)
+      items_of-last item = items_of-fill place-free last-free (item ∷ []) (omega arith)
 
       pub IsLaidOut-last : (item : T) → IsLaidOut (set buckets (open_buckets - 1) (bucket_with (size (open_buckets - 1)) (get_or buckets (open_buckets - 1) None) item)) open_buckets slots (len + 1)
-      IsLaidOut-last item = IsLaidOut-fill (open_buckets - 1) (len - start (open_buckets - 1)) place-free last-free (item ∷ []) (omega arith)
+      IsLaidOut-last item = IsLaidOut-fill place-free last-free (item ∷ []) (omega arith)
 
     -- the last item leaves its slot
-    module _ (i b s : ℕ) (place : IsPlace i b s) (last : len ≡ i + 1) where
+    module _ {i b s : ℕ} (place : IsPlace i b s) (last : len ≡ i + 1) where
       IsTable-pop : IsTable 32 (take i (items_of buckets)) (set buckets b (bucket_cut (get_or buckets b None) s))
       IsTable-pop = IsTable-cut 32 b s i (items_of buckets) buckets (lit< tt) v.table (rw v.buckets_counted place.bucket_exists) place.slot_exists
           (omega (arith, start-size b, place.index_is)) (omega (arith, v.items_counted, last))
@@ -298,7 +298,7 @@ module _ {T : Type 0} where
       -- and the vector does
       pub popped : (x : T) → slice_get (items_in (get_or buckets b None)) s ≡ Some x → (slice_get (items_of buckets) i ≡ Some x) × (items_of buckets ≡ take i (items_of buckets) ++ x ∷ [])
       popped x there =
-          let read = sym (slice_get-slot i b s place (omega (arith, last))) ∙ there in
+          let read = sym (slice_get-slot place (omega (arith, last))) ∙ there in
           let counted : length (items_of buckets) ≡ suc i = omega (arith, v.items_counted, last) in
           (read, sym (take_all (suc i) (items_of buckets) (omega arith)) ∙ (take-suc (items_of buckets) i x (omega arith) ∙ ap (λ (y : T). take i (items_of buckets) ++ y ∷ []) (get_or_from_slice_get (items_of buckets) i x x read)))
 
@@ -318,10 +318,10 @@ module _ {T : Type 0} where
       -- and is opened for them
       module _ (more : List T) (some : 0 < length more) (fits : length more ≤ size open_buckets) where
         pub items_of-open_next_with : items_of (set buckets open_buckets (bucket_filled (size open_buckets) None more)) ≡ items_of buckets ++ more
-        items_of-open_next_with = subst (λ (b : Option (Bucket T)). items_of (set buckets open_buckets (bucket_filled (size open_buckets) b more)) ≡ items_of buckets ++ more) get_or-full (items_of-append open_buckets 0 place-full more some (omega (arith, fits)))
+        items_of-open_next_with = subst (λ (b : Option (Bucket T)). items_of (set buckets open_buckets (bucket_filled (size open_buckets) b more)) ≡ items_of buckets ++ more) get_or-full (items_of-append place-full more some (omega (arith, fits)))
 
         pub IsLaidOut-open_next_with : IsLaidOut (set buckets open_buckets (bucket_filled (size open_buckets) None more)) (open_buckets + 1) (start (open_buckets + 1)) (len + length more)
-        IsLaidOut-open_next_with = subst (λ (b : Option (Bucket T)). IsLaidOut (set buckets open_buckets (bucket_filled (size open_buckets) b more)) (open_buckets + 1) (start (open_buckets + 1)) (len + length more)) get_or-full (IsLaidOut-append open_buckets 0 place-full more some (omega (arith, fits)))
+        IsLaidOut-open_next_with = subst (λ (b : Option (Bucket T)). IsLaidOut (set buckets open_buckets (bucket_filled (size open_buckets) b more)) (open_buckets + 1) (start (open_buckets + 1)) (len + length more)) get_or-full (IsLaidOut-append place-full more some (omega (arith, fits)))
 
       -- or for one
       pub items_of-open_next : (item : T) → items_of (set buckets open_buckets (bucket_with (size open_buckets) None item)) ≡ items_of buckets ++ item ∷ []
@@ -331,7 +331,7 @@ module _ {T : Type 0} where
       IsLaidOut-open_next item = IsLaidOut-open_next_with (item ∷ []) (omega arith) (omega (arith, size_pos open_buckets))
 
   -- the items at i and at j are exchanged, each in the other's slot
-  module _ (buckets : List (Option (Bucket T))) (open_buckets slots len : ℕ) (v : IsLaidOut buckets open_buckets slots len) (i b s : ℕ) (place-i : IsPlace i b s) (below-i : i < len) (j d t : ℕ) (place-j : IsPlace j d t) (below : j < len) where
+  module _ {buckets : List (Option (Bucket T))} {open_buckets slots len : ℕ} (v : IsLaidOut buckets open_buckets slots len) {i b s : ℕ} (place-i : IsPlace i b s) (below-i : i < len) {j d t : ℕ} (place-j : IsPlace j d t) (below : j < len) where
     there : (k : ℕ) → k < len → (x : T) × (slice_get (items_of buckets) k ≡ Some x)
     there k inside = elim (slice_get_cases (items_of buckets) k).1 [
       | inl some ↦ (some.0, some.2)
@@ -340,23 +340,23 @@ module _ {T : Type 0} where
 
     module _ (x y : T) (at-i : slice_get (items_of buckets) i ≡ Some x) (at-j : slice_get (items_of buckets) j ≡ Some y) where
       IsLaidOut-once : IsLaidOut (write buckets b s y) open_buckets slots len
-      IsLaidOut-once = IsLaidOut-written buckets open_buckets slots len v i b s place-i below-i y
+      IsLaidOut-once = IsLaidOut-written v place-i below-i y
 
       IsLaidOut-twice : IsLaidOut (write (write buckets b s y) d t x) open_buckets slots len
-      IsLaidOut-twice = IsLaidOut-written (write buckets b s y) open_buckets slots len IsLaidOut-once j d t place-j below x
+      IsLaidOut-twice = IsLaidOut-written IsLaidOut-once place-j below x
 
       items_of-twice : items_of (write (write buckets b s y) d t x) ≡ swap (items_of buckets) i j
       items_of-twice =
           let items = items_of buckets in
-          items_of-written (write buckets b s y) open_buckets slots len IsLaidOut-once j d t place-j below x
-          ∙ rw (items_of-written buckets open_buckets slots len v i b s place-i below-i y, ← get_or_from_slice_get items i x x at-i, ← get_or_from_slice_get items j y x at-j)
+          items_of-written IsLaidOut-once place-j below x
+          ∙ rw (items_of-written v place-i below-i y, ← get_or_from_slice_get items i x x at-i, ← get_or_from_slice_get items j y x at-j)
           (swap_is items i j x (omega (arith, v.items_counted, below-i)) (omega (arith, v.items_counted)))
 
     pub IsLaidOut-swap : (table : List (Option (Bucket T))) → ((x y : T) → slice_get (items_in (get_or buckets b None)) s ≡ Some x → slice_get (items_in (get_or buckets d None)) t ≡ Some y → table ≡ write (write buckets b s y) d t x)
         → IsLaidOut table open_buckets slots len × (items_of table ≡ swap (items_of buckets) i j)
     IsLaidOut-swap table exchanged =
         let x = there i below-i in let y = there j below in
-        let table_is = exchanged x.0 y.0 (slice_get-slot buckets open_buckets slots len v i b s place-i below-i ∙ x.1) (slice_get-slot buckets open_buckets slots len v j d t place-j below ∙ y.1) in
+        let table_is = exchanged x.0 y.0 (slice_get-slot v place-i below-i ∙ x.1) (slice_get-slot v place-j below ∙ y.1) in
         (rw table_is (IsLaidOut-twice x.0 y.0 x.1 y.1), rw table_is (items_of-twice x.0 y.0 x.1 y.1))
 
   -- where no bucket is open, there is no item

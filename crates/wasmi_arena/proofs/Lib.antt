@@ -1,10 +1,11 @@
-pub mod Geometry
+pub mod Doubling
 pub mod Table
 pub mod Refilled
 pub mod Rewritten
 pub mod LaidOut
 pub mod Arena
 pub mod OneAnswer
+pub mod RunReplies
 pub mod Entries
 pub mod FilledParts
 pub mod PairPlaces

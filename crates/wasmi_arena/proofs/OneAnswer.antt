@@ -97,7 +97,7 @@ module _ {K T : Type 0} (keys : Keys K) (L M : ℕ) (a b c d : ArenaState T) (sa
 
 -- a step's command and reply tell how many items there are after it
 module _ {K T : Type 0} (keys : Keys K) (limit : ℕ) (old next : ArenaState T) where
-  counted : (command : ArenaCommand K T) (reply : ArenaReply K T) (commands : List (ArenaCommand K T)) (replies : List (ArenaReply K T)) → ArenaStep keys limit old command reply next
+  pub counted : (command : ArenaCommand K T) (reply : ArenaReply K T) (commands : List (ArenaCommand K T)) (replies : List (ArenaReply K T)) → ArenaStep keys limit old command reply next
       → (length next.items + keys_in replies ≡ length old.items + keys_in (reply ∷ replies)) × (length next.items + allocs_in commands ≤ length old.items + allocs_in (command ∷ commands))
   counted (Alloc item) (Key key) cs rs step = let is = ap length step.items_are in (omega (arith, length-append old.items (item ∷ [])), omega (arith, length-append old.items (item ∷ [])))
   counted (Alloc item) (Refused error) cs rs step = let is = ap length step.1.0 in (omega arith, omega arith)

@@ -20,14 +20,14 @@ module _ {T : Type 0} where
     laid = HasBuckets-laid (items_of buckets) buckets has
 
     pub below_max : (i : ℕ) → i < length (items_of buckets) → i < max_len
-    below_max i below = index-lt_max buckets (fewest (length (items_of buckets))) (start (fewest (length (items_of buckets)))) (length (items_of buckets)) laid below
+    below_max i below = index-lt_max laid below
 
     module _ (i b s : ℕ) (place : IsPlace i b s) (below : i < length (items_of buckets)) where
       pub filled : s < length (items_in (get_or buckets b None))
-      filled = slot_filled buckets (fewest (length (items_of buckets))) (start (fewest (length (items_of buckets)))) (length (items_of buckets)) laid i b s place below
+      filled = slot_filled laid place below
 
       pub reads : slice_get (items_in (get_or buckets b None)) s ≡ slice_get (items_of buckets) i
-      reads = slice_get-slot buckets (fewest (length (items_of buckets))) (start (fewest (length (items_of buckets)))) (length (items_of buckets)) laid i b s place below
+      reads = slice_get-slot laid place below
 
     module _ (i b s : ℕ) (first : IsPlace i b s) (one_in : i < length (items_of buckets)) (j d t : ℕ) (second : IsPlace j d t) (other_in : j < length (items_of buckets)) where
       -- two indices in one bucket have two slots
@@ -37,6 +37,5 @@ module _ {T : Type 0} where
       -- what is written in their slots stands at the indices
       pub ends : (x y : T) → items_of (write (write buckets b s x) d t y) ≡ set (set (items_of buckets) i x) j y
       ends x y =
-          let open_buckets = fewest (length (items_of buckets)) in let slots = start open_buckets in let len = length (items_of buckets) in
-          items_of-written (write buckets b s x) open_buckets slots len (IsLaidOut-written buckets open_buckets slots len laid i b s first one_in x) j d t second other_in y
-          ∙ ap (λ (xs : List T). set xs j y) (items_of-written buckets open_buckets slots len laid i b s first one_in x)
+          items_of-written (IsLaidOut-written laid first one_in x) second other_in y
+          ∙ ap (λ (xs : List T). set xs j y) (items_of-written laid first one_in x)

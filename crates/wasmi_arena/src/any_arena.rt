@@ -18,9 +18,10 @@ pub trait AnyArena<Key: ArenaKey, T> {
     /// Whether an arena holds at most [`MAX_LEN`](crate::MAX_LEN) items, however many keys there are.
     const BOUNDED: bool;
 
-    /// The number of items.
+    /// The number of items, which is at most that of the keys: each position has one.
     fn len(&self) -> usize
-        ensures { result ≡ length (state self.now).items };
+        ensures value { result ≡ length (state self.now).items }
+        ensures keyed { length (state self.now).items ≤ arena_limit Key.keys BOUNDED };
 
     /// How many items can be added before memory is asked for.
     fn room(&self) -> usize

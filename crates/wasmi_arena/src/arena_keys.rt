@@ -2,7 +2,7 @@
 ghost use Rattle.std.specs.Prelude.{◌≡◌, length};
 ghost use Rattle.std.specs.Iterator.{YieldsFirst, YieldsLast, item_count};
 
-use crate::ArenaKey;
+use crate::{ArenaKey, key_at};
 use std::marker::{Model, PhantomData};
 
 /// The keys of the items of an arena that are left to visit, in order, from both ends.
@@ -49,14 +49,10 @@ impl<Key: ArenaKey> Iterator for ArenaKeys<Key> {
         if self.left == 0 {
             return None;
         }
-        match Key::from_usize(self.next) {
-            Some(key) => {
-                self.next += 1;
-                self.left -= 1;
-                Some(key)
-            }
-            None => unreachable!(),
-        }
+        let key = key_at(self.next);
+        self.next += 1;
+        self.left -= 1;
+        Some(key)
     }
 }
 
@@ -68,9 +64,6 @@ impl<Key: ArenaKey> DoubleEndedIterator for ArenaKeys<Key> {
             return None;
         }
         self.left -= 1;
-        match Key::from_usize(self.next + self.left) {
-            Some(key) => Some(key),
-            None => unreachable!(),
-        }
+        Some(key_at(self.next + self.left))
     }
 }

@@ -5,13 +5,13 @@ ghost use Rattle.std.specs.Mem.{type_size};
 ghost use Rattle.wasmi_arena.specs.Bucket.{bucket};
 
 mod fill;
-mod taken;
+mod into_items;
 
 use crate::block::{BlockPtr, DeallocRight, Slots, allocate, without_block};
+pub(crate) use into_items::BucketItems;
 use std::alloc::{AllocError, Allocator, Global};
 use std::marker::Model;
 use std_alloc::room::may_hold;
-pub(crate) use taken::BucketItems;
 
 /// A block of slots that is filled from its first slot on, and never grows or moves.
 ///

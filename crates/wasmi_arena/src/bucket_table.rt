@@ -13,7 +13,10 @@ macro_rules! block_of {
     };
 }
 
+pub(crate) mod fill;
+pub(crate) mod lend;
 mod loan;
+pub(crate) mod take;
 
 use crate::Bucket;
 pub use loan::ItemsLoan;

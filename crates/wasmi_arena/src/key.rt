@@ -29,6 +29,18 @@ pub trait ArenaKey: Copy {
     ghost key_law: { KeyLaw keys };
 }
 
+/// The key of a number that has one. Constant time.
+#[inline]
+pub fn key_at<Key: ArenaKey>(number: usize) -> Key
+    requires { number < Key.keys.count }
+    ensures { result ≡ Key.keys.key number }
+{
+    match Key::from_usize(number) {
+        Some(key) => key,
+        None => unreachable!(),
+    }
+}
+
 impl ArenaKey for usize {
     ghost keys = { own_keys (2 ^ 64) };
 

@@ -1,22 +1,25 @@
 //! Laws: what the definitions of `specs/` tell, and what derived calls do, as contracts of functions.
-ghost use Rattle.std.specs.Prelude.{◌≡◌, ℕ, ◌+◌, ◌*◌, ◌<◌, ◌≤◌, [], ◌∷◌, List, length, map, slice_get, IsSomeAnd, IsTrue, ◌↔◌, Ok, ◌≢◌, ◌⊎◌, take, Some};
+ghost use Rattle.std.specs.Prelude.{◌≡◌, ℕ, ◌+◌, ◌-◌, ◌*◌, ◌^◌, ◌<◌, ◌≤◌, [], ◌∷◌, List, length, map, slice_get, IsSomeAnd, IsTrue, ◌↔◌, Ok, ◌≢◌, ◌⊎◌, take, Some};
 ghost use Rattle.std.specs.Borrow.{Bor};
 ghost use Rattle.std.specs.Iterator.{Yields, YieldsFirst, YieldsFirstBy};
-ghost use Rattle.std.specs.List.{flat_map, range_with_len};
+ghost use Rattle.std.specs.List.{AllZip, flat_map, range_with_len};
+ghost use Rattle.std.specs.Cmp.Lexicographic.{slice_cmp};
 ghost use Rattle.wasmi_arena.specs.Geometry.{size, start, max_len, IsPlace, IsFewest, fewest, slots, room, bucket_of, slot_of};
 ghost use Rattle.wasmi_arena.specs.StableVec.{bucket_at, filled_parts};
 ghost use Rattle.wasmi_arena.specs.Entries.{entries};
 ghost use Rattle.wasmi_arena.specs.BothEnds.{DrainsFromEnds};
 ghost use Rattle.wasmi_arena.specs.IterMut.{left};
-ghost use Rattle.wasmi_arena.specs.Arena.{arena_limit, stable_limit, allocs_in, ArenaRun, NoneLacksMemory, EqualKeysRead};
+ghost use Rattle.wasmi_arena.specs.Arena.{arena_limit, stable_limit, allocs_in, keys_in, ArenaRun, NoneLacksMemory, EqualKeysRead};
 ghost use Rattle.wasmi_arena.specs.declared.run.ArenaCommand.{ArenaCommand};
 
 use crate::{
-    AnyArena, ArenaError, ArenaKey, ArenaKeys, ArenaReply, StableArena, StableArenaIntoIter,
-    StableArenaIter, StableArenaIterMut, StableVec, StableVecIntoIter, StableVecIter,
-    StableVecIterMut,
+    AnyArena, ArenaError, ArenaKey, ArenaKeys, ArenaReply, BUCKETS, StableArena,
+    StableArenaIntoIter, StableArenaIter, StableArenaIterMut, StableVec, StableVecIntoIter,
+    StableVecIter, StableVecIterMut,
 };
 use std::alloc::{AllocError, Allocator};
+use std::cmp::Ordering;
+use std::num::NonZero;
 
 /// The 27 buckets, each with its number of slots and its first index.
 pub fn bucket_table()
@@ -57,7 +60,7 @@ pub fn place_exists()
 
 /// Each slot of each bucket is the place of an index below `max_len`, and of that one alone.
 pub fn slot_has_one_index()
-    ensures index { (b s : ℕ) → b < 27 → s < size b
+    ensures index { (b s : ℕ) → b < BUCKETS → s < size b
         → IsPlace (start b + s) b s × (start b + s < max_len) }
     ensures alone { (b s i j : ℕ) → IsPlace i b s → IsPlace j b s → i ≡ j }
 {}
@@ -184,6 +187,41 @@ pub fn one_answer<Key: ArenaKey, T, S: AnyArena<Key, T>, U: AnyArena<Key, T>>()
         → (replies ≡ others) × ((S.state s_after).items ≡ (U.state u_after).items) }
 {}
 
+/// Keys run on without gaps: each reply `Key` of a run is the key of the length that the arena began
+/// with, plus how many such replies came before.
+pub fn keys_of_run<Key: ArenaKey, T, S: AnyArena<Key, T>>()
+    ensures { (old : S) (commands : List (ArenaCommand Key T)) (replies : List (ArenaReply Key T)) (new : S)
+        → ArenaRun Key.keys (arena_limit Key.keys S.BOUNDED) S.state old commands replies new
+        → (i : ℕ) (key : Key) → slice_get replies i ≡ Some (ArenaReply.Key key)
+        → key ≡ Key.keys.key (length (S.state old).items + keys_in (take i replies)) }
+{}
+
+/// A run lowers the room by at most the number of its `Alloc` commands.
+pub fn room_after_run<Key: ArenaKey, T, S: AnyArena<Key, T>>()
+    ensures { (old : S) (commands : List (ArenaCommand Key T)) (replies : List (ArenaReply Key T)) (new : S)
+        → ArenaRun Key.keys (arena_limit Key.keys S.BOUNDED) S.state old commands replies new
+        → (S.state old).room ≤ (S.state new).room + allocs_in commands }
+{}
+
+/// How many keys the four types have, and the key of 0. Of `NonZero` types, it holds 1.
+pub fn keys_of_types()
+    ensures usize_count { ⟦<usize as ArenaKey>⟧.keys.count ≡ 2 ^ 64 }
+    ensures usize_first { ⟦<usize as ArenaKey>⟧.keys.key 0 ≡ 0 }
+    ensures u32_count { ⟦<u32 as ArenaKey>⟧.keys.count ≡ 2 ^ 32 }
+    ensures u32_first { ⟦<u32 as ArenaKey>⟧.keys.key 0 ≡ 0 }
+    ensures non_zero_usize_count { ⟦<NonZero<usize> as ArenaKey>⟧.keys.count ≡ 2 ^ 64 - 1 }
+    ensures non_zero_usize_first { (⟦<NonZero<usize> as ArenaKey>⟧.keys.key 0).value ≡ 1 }
+    ensures non_zero_u32_count { ⟦<NonZero<u32> as ArenaKey>⟧.keys.count ≡ 2 ^ 32 - 1 }
+    ensures non_zero_u32_first { (⟦<NonZero<u32> as ArenaKey>⟧.keys.key 0).value ≡ 1 }
+{}
+
+/// Where the clone of an item equals it, clones of the items of a list are that list. So `clone` and
+/// `clone_in` return the same items.
+pub fn clones_are_equal<T: Clone>()
+    ensures { ((x y : T) → T.is_clone x y → y ≡ x)
+        → (items clones : List T) → AllZip T.is_clone items clones → clones ≡ items }
+{}
+
 /// Two errors are equal where they are the same.
 pub fn equal_errors(a: &ArenaError, b: &ArenaError) -> bool
     ensures { IsTrue result ↔ (a.now ≡ b.now) }
@@ -214,6 +252,14 @@ pub fn equal_vectors<T: PartialEq>(a: &StableVec<T>, b: &StableVec<T>) -> bool
     ensures { ((x y : T) → (IsTrue (T.eq x y) ↔ (x ≡ y))) → (IsTrue result ↔ (a.now ≡ b.now)) }
 {
     a == b
+}
+
+/// The order of vectors is that of the lists: the first two items that differ decide, and a list
+/// that another one begins with is less.
+pub fn order_of_vectors<T: Ord>(a: &StableVec<T>, b: &StableVec<T>) -> Ordering
+    ensures { result ≡ slice_cmp T.cmp a.now b.now }
+{
+    a.cmp(b)
 }
 
 /// Two arenas are equal where their lists are, if two items are.

@@ -8,12 +8,14 @@ mod block;
 mod bucket;
 mod bucket_table;
 mod error;
+mod geometry;
 mod key;
 pub mod laws;
 mod option;
 mod run;
 mod stable_arena;
 mod stable_vec;
+mod typed_key;
 
 pub use any_arena::AnyArena;
 pub use arena_keys::ArenaKeys;
@@ -24,10 +26,12 @@ pub use block::{BlockPtr, DeallocRight, Slots};
 #[doc(hidden)]
 pub use bucket_table::{BucketTable, ItemsLoan};
 pub use error::ArenaError;
-pub use key::ArenaKey;
+pub use geometry::{BUCKETS, MAX_LEN};
+pub use key::{ArenaKey, key_at};
 pub use run::{ArenaCommand, ArenaReply, run_arena};
 pub use stable_arena::{StableArena, StableArenaIntoIter, StableArenaIter, StableArenaIterMut};
 pub use stable_vec::{
-    MAX_LEN, StableVec, StableVecIntoIter, StableVecIter, StableVecIterMut, StableVecSlices,
+    StableVec, StableVecIntoIter, StableVecIter, StableVecIterMut, StableVecSlices,
     StableVecSlicesMut,
 };
+pub use typed_key::TypedKey;

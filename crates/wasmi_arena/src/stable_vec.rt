@@ -1,5 +1,5 @@
 //! A vector whose items stay in the slots that they were pushed into.
-ghost use Rattle.std.specs.Prelude.{◌≡◌, ◌+◌, ◌<◌, ◌≤◌, ◌==◌, ◌↔◌, [], ◌∷◌, ◌++◌, length, IfOk, IfErr, OnOk, OnErr, IsOk, IsSome, IsOkUnless, IsErrOf, IsTrue, ◌⊎◌, option_copied, slice_get, slice_index_or, slice_set, Some, None};
+ghost use Rattle.std.specs.Prelude.{◌≡◌, ◌+◌, ◌*◌, ◌<◌, ◌≤◌, ◌==◌, ◌↔◌, [], ◌∷◌, ◌++◌, length, IfOk, IfErr, OnOk, OnErr, IsOk, IsSome, IsOkUnless, IsErrOf, IsTrue, ◌⊎◌, option_copied, slice_get, slice_index_or, slice_set, Some, None};
 ghost use Rattle.std.specs.Borrow.{sem};
 ghost use Rattle.std.specs.Mem.{type_size};
 ghost use Rattle.std.specs.Option.{ForSome, option_copied_mut};
@@ -10,6 +10,7 @@ ghost use Rattle.wasmi_arena.specs.VecLend.{lends_items};
 ghost use Rattle.wasmi_arena.specs.StableVec.{bucket_at, filled_parts};
 ghost use Rattle.wasmi_arena.specs.Table.{items_in, bucket_with, HasBuckets};
 
+mod clone;
 mod compared;
 mod defaults;
 mod ends;
@@ -22,7 +23,10 @@ mod pairs;
 mod slices;
 mod slices_mut;
 
-use crate::option::{unwrap_mut, unwrap_ref};
+use crate::bucket_table::fill::{fill_next, open_with};
+use crate::bucket_table::lend::slot_mut;
+use crate::geometry::{BUCKETS, MAX_LEN, is_limit, place, size_of, start_of};
+use crate::option::unwrap_ref;
 use crate::{ArenaError, Bucket, BucketTable, ItemsLoan};
 pub use into_iter::StableVecIntoIter;
 pub use iter::StableVecIter;
@@ -32,12 +36,6 @@ pub use slices_mut::StableVecSlicesMut;
 use std::alloc::{Allocator, Global};
 use std::array;
 use std::marker::{Model, PhantomData};
-
-// How many buckets a vector has at the most.
-const BUCKETS: usize = 27;
-
-/// How many items a [`StableVec`] holds at the most, so that an index below it has a place.
-pub const MAX_LEN: usize = 4_294_967_264;
 
 /// A vector whose items stay where they are: a push never moves an item that is there.
 ///
@@ -67,95 +65,6 @@ impl<T, A: Allocator> Model for StableVec<T, A> {
     ghost invariant = { λ vec. IsLaidOut vec.table.buckets vec.open_buckets vec.slots vec.len };
 }
 
-// The first index of a bucket.
-#[inline]
-fn start_of(bucket: usize) -> usize
-    requires { bucket ≤ 27 }
-    ensures { result ≡ start bucket }
-{
-    (32 << bucket) - 32
-}
-
-// Whether a vector of so many items can have no more. Apart, since a vector with a free slot needn't ask.
-#[cold]
-#[inline(never)]
-fn is_limit(len: usize) -> bool
-    ensures { IsTrue result ↔ (max_len ≤ len) }
-{
-    len >= MAX_LEN
-}
-
-// The place of the next item, which is in the last open bucket where that has a free slot.
-#[inline]
-fn place_in_last(len: usize, open_buckets: usize, slots: usize) -> (usize, usize)
-    requires below { len < max_len }
-    requires open { open_buckets ≡ fewest len }
-    requires slots { slots ≡ start open_buckets }
-    requires free { len < slots }
-    ensures place { IsPlace len result.0 result.1 }
-    ensures last { result.0 + 1 ≡ open_buckets }
-{
-    // The last bucket has as many slots as those before it, and 32 more.
-    (open_buckets - 1, len - (slots - 32) / 2)
-}
-
-// Puts `value` into the first free slot of an open bucket, in which `free` slots are.
-//
-// These tell the slot, and not the bucket's length: the push before stored that, so each push would wait for it.
-#[inline]
-fn fill_next<T, A: Allocator>(
-    buckets: &mut [Option<Bucket<T, A>>],
-    bucket: usize,
-    free: usize,
-    value: T,
-)
-    requires in_table { bucket < length buckets.old }
-    requires open { IsSome (slice_index_or buckets.old bucket None) }
-    requires capacity { ForSome (slice_index_or buckets.old bucket None)
-        (λ b. b.capacity ≡ size bucket) }
-    requires free { length (items_in (slice_index_or buckets.old bucket None)) + free ≡ size bucket }
-    requires some { 0 < free }
-    ensures { buckets.new ≡ slice_set buckets.old bucket
-        (bucket_with (size bucket) (slice_index_or buckets.old bucket None) value) }
-{
-    let open = unwrap_mut(&mut buckets[bucket]);
-    let slot = open.capacity() - free;
-    open.push(slot, value);
-}
-
-// Opens a bucket, and puts `value` into its first slot.
-#[cold]
-#[inline(never)]
-fn open_with<T: Drop, A: Allocator + Clone>(
-    buckets: &mut [Option<Bucket<T, A>>],
-    bucket: usize,
-    alloc: &A,
-    value: T,
-) -> Result<(), ArenaError>
-    requires in_table { bucket < length buckets.old }
-    requires exists { bucket < 27 }
-    ensures ok { OnOk result (buckets.new ≡ slice_set buckets.old bucket
-        (bucket_with (size bucket) None value)) }
-    ensures errors { IsOkUnless result ArenaError.OutOfSystemMemory }
-    ensures err { OnErr result (buckets.new ≡ buckets.old) }
-    ensures without_size { type_size T.row ≡ 0 → A.is_infallible alloc.now → IsOk result }
-{
-    let capacity = StableVec::<T>::size_of_bucket_at(bucket);
-    let mut opened = Bucket::open(alloc.clone()?, capacity)?;
-    opened.push(0, value);
-    buckets[bucket] = Some(opened);
-    Ok(())
-}
-
-// The item in a filled slot of an open bucket, to write to.
-fn slot_mut<T, A: Allocator>(bucket: &mut Option<Bucket<T, A>>, slot: usize) -> &mut T
-    requires { slot < length (items_in bucket.old) }
-    ensures* writes_back { sem 𝓛 (lends_slot T.row A.row A.Allocator bucket.entry slot result) }
-    ensures value { slice_get (items_in bucket.old) slot ≡ Some result.now }
-{
-    unwrap_mut(bucket).item_mut(slot)
-}
-
 impl<T> StableVec<T> {
     /// The bucket and the slot in it of the item at an index below [`MAX_LEN`]. Constant time.
     pub fn place(index: usize) -> (usize, usize)
@@ -164,18 +73,15 @@ impl<T> StableVec<T> {
         ensures bucket { result.0 ≡ bucket_of index }
         ensures slot { result.1 ≡ slot_of index }
     {
-        // Bucket b begins at 32 * 2^b, once 32 is added.
-        let shifted = index + 32;
-        let top = shifted.ilog2() as usize;
-        (top - 5, shifted - (1 << top))
+        place(index)
     }
 
     /// How many slots a bucket has. Constant time.
     pub fn size_of_bucket_at(bucket: usize) -> usize
-        requires { bucket < 27 }
+        requires { bucket < BUCKETS }
         ensures { result ≡ size bucket }
     {
-        32 << bucket
+        size_of(bucket)
     }
 }
 
@@ -219,10 +125,13 @@ impl<T, A: Allocator> StableVec<T, A> {
         self.open_buckets
     }
 
-    /// How many slots the open buckets have. Constant time.
+    /// How many slots the open buckets have: at most 30 more than twice as many as there are items.
+    /// Constant time.
     pub fn slots(&self) -> usize
         ensures value { result ≡ slots (length self.now) }
         ensures enough { length self.now ≤ result }
+        ensures few { result ≤ 2 * length self.now + 30 }
+        ensures none { self.now ≡ [] → result ≡ 0 }
     {
         self.slots
     }
@@ -252,7 +161,7 @@ impl<T, A: Allocator> StableVec<T, A> {
         if index >= self.len {
             return None;
         }
-        let (bucket, slot) = StableVec::<T>::place(index);
+        let (bucket, slot) = place(index);
         // proof: by the slice, since an index into the array asks for the size of all of it.
         let buckets = &self.table.buckets[..];
         let open = unwrap_ref(&buckets[bucket]);
@@ -267,7 +176,7 @@ impl<T, A: Allocator> StableVec<T, A> {
     {
         // proof: an index of an item has a place, which the invariant of the table tells.
         let _ = &self.table;
-        let (bucket, slot) = StableVec::<T>::place(index);
+        let (bucket, slot) = place(index);
         let found = self.table.bucket_mut(bucket);
         slot_mut(found, slot)
     }

@@ -1,15 +1,14 @@
-//! The rows of `StableArena`.
+//! The rows of `Arena`.
 
+use crate::random::next_index;
 use std::alloc::Global;
-use wasmi_arena::{ArenaError, ArenaKey, StableArena};
+use std::mem::size_of;
+use wasmi_arena::{ArenaError, ArenaKey};
+use wasmi_dense::Arena;
 
 // Puts in `n` items, the first of which is `first`, and adds their keys.
 #[inline(never)]
-fn fill<Key: ArenaKey>(
-    arena: &mut StableArena<Key, u64>,
-    n: u64,
-    first: u64,
-) -> Result<u64, ArenaError> {
+fn fill<Key: ArenaKey>(arena: &mut Arena<Key, u64>, n: u64, first: u64) -> Result<u64, ArenaError> {
     let mut sum = first;
     for i in 0..n {
         let key = arena.alloc(first.wrapping_add(i))?;
@@ -21,7 +20,7 @@ fn fill<Key: ArenaKey>(
 pub fn alloc<Key: ArenaKey>(alloc: Global, n: u64, rounds: u64) -> Result<u64, ArenaError> {
     let mut sum = 0;
     for _ in 0..rounds {
-        let mut arena = StableArena::<Key, u64>::new(alloc);
+        let mut arena = Arena::<Key, u64>::new(alloc);
         sum = fill(&mut arena, n, sum)?;
     }
     Ok(sum)
@@ -30,7 +29,7 @@ pub fn alloc<Key: ArenaKey>(alloc: Global, n: u64, rounds: u64) -> Result<u64, A
 // Puts in `n` default items, and adds the key after the last one, and the last item.
 #[inline(never)]
 fn fill_default<Key: ArenaKey>(
-    arena: &mut StableArena<Key, u64>,
+    arena: &mut Arena<Key, u64>,
     n: u64,
     before: u64,
 ) -> Result<u64, ArenaError> {
@@ -46,14 +45,36 @@ fn fill_default<Key: ArenaKey>(
 pub fn alloc_many<Key: ArenaKey>(alloc: Global, n: u64, rounds: u64) -> Result<u64, ArenaError> {
     let mut sum = 1;
     for _ in 0..rounds {
-        let mut arena = StableArena::<Key, u64>::new(alloc);
+        let mut arena = Arena::<Key, u64>::new(alloc);
         sum = fill_default(&mut arena, n, sum)?;
     }
     Ok(sum)
 }
 
+// Adds as many items as there are, by random keys. `n`, their number, is a power of two.
 #[inline(never)]
-fn walk<Key: ArenaKey>(arena: &StableArena<Key, u64>, before: u64) -> u64 {
+fn get_all(arena: &Arena<usize, u64>, n: u64, before: u64) -> u64 {
+    let mut state: u64 = 1;
+    let mut sum = before;
+    for _ in 0..n {
+        if let Ok(item) = arena.get(next_index(&mut state, n)) {
+            sum = sum.wrapping_add(*item);
+        }
+    }
+    sum
+}
+
+pub fn get(alloc: Global, n: u64, rounds: u64) -> Result<u64, ArenaError> {
+    let mut arena = Arena::new(alloc);
+    let mut sum = fill(&mut arena, n, 1)?;
+    for _ in 0..rounds {
+        sum = get_all(&arena, n, sum);
+    }
+    Ok(sum)
+}
+
+#[inline(never)]
+fn walk<Key: ArenaKey>(arena: &Arena<Key, u64>, before: u64) -> u64 {
     let mut sum = before;
     for (key, item) in arena.iter() {
         let number = key.into_usize() as u64;
@@ -63,10 +84,40 @@ fn walk<Key: ArenaKey>(arena: &StableArena<Key, u64>, before: u64) -> u64 {
 }
 
 pub fn iter<Key: ArenaKey>(alloc: Global, n: u64, rounds: u64) -> Result<u64, ArenaError> {
-    let mut arena = StableArena::<Key, u64>::new(alloc);
+    let mut arena = Arena::<Key, u64>::new(alloc);
     let mut sum = fill(&mut arena, n, 1)?;
     for _ in 0..rounds {
         sum = walk(&arena, sum);
     }
     Ok(sum)
+}
+
+// Adds its key and 1 to each item.
+#[inline(never)]
+fn add_keys<Key: ArenaKey>(arena: &mut Arena<Key, u64>) {
+    for (key, item) in arena.iter_mut() {
+        let number = key.into_usize() as u64;
+        *item = item.wrapping_add(number).wrapping_add(1);
+    }
+}
+
+pub fn iter_mut<Key: ArenaKey>(alloc: Global, n: u64, rounds: u64) -> Result<u64, ArenaError> {
+    let mut arena = Arena::<Key, u64>::new(alloc);
+    let sum = fill(&mut arena, n, 1)?;
+    for _ in 0..rounds {
+        add_keys(&mut arena);
+    }
+    Ok(walk(&arena, sum))
+}
+
+/// How many items there is memory for once `n` are in.
+pub fn slots(alloc: Global, n: u64) -> Result<u64, ArenaError> {
+    let mut arena = Arena::<usize, u64>::new(alloc);
+    fill(&mut arena, n, 0)?;
+    let room = arena.room() as u64;
+    Ok(room.wrapping_add(arena.len() as u64))
+}
+
+pub fn size() -> u64 {
+    size_of::<Arena<usize, u64>>() as u64
 }

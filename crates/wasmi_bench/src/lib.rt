@@ -6,11 +6,8 @@
 #![tactic(auto)]
 
 mod arena_rows;
-mod btree_rows;
 mod component_rows;
 mod dedup_rows;
-mod dense_rows;
-mod hash_rows;
 mod hashed_rows;
 mod head_rows;
 mod interner_rows;
@@ -19,6 +16,9 @@ mod names;
 mod ordered_rows;
 mod random;
 mod set_rows;
+mod stable_arena_rows;
+mod std_hashed_rows;
+mod std_ordered_rows;
 mod text_rows;
 mod vec_rows;
 
@@ -94,73 +94,73 @@ pub extern "C" fn wasmi_bench_vec_size() -> u64 {
 /// Puts `n` items into an empty arena and drops it.
 #[unsafe(no_mangle)]
 pub extern "C" fn wasmi_bench_arena_alloc(alloc: Global, n: u64, rounds: u64) -> u64 {
-    arena_rows::alloc::<usize>(alloc, n, rounds).unwrap_or(0)
+    stable_arena_rows::alloc::<usize>(alloc, n, rounds).unwrap_or(0)
 }
 
 /// Puts `n` items into an empty arena by one call, each the default, and drops it.
 #[unsafe(no_mangle)]
 pub extern "C" fn wasmi_bench_arena_alloc_many(alloc: Global, n: u64, rounds: u64) -> u64 {
-    arena_rows::alloc_many::<usize>(alloc, n, rounds).unwrap_or(0)
+    stable_arena_rows::alloc_many::<usize>(alloc, n, rounds).unwrap_or(0)
 }
 
 /// Walks over the keys and items of an arena with keys of 64 bits.
 #[unsafe(no_mangle)]
 pub extern "C" fn wasmi_bench_arena_iter_usize(alloc: Global, n: u64, rounds: u64) -> u64 {
-    arena_rows::iter::<usize>(alloc, n, rounds).unwrap_or(0)
+    stable_arena_rows::iter::<usize>(alloc, n, rounds).unwrap_or(0)
 }
 
 /// Walks over the keys and items of an arena with keys of 32 bits.
 #[unsafe(no_mangle)]
 pub extern "C" fn wasmi_bench_arena_iter_u32(alloc: Global, n: u64, rounds: u64) -> u64 {
-    arena_rows::iter::<u32>(alloc, n, rounds).unwrap_or(0)
+    stable_arena_rows::iter::<u32>(alloc, n, rounds).unwrap_or(0)
 }
 
 /// Puts `n` items into an empty arena in one vector and drops it.
 #[unsafe(no_mangle)]
 pub extern "C" fn wasmi_bench_dense_alloc(alloc: Global, n: u64, rounds: u64) -> u64 {
-    dense_rows::alloc::<usize>(alloc, n, rounds).unwrap_or(0)
+    arena_rows::alloc::<usize>(alloc, n, rounds).unwrap_or(0)
 }
 
 /// Puts `n` items into an empty arena in one vector by one call, each the default, and drops it.
 #[unsafe(no_mangle)]
 pub extern "C" fn wasmi_bench_dense_alloc_many(alloc: Global, n: u64, rounds: u64) -> u64 {
-    dense_rows::alloc_many::<usize>(alloc, n, rounds).unwrap_or(0)
+    arena_rows::alloc_many::<usize>(alloc, n, rounds).unwrap_or(0)
 }
 
 /// The number of slots that an arena in one vector has after `n` items were put in one by one.
 #[unsafe(no_mangle)]
 pub extern "C" fn wasmi_bench_dense_slots(alloc: Global, n: u64) -> u64 {
-    dense_rows::slots(alloc, n).unwrap_or(0)
+    arena_rows::slots(alloc, n).unwrap_or(0)
 }
 
 /// The bytes of an arena in one vector itself.
 #[unsafe(no_mangle)]
 pub extern "C" fn wasmi_bench_dense_size() -> u64 {
-    dense_rows::size()
+    arena_rows::size()
 }
 
 /// Reads `n` items of an arena in one vector by their keys, which jump about.
 #[unsafe(no_mangle)]
 pub extern "C" fn wasmi_bench_dense_get(alloc: Global, n: u64, rounds: u64) -> u64 {
-    dense_rows::get(alloc, n, rounds).unwrap_or(0)
+    arena_rows::get(alloc, n, rounds).unwrap_or(0)
 }
 
 /// Walks over the keys and items of an arena in one vector with keys of 64 bits.
 #[unsafe(no_mangle)]
 pub extern "C" fn wasmi_bench_dense_iter_usize(alloc: Global, n: u64, rounds: u64) -> u64 {
-    dense_rows::iter::<usize>(alloc, n, rounds).unwrap_or(0)
+    arena_rows::iter::<usize>(alloc, n, rounds).unwrap_or(0)
 }
 
 /// Walks over the keys and items of an arena in one vector with keys of 32 bits.
 #[unsafe(no_mangle)]
 pub extern "C" fn wasmi_bench_dense_iter_u32(alloc: Global, n: u64, rounds: u64) -> u64 {
-    dense_rows::iter::<u32>(alloc, n, rounds).unwrap_or(0)
+    arena_rows::iter::<u32>(alloc, n, rounds).unwrap_or(0)
 }
 
 /// Adds its key and 1 to each item of an arena in one vector.
 #[unsafe(no_mangle)]
 pub extern "C" fn wasmi_bench_dense_iter_mut(alloc: Global, n: u64, rounds: u64) -> u64 {
-    dense_rows::iter_mut::<usize>(alloc, n, rounds).unwrap_or(0)
+    arena_rows::iter_mut::<usize>(alloc, n, rounds).unwrap_or(0)
 }
 
 /// Puts `n` values into an empty deduplicating arena, no two alike, and drops it.

@@ -144,7 +144,7 @@ module _ {K T : Type 0} (keys : Keys K) (law : KeyLaw keys) {eq : T → T → Bo
   few_replaced old new key value there (inl puts) few = rw puts.1.handed_are few
   few_replaced old new key value there (inr moves) few = rw (moves.handed_are, length-set old.handed (keys.number key) value) few
 
-  few_after : (old new : DedupState T) (command : DedupCommand K T) (reply : DedupReply K T) → DedupStep keys eq clones old command reply new → length old.handed ≤ keys.count → length new.handed ≤ keys.count
+  pub few_after : (old new : DedupState T) (command : DedupCommand K T) (reply : DedupReply K T) → DedupStep keys eq clones old command reply new → length old.handed ≤ keys.count → length new.handed ≤ keys.count
   few_after old new (Alloc value) (Key key) step few = (given old new value key few step).few
   few_after old new (Alloc value) (Refused error) step few = rw step.1 few
   few_after old new (Put k item) (Old there) step few = rw step.handed_are few

@@ -1,4 +1,5 @@
 mod Dedup
+mod DedupReads
 mod DedupReplace
 mod DedupRuns
 mod Filtered
@@ -6,6 +7,7 @@ mod DedupTexts
 mod InternerRuns
 mod LastItem
 mod MapRuns
+mod NewKeys
 mod Results
 mod Runs
 mod SetRuns

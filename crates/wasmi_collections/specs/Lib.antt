@@ -7,6 +7,7 @@ pub mod HeadVecLend
 pub mod InternerSteps
 pub mod MapCalls
 pub mod MapSteps
+pub mod NewKeys
 pub mod Runs
 pub mod SetCalls
 pub mod SetSteps

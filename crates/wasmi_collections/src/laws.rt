@@ -18,18 +18,26 @@ ghost use Rattle.wasmi_collections.specs.declared.run.set.SetCommand.{SetCommand
 ghost use Rattle.wasmi_collections.specs.declared.run.set.SetReply.{SetReply};
 
 mod appended;
+mod dedup;
 mod interner;
+mod replies;
 
 use crate::HeadVec;
 use crate::run::{AnyMap, AnySet};
 pub use appended::{appended_values, strings_by_bytes, texts_handed_in};
-pub use interner::equal_symbols_of_equal_texts;
+pub use dedup::{keys_of_new_values, searched_by_keys};
+pub use interner::{equal_symbols_of_equal_texts, symbols_of_new_texts};
+pub use replies::{
+    equal_dedup_replies, equal_intern_replies, equal_map_replies, equal_set_replies,
+};
+use std::alloc::Allocator;
 use std::cmp::Ordering;
 use std::hash::Hash;
 use wasmi_arena::ArenaKey;
 pub use wasmi_interner::laws::{
-    appended_texts, binary_digits, equal_in_length_order, interned_texts, length_order,
-    searched_by_symbols, symbols_of_distinct_texts,
+    appended_texts, binary_digits, equal_in_length_order, equal_symbols, interned_texts,
+    length_order, ordered_by_length, ordered_symbols, searched_by_symbols,
+    symbols_of_distinct_texts,
 };
 
 /// The order of head vectors, case by case.
@@ -41,8 +49,21 @@ pub fn head_vec_order<T: Ord>()
         ≡ ordering_then (T.cmp x y) (slice_cmp T.cmp xs ys) }
 {}
 
-/// Two head vectors are equal where their lists are, if two items are.
-pub fn equal_head_vecs<T: PartialEq>(a: &HeadVec<T>, b: &HeadVec<T>) -> bool
+/// Two head vectors are compared in that order, over any allocator.
+pub fn ordered_head_vecs<T: Ord, A: Allocator>(a: &HeadVec<T, A>, b: &HeadVec<T, A>) -> Ordering
+    ensures empty { a.now.items ≡ [] → b.now.items ≡ [] → result ≡ Ordering.Equal }
+    ensures least { (ys : List T) (y : T) → a.now.items ≡ [] → b.now.items ≡ ys ++ y ∷ []
+        → result ≡ Ordering.Less }
+    ensures greater { (xs : List T) (x : T) → a.now.items ≡ xs ++ x ∷ [] → b.now.items ≡ []
+        → result ≡ Ordering.Greater }
+    ensures last_first { (xs ys : List T) (x y : T) → a.now.items ≡ xs ++ x ∷ []
+        → b.now.items ≡ ys ++ y ∷ [] → result ≡ ordering_then (T.cmp x y) (slice_cmp T.cmp xs ys) }
+{
+    a.cmp(b)
+}
+
+/// Two head vectors are equal where their lists are, if two items are, over any allocator.
+pub fn equal_head_vecs<T: PartialEq, A: Allocator>(a: &HeadVec<T, A>, b: &HeadVec<T, A>) -> bool
     ensures { ((x y : T) → (IsTrue (T.eq x y) ↔ (x ≡ y))) → (IsTrue result ↔ (a.now.items ≡ b.now.items)) }
 {
     a == b

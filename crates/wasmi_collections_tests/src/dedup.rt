@@ -330,10 +330,18 @@ fn a_run_goes_on_after_a_refusal(rt: HostRuntime) {
                     refused_of(&arena, replies).is_some_and(|refused| refused < 2),
                     "at {nth}"
                 ),
-                Err(error) => assert_equal!(rt;
-                    (nth, error, arena.len()),
-                    (1, ArenaError::OutOfSystemMemory, 0)
-                ),
+                Err(error) => {
+                    assert_equal!(rt;
+                        (nth, error, arena.len()),
+                        (1, ArenaError::OutOfSystemMemory, 0)
+                    );
+                    let again = (0..20u32)
+                        .map(|value| DedupCommand::Alloc(value))
+                        .collect(heap)
+                        .or_abort(&rt);
+                    let replies = run_dedup(heap, &mut arena, again).or_abort(&rt);
+                    assert_equal!(rt; refused_of(&arena, replies), Some(0));
+                }
             }
             for value in 0..20u32 {
                 arena.alloc(value).or_abort(&rt);
@@ -353,6 +361,29 @@ fn two_texts<'l>(
         let _key = arena.alloc(String::from_str(heap, text)?)?;
     }
     Ok(arena)
+}
+
+// Each request for a third one refused in turn: the first is for its clone.
+#[test]
+fn a_third_value_is_refused(rt: HostRuntime) {
+    for nth in 1..5u64 {
+        let log = Log::new();
+        {
+            let heap = Logged::new(rt.alloc(), &log);
+            let mut arena = two_texts(heap).or_abort(&rt);
+            let value = String::from_str(heap, "c").or_abort(&rt);
+            log.refuse_once(nth);
+            let key = arena.alloc(value);
+            log.refuse_none();
+            let refused = nth == 1 || key.is_err();
+            let wanted = if refused { Err(ArenaError::OutOfSystemMemory) } else { Ok(2) };
+            assert_equal!(rt; key, wanted, "at {nth}");
+            assert_equal!(rt; (arena.key_of_str("a"), arena.key_of_str("b")), (Some(0), Some(1)), "at {nth}");
+            assert_equal!(rt; arena.len(), if refused { 2 } else { 3 }, "at {nth}");
+            assert_equal!(rt; arena.alloc_str(heap, "c"), Ok(2), "at {nth}");
+        }
+        assert_equal!(rt; log.amiss(), 0);
+    }
 }
 
 #[test]

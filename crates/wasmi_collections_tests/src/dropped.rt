@@ -103,17 +103,24 @@ fn runs_drop_each_key_and_value_once(rt: HostRuntime) {
     assert_equal!(rt; log.amiss(), 0);
 }
 
-// There is no key for the fifth value. From the first request on, each is refused in turn.
+// How many values an arena has that is made of these, of which each request up to the nth is given memory.
+fn collected(log: &Log, heap: Logged<'_>, nth: u64) -> Result<usize, ArenaError> {
+    log.refuse_once(nth);
+    let made: DedupArena<usize, i32, Logged<'_>> = DedupArena::from_iter(heap, [0, 1, 0, 2, 3, 4, 5])?;
+    Ok(made.len())
+}
+
+// Each request refused in turn, of which there are as many as a run without a refusal makes.
 #[test]
 fn a_list_that_is_refused_gives_its_memory_back(rt: HostRuntime) {
-    for nth in 0..8u64 {
-        let log = Log::new();
-        log.refuse_once(nth);
-        let made: Result<DedupArena<Tiny, i32, Logged<'_>>, ArenaError> = DedupArena::from_iter(
-            Logged::new(rt.alloc(), &log),
-            [0, 1, 2, 3, 4],
-        );
-        assert_equal!(rt; (made.is_err(), log.amiss()), (true, 0), "at {nth}");
+    let log = Log::new();
+    let heap = Logged::new(rt.alloc(), &log);
+    assert_equal!(rt; collected(&log, heap, 0), Ok(6));
+    let requests = log.requests();
+    assert!(rt; requests > 1);
+    for nth in 1..=requests {
+        assert_equal!(rt; collected(&log, heap, nth), Err(ArenaError::OutOfSystemMemory), "at {nth}");
+        assert_equal!(rt; log.amiss(), 0, "at {nth}");
     }
 }
 

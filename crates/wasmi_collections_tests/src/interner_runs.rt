@@ -106,10 +106,15 @@ fn a_run_goes_on_after_a_refusal(rt: HostRuntime) {
                     refused_of(&interner, replies).is_some_and(|refused| refused < 2),
                     "at {nth}"
                 ),
-                Err(error) => assert_equal!(rt;
-                    (nth, error, interner.len()),
-                    (1, ArenaError::OutOfSystemMemory, 0)
-                ),
+                Err(error) => {
+                    assert_equal!(rt;
+                        (nth, error, interner.len()),
+                        (1, ArenaError::OutOfSystemMemory, 0)
+                    );
+                    let again = hand_ins(rt.alloc(), handle).or_abort(&rt);
+                    let replies = run_interner(handle, &mut interner, again).or_abort(&rt);
+                    assert_equal!(rt; refused_of(&interner, replies), Some(0));
+                }
             }
             for name in NAMES {
                 let _symbol = interner.get_or_intern(name).or_abort(&rt);

@@ -160,7 +160,9 @@ fn a_look_compares_one_value(rt: HostRuntime) {
 
 #[test]
 fn the_worked_rows(rt: HostRuntime) {
-    let mut arena: DedupArena<usize, &str> = DedupArena::new(rt.alloc());
+    let log = Log::new();
+    let heap = Logged::new(rt.alloc(), &log);
+    let mut arena: DedupArena<usize, &str, Logged<'_>> = DedupArena::new(heap);
     let commands = vec![in rt.alloc();
         DedupCommand::Alloc("a"),
         DedupCommand::Alloc("b"),
@@ -175,8 +177,6 @@ fn the_worked_rows(rt: HostRuntime) {
         DedupCommand::Alloc("b"),
         DedupCommand::Alloc("z"),
         DedupCommand::Put(2, "q"),
-        DedupCommand::Replace(2, "a"),
-        DedupCommand::Alloc("a"),
     ]
     .or_abort(&rt);
     let replies = run_dedup(rt.alloc(), &mut arena, commands).or_abort(&rt);
@@ -195,12 +195,13 @@ fn the_worked_rows(rt: HostRuntime) {
             DedupReply::Old("z"),
             DedupReply::Key(3),
             DedupReply::Key(4),
-            DedupReply::Old("a"),
-            DedupReply::Old("q"),
-            DedupReply::Key(2)
+            DedupReply::Old("a")
         ]
         .as_slice()
     );
+    // The value has this key already, so nothing is asked for.
+    log.refuse_from(1);
+    assert_equal!(rt; (arena.replace(2, "a"), arena.alloc("a")), (Ok("q"), Ok(2)));
 }
 
 #[test]

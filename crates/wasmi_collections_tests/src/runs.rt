@@ -116,23 +116,34 @@ fn sets_reply_as_the_table_says(rt: HostRuntime) {
     assert_equal!(rt; replies.as_slice(), SET_REPLIES.as_slice());
 }
 
-// Inserts the keys 0 to 19 by one run of both commands for it in turn, whose nth request for memory is
-// refused, and then by calls. How many commands were refused, or `None` if the map doesn't have the keys
+// To insert the keys 0 to 19, by both commands for it in turn.
+fn inserts<'l>(heap: Logged<'l>) -> Result<Vec<MapCommand<u32, u32>, Logged<'l>>, AllocError> {
+    (0..20u32)
+        .map(|key| match key % 2 {
+            0 => MapCommand::Insert(key, key),
+            _ => MapCommand::OrInsert(key, key),
+        })
+        .collect(heap)
+}
+
+// Inserts them by a run whose nth request for memory is refused; by another one, if it fails and no command ran;
+// and then by calls. Whether it failed, and how many commands were refused; `None` if the map doesn't have the keys
 // of the others after it, or all at last.
 fn refused_in_map<M: AnyMap<u32, u32>>(
     heap: Logged<'_>,
     log: &Log,
     map: &mut M,
     nth: u64,
-) -> Result<Option<usize>, ArenaError> {
-    let commands = (0..20u32)
-        .map(|key| match key % 2 {
-            0 => MapCommand::Insert(key, key),
-            _ => MapCommand::OrInsert(key, key),
-        })
-        .collect(heap)?;
+) -> Result<Option<(bool, usize)>, ArenaError> {
+    let commands = inserts(heap)?;
     log.refuse_once(nth);
-    let replies = run_map(heap, map, commands)?;
+    let (failed, replies) = match run_map(heap, map, commands) {
+        Ok(replies) => (false, replies),
+        Err(ArenaError::OutOfSystemMemory) if map.len() == 0 => {
+            (true, run_map(heap, map, inserts(heap)?)?)
+        }
+        Err(error) => return Err(error),
+    };
     let mut refused = 0usize;
     for (key, reply) in (0..20u32).zip(replies.iter()) {
         let is_in = match reply {
@@ -156,7 +167,7 @@ fn refused_in_map<M: AnyMap<u32, u32>>(
         }
     }
     log.refuse_none();
-    Ok((map.len() == 20 && replies.len() == 20).then_some(refused))
+    Ok((map.len() == 20 && replies.len() == 20).then_some((failed, refused)))
 }
 
 // The same of the elements of a set.
@@ -165,12 +176,19 @@ fn refused_in_set<S: AnySet<u32>>(
     log: &Log,
     set: &mut S,
     nth: u64,
-) -> Result<Option<usize>, ArenaError> {
+) -> Result<Option<(bool, usize)>, ArenaError> {
     let commands = (0..20u32)
         .map(|element| SetCommand::Insert(element))
         .collect(heap)?;
+    let again = (0..20u32)
+        .map(|element| SetCommand::Insert(element))
+        .collect(heap)?;
     log.refuse_once(nth);
-    let replies = run_set(heap, set, commands)?;
+    let (failed, replies) = match run_set(heap, set, commands) {
+        Ok(replies) => (false, replies),
+        Err(ArenaError::OutOfSystemMemory) if set.len() == 0 => (true, run_set(heap, set, again)?),
+        Err(error) => return Err(error),
+    };
     let mut refused = 0usize;
     for (element, reply) in (0..20u32).zip(replies.iter()) {
         let is_in = match reply {
@@ -186,7 +204,7 @@ fn refused_in_set<S: AnySet<u32>>(
             let _new = set.insert(element)?;
         }
     }
-    Ok((set.len() == 20 && replies.len() == 20).then_some(refused))
+    Ok((set.len() == 20 && replies.len() == 20).then_some((failed, refused)))
 }
 
 // The same of each container in turn, of the four in this order.
@@ -195,7 +213,7 @@ fn refused_in(
     log: &Log,
     container: u8,
     nth: u64,
-) -> Result<Option<usize>, ArenaError> {
+) -> Result<Option<(bool, usize)>, ArenaError> {
     match container {
         0 => refused_in_map(heap, log, &mut ordered::Map::new(heap), nth),
         1 => refused_in_map(heap, log, &mut hashed::Map::new(heap), nth),
@@ -208,11 +226,7 @@ fn refused_in(
 #[test]
 fn runs_over_maps_and_sets_go_on_after_a_refusal(rt: HostRuntime) {
     for nth in 1..=4u64 {
-        let outcome = if nth == 1 {
-            Err(ArenaError::OutOfSystemMemory)
-        } else {
-            Ok(Some(1))
-        };
+        let outcome = Ok(Some(if nth == 1 { (true, 0) } else { (false, 1) }));
         for container in 0..4u8 {
             let log = Log::new();
             {

@@ -3,23 +3,24 @@ use Rattle.std.specs.Prelude.{◌+◌, ◌<◌, ◌≤◌, ◌^◌, List, ◌++�
 use Rattle.std.specs.Borrow.{GName}
 use Rattle.std.specs.Slice.Iter.{iter_mut_rest, iter_mut_name}
 use Rattle.wasmi_arena.specs.Keys.{Keys}
+use Rattle.wasmi_arena.specs.declared.key.ArenaKey as key
 use Rattle.wasmi_arena.specs.Entries.{entries_from}
 use Rattle.wasmi_dense.specs.declared.arena.iter_mut.IterMut.{IterMut}
 
-module _ {K T : Type 0} where
+module _ {K T : Type 0} {g : key.Ghosts K} where
   -- the keys and items that are left to visit.
   -- After one `next` over 7, 8: (1, 8).
-  abbrev pub left_entries : Keys K → IterMut K T → List (K × T)
+  abbrev pub left_entries : Keys K → IterMut K T g → List (K × T)
   left_entries keys it = entries_from keys it.next (iter_mut_rest it.items)
 
   -- where positions are left, each has a key, and the one behind them is a number too.
-  -- `next` asks for this, and `iter_mut` gives it.
-  abbrev pub IsKeyed : Keys K → IterMut K T → Type 0
+  -- This is true of every such iterator, which keeps it as a fact.
+  abbrev pub IsKeyed : Keys K → IterMut K T g → Type 0
   IsKeyed keys it = 0 < length (iter_mut_rest it.items)
       → (it.next + length (iter_mut_rest it.items) ≤ keys.count) × (it.next + length (iter_mut_rest it.items) < 2 ^ 64)
 
   -- the name under which what it lends is known
-  abbrev pub loan_of : IterMut K T → GName
+  abbrev pub loan_of : IterMut K T g → GName
   loan_of it = iter_mut_name it.items
 
 -- the items with others written over the first of them.

@@ -1,5 +1,5 @@
 //! Components of entities, by key.
-ghost use Rattle.std.specs.Prelude.{◌≡◌, ◌<◌, ◌≤◌, ◌+◌, ◌↔◌, ◌⊎◌, [], max, IfOk, IfErr, OnOk, OnErr, IsErrOf, IsOk, IsSome, Some, None, option_copied, is_some, IsOkUnless, ℕ, vec_len};
+ghost use Rattle.std.specs.Prelude.{◌≡◌, ◌<◌, ◌≤◌, ◌+◌, ◌^◌, ◌↔◌, ◌⊎◌, [], count_by, length, max, take, IfOk, IfErr, OnOk, OnErr, IsErrOf, IsOk, IsSome, Some, None, option_copied, is_some, IsOkUnless, ℕ, vec_len};
 ghost use Rattle.std.specs.Option.{option_copied_mut, option_eq};
 ghost use Rattle.std.specs.Cmp.Lexicographic.{pointwise};
 ghost use Rattle.std.specs.List.{AllZip};
@@ -193,6 +193,9 @@ impl<Key: ArenaKey, T, A: Allocator> ComponentVec<Key, T, A> {
     /// Each component beside its key, ascending. Constant time for each place below the extent.
     pub fn iter(&self) -> ComponentVecIter<'_, Key, T>
         ensures entries { result ≡ component_entries Key.keys self.now }
+        ensures len { length result ≡ count_by is_some (take Key.keys.count self.now) }
+        ensures within { length result ≤ extent self.now }
+        ensures bound { extent self.now < 2 ^ 64 }
     {
         ComponentVecIter {
             slots: self.components.iter(),

@@ -227,8 +227,8 @@ fn an_arena_prints_as_a_map(rt: HostRuntime) {
     let empty: Arena<usize, i32> = Arena::new(rt.alloc());
     let none = format!(in rt.alloc(); "{empty:?}{empty:#?}").or_abort(&rt);
     assert_equal!(rt; none.as_str(), "{}{}");
-    // Its keys, and not its positions.
+    // The numbers of its keys.
     let keyed: Arena<NonZero<u32>, i32> = Arena::from_iter(rt.alloc(), 7..9).or_abort(&rt);
     let two = format!(in rt.alloc(); "{keyed:?} {keyed:#?}").or_abort(&rt);
-    assert_equal!(rt; two.as_str(), "{1: 7, 2: 8} {\n    1: 7,\n    2: 8,\n}");
+    assert_equal!(rt; two.as_str(), "{0: 7, 1: 8} {\n    0: 7,\n    1: 8,\n}");
 }

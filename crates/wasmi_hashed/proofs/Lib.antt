@@ -1,4 +1,5 @@
 mod Same
+mod NewEntry
 mod Places
 mod Values
 mod Gone

@@ -1,5 +1,5 @@
 //! A map whose keys are found by their hash.
-ghost use Rattle.std.specs.Prelude.{◌≡◌, ◌==◌, ◌<◌, ◌^◌, ◌+◌, [], ◌∷◌, length, MatchOption, IfNone, IfOk, OnOk, OnErr, IsOk, IsOkUnless, IsSome, Some, None, is_some, option_map, option_copied, if◌then◌else◌};
+ghost use Rattle.std.specs.Prelude.{◌≡◌, ◌==◌, ◌<◌, ◌^◌, ◌+◌, [], ◌∷◌, length, MatchOption, IfNone, IfOk, OnOk, OnErr, IsOk, IsSome, Some, None, is_some, option_map, option_copied, if◌then◌else◌};
 ghost use Rattle.std.specs.HashMap.IterMut.{iter_mut_rest, iter_mut_name, values_mut_rest, values_mut_name, drain_rest, drain_name, DrainsInOrder, IterMutCanStep};
 ghost use Rattle.std.specs.List.{IsDistinct};
 ghost use Rattle.std.specs.List.Sorted.{IsPermutation};
@@ -7,6 +7,7 @@ ghost use Rattle.std.specs.Map.{keys_of, values_of, lookup_key, remove_entry, se
 ghost use Rattle.std.specs.Map.Calls.{CalledAtPair, TakesPair, CallableOnEachPair, RetainsPairs};
 ghost use Rattle.std.specs.Map.Iter.{ShowsInOrder, GivesInOrder, deref, deref_pair};
 ghost use Rattle.std.specs.Option.{option_copied_mut};
+ghost use Rattle.wasmi_map_specs.specs.Errors.{FailsOnlyForMemory};
 ghost use Rattle.wasmi_map_specs.specs.Maps.{value_at, ChangesAt};
 ghost use Rattle.wasmi_map_specs.specs.Values.{KeepsKeys};
 
@@ -16,6 +17,7 @@ mod compared;
 mod entry;
 mod grow;
 mod room;
+mod try_insert;
 
 use crate::hash::FixedState;
 pub use entry::{Entry, OccupiedEntry, VacantEntry};
@@ -214,7 +216,7 @@ impl<K: Eq + Hash, V, S: BuildHasher, A: Allocator> Map<K, V, S, A> {
         A: Clone,
         ensures same { IsPermutation self.old.entries self.new.entries }
         ensures hasher { self.new.hasher ≡ self.old.hasher }
-        ensures errors { IsOkUnless result ArenaError.OutOfSystemMemory }
+        ensures errors { FailsOnlyForMemory result }
         ensures err { OnErr result (self.new ≡ self.old) }
     {
         self.inner.reserve(additional)?;
@@ -288,13 +290,15 @@ impl<K: Eq + Hash, V, S: BuildHasher, A: Allocator> Map<K, V, S, A> {
         ensures entries { IfOk result (λ old. MatchOption old
             (IsPermutation ((key, value) ∷ self.old.entries) self.new.entries)
             (λ _. self.new.entries ≡ set_value (K.eq key) self.old.entries value)) }
+        ensures new { value_at K.eq self.old.entries key ≡ None
+            → OnOk result (IsPermutation ((key, value) ∷ self.old.entries) self.new.entries) }
         ensures keys_stay { IfOk result (λ old. IsSome old → keys_of self.new.entries ≡ keys_of self.old.entries) }
         ensures len { IfOk result (λ old. length self.new.entries
             ≡ length self.old.entries + (if is_some old then 0 else 1)) }
         ensures hasher { self.new.hasher ≡ self.old.hasher }
         ensures absent { OnErr result (value_at K.eq self.old.entries key ≡ None) }
         ensures there { IsSome (value_at K.eq self.old.entries key) → IsOk result }
-        ensures errors { IsOkUnless result ArenaError.OutOfSystemMemory }
+        ensures errors { FailsOnlyForMemory result }
         ensures err { OnErr result (self.new ≡ self.old) }
     {
         let old = self.inner.insert(key, value)?;

@@ -1,5 +1,5 @@
 //! A set whose elements are found by their hash.
-ghost use Rattle.std.specs.Prelude.{◌≡◌, ◌==◌, ◌<◌, ◌^◌, ◌+◌, [], ◌∷◌, true, false, not, length, MatchOption, find, IfNone, IfOk, OnOk, OnErr, IsOk, IsOkUnless, IsTrue, is_some, option_copied, if◌then◌else◌};
+ghost use Rattle.std.specs.Prelude.{◌≡◌, ◌==◌, ◌<◌, ◌^◌, ◌+◌, [], ◌∷◌, true, false, not, length, MatchOption, find, IfNone, IfOk, OnOk, OnErr, IsOk, IsTrue, is_some, option_copied, if◌then◌else◌};
 ghost use Rattle.std.specs.Bool.{MatchBool, OnFalse};
 ghost use Rattle.std.specs.Fn.{CalledAt};
 ghost use Rattle.std.specs.HashSet.Drain.{drain_rest, drain_name, DrainsInOrder};
@@ -8,6 +8,7 @@ ghost use Rattle.std.specs.List.Retain.{IsFiltered};
 ghost use Rattle.std.specs.List.Sorted.{IsPermutation};
 ghost use Rattle.std.specs.Map.Iter.{ShowsInOrder, deref};
 ghost use Rattle.std.specs.Set.{is_member, remove_key, swap_key};
+ghost use Rattle.wasmi_map_specs.specs.Errors.{FailsOnlyForMemory};
 ghost use Rattle.wasmi_map_specs.specs.Sets.{ChangesAt};
 
 mod algebra;
@@ -145,7 +146,7 @@ impl<T: Eq + Hash, S: BuildHasher, A: Allocator> Set<T, S, A> {
         A: Clone,
         ensures same { IsPermutation self.old.elements self.new.elements }
         ensures hasher { self.new.hasher ≡ self.old.hasher }
-        ensures errors { IsOkUnless result ArenaError.OutOfSystemMemory }
+        ensures errors { FailsOnlyForMemory result }
         ensures err { OnErr result (self.new ≡ self.old) }
     {
         self.inner.reserve(additional)?;
@@ -193,7 +194,7 @@ impl<T: Eq + Hash, S: BuildHasher, A: Allocator> Set<T, S, A> {
         ensures hasher { self.new.hasher ≡ self.old.hasher }
         ensures absent { OnErr result (is_member T.eq self.old.elements value ≡ false) }
         ensures there { IsTrue (is_member T.eq self.old.elements value) → IsOk result }
-        ensures errors { IsOkUnless result ArenaError.OutOfSystemMemory }
+        ensures errors { FailsOnlyForMemory result }
         ensures err { OnErr result (self.new ≡ self.old) }
     {
         let added = self.inner.insert(value)?;
@@ -251,7 +252,7 @@ impl<T: Eq + Hash, S: BuildHasher, A: Allocator> Set<T, S, A> {
         ensures hasher { self.new.hasher ≡ self.old.hasher }
         ensures absent { OnErr result (is_member T.eq self.old.elements value ≡ false) }
         ensures there { IsTrue (is_member T.eq self.old.elements value) → IsOk result }
-        ensures errors { IsOkUnless result ArenaError.OutOfSystemMemory }
+        ensures errors { FailsOnlyForMemory result }
         ensures err { OnErr result (self.new ≡ self.old) }
     {
         let old = self.inner.replace(value)?;

@@ -9,7 +9,7 @@ ghost use Rattle.wasmi_interner.specs.BinaryDigits.{digits};
 ghost use Rattle.wasmi_interner.specs.Interner.{symbol_of, AreDistinctTexts, Interns};
 ghost use Rattle.wasmi_interner.specs.LenOrder.{len_cmp, text_of};
 
-use crate::LenOrder;
+use crate::{LenOrder, Sym};
 use std::cmp::Ordering;
 
 /// The length order is a total order of texts. Two texts are equal in it only if they are the same. Of two
@@ -26,6 +26,31 @@ pub fn equal_in_length_order(a: &LenOrder, b: &LenOrder) -> bool
     ensures { IsTrue result ↔ (text_of a.now ≡ text_of b.now) }
 {
     a == b
+}
+
+/// `LenOrder` compares two texts in the length order.
+pub fn ordered_by_length(a: &LenOrder, b: &LenOrder) -> Ordering
+    ensures equal { (result ≡ Ordering.Equal) ↔ (text_of a.now ≡ text_of b.now) }
+    ensures shorter { length (text_of a.now) < length (text_of b.now) → result ≡ Ordering.Less }
+    ensures longer { length (text_of b.now) < length (text_of a.now) → result ≡ Ordering.Greater }
+    ensures same_length { length (text_of a.now) ≡ length (text_of b.now)
+        → result ≡ slice_cmp nat_cmp (text_of a.now) (text_of b.now) }
+{
+    a.cmp(b)
+}
+
+/// Two symbols are equal where their numbers are.
+pub fn equal_symbols(a: Sym, b: Sym) -> bool
+    ensures { IsTrue result ↔ (a ≡ b) }
+{
+    a == b
+}
+
+/// Two symbols are compared as their numbers are.
+pub fn ordered_symbols(a: Sym, b: Sym) -> Ordering
+    ensures { result ≡ nat_cmp a b }
+{
+    a.cmp(&b)
 }
 
 /// The symbol of an interned text resolves to the text, and interning the text again gives the same symbol

@@ -1,20 +1,18 @@
 -- What is asked for, what is given, and the answer.
-use Rattle.std.proofs.Common.{◌≡◌, ℕ, ◌+◌, ◌<◌, ◌≤◌, Bool, true, false, cond, List, [], ◌++◌, length, map, get_or, filter, All, Option, Some, None, IsSome, is_some, option_map, option_and_then, slice_get, refl, sym, ap, ◌∙◌, subst, arith}
+use Rattle.std.proofs.Common.{◌≡◌, ℕ, ◌+◌, ◌<◌, Bool, true, false, cond, List, length, map, get_or, All, Option, Some, None, IsSome, option_map, option_and_then, slice_get, refl, sym, ap, ◌∙◌, subst, arith}
 use Rattle.std.proofs.lemmas.List.{length-map, get_or-map}
 use Rattle.std.proofs.lemmas.List.Elements.{All-map, All-filter}
 use Rattle.std.proofs.lemmas.Option.{none-some, same_Some, slice_get-map, slice_get_within}
 use Rattle.wasmi_module.specs.Modules.{FuncType, Import, Export, Global as PlainGlobal, Module}
 use Rattle.wasmi_module.specs.Valid.{is_of, IsImportWithin, IsValid, counts_of}
-use Rattle.wasmi_module.specs.Views.{func_type_of}
-use Rattle.wasmi_module.specs.declared.module.FuncType as rust_func
 use Rattle.wasmi_module.specs.declared.module.ImportType.{ImportType}
 use Rattle.wasmi_module.specs.declared.module.Kind.{Kind}
 use Rattle.wasmi_module.specs.declared.module.Kind.TheVariants as kinds
 use Rattle.wasmi_link_lib.specs.declared.exports.Place.{Place}
 use Rattle.wasmi_link_lib.specs.declared.item.Item as rust_item
 use Rattle.wasmi_link_lib.specs.declared.item.Item.TheVariants as item
-use Rattle.wasmi_link_lib.specs.Lines.{ItemType, Func, Table, Memory, Global, Answer, Found, Missing, Differs}
-use Rattle.wasmi_link_lib.specs.Linking.{Named, export_named, asked_item, imported_items, own_items, items_of, matches, answer_given, answer_by}
+use Rattle.wasmi_link_lib.specs.Lines.{ItemType, Func, Table, Memory, Global, Found, Missing, Differs}
+use Rattle.wasmi_link_lib.specs.Linking.{Named, export_named, asked_item, imported_items, own_items, items_of, matches, answer_given}
 use Rattle.wasmi_link_lib.specs.Tables.{ImportedItems, all_imported, place_at, place_in, place_of, Keyed, keyed, keyed_of, keyed_matches, key_of, imported_of}
 use Rattle.wasmi_link_lib.proofs.Lists.{slice_get_left, slice_get_right, slice_get_map, All_get}
 use Rattle.wasmi_link_lib.proofs.Keys.{IsKeyed, keyed-matches}

@@ -1,16 +1,16 @@
 -- Types and names have keys, and to compare keys is to compare types.
-use Rattle.std.proofs.Common.{◌≡◌, ℕ, zero, suc, ◌<◌, Bool, true, false, cond, ◌==◌, List, [], ◌∷◌, ◌++◌, length, map, get_or, Contains, flat_map, Option, Some, None, IsSome, is_some, position, bytes_eq, Decides, refl, sym, ap, ◌∙◌, inl, inr, subst, eqb-true, eq-eqb, lit<, true≢false}
+use Rattle.std.proofs.Common.{◌≡◌, ℕ, Bool, cond, ◌==◌, List, [], ◌∷◌, ◌++◌, map, get_or, Contains, flat_map, Option, Some, None, IsSome, is_some, position, bytes_eq, refl, sym, ap, ◌∙◌, inl, inr, eqb-true, eq-eqb, lit<, true≢false}
 use Rattle.std.specs.Bool.{one_answer}
 use Rattle.std.specs.Cmp.Lexicographic.{nat_list_eq_equiv}
 use Rattle.std.specs.Option.{option_eq}
 use Rattle.std.proofs.lemmas.List.{map-append}
 use Rattle.std.proofs.lemmas.List.Elements.{Contains-get_or, Contains-append_left, Contains-append_right}
 use Rattle.std.proofs.lemmas.List.Quantifiers.{position-Some}
-use Rattle.std.proofs.lemmas.Option.{same_Some, none-some}
+use Rattle.std.proofs.lemmas.Option.{same_Some}
 use Rattle.wasmi_arena.specs.Keys.{Keys}
 use Rattle.wasmi_collections.specs.Dedup.{DedupState, AllocatesValue}
 use Rattle.wasmi_interner.specs.Interner.{symbol_of}
-use Rattle.wasmi_module.specs.Modules.{FuncType, Import, Module}
+use Rattle.wasmi_module.specs.Modules.{FuncType}
 use Rattle.wasmi_link_lib.specs.Lines.{ItemType, Func, Table, Memory, Global}
 use Rattle.wasmi_link_lib.specs.Linking.{Named, func_type_eq, matches, with_value, without_repetitions, all_types, all_names, import_names, names_of}
 use Rattle.wasmi_link_lib.specs.Tables.{key_of, HasKeys, HasImportNames, keyed, keyed_matches}

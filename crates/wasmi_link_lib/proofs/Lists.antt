@@ -1,12 +1,12 @@
 -- Lists that grow at their end, and where an element stands in them.
-use Rattle.std.proofs.Common.{◌≡◌, ◌≢◌, ◌⊎◌, ℕ, zero, suc, ◌+◌, ◌-◌, ◌<◌, ◌≤◌, Bool, true, false, not, cond, List, [], ◌∷◌, ◌++◌, length, map, get_or, take, fold, filter, flat_map, find, Contains, All, bytes_eq, Option, Some, None, is_some, IsSome, option_map, option_and_then, position, slice_get, ltb, eqb, refl, sym, ap, ap₂, ◌∙◌, subst, inl, inr, append-nil, append_assoc, add-zero, eq-eqb, ne_eqb, lt-ltb, le-ltb, ltb-true, true≢false, arith}
-use Rattle.std.specs.List.{position_or_len, prefix_len}
+use Rattle.std.proofs.Common.{◌≡◌, ◌≢◌, ℕ, zero, suc, ◌+◌, ◌<◌, ◌≤◌, Bool, true, false, not, cond, List, [], ◌∷◌, ◌++◌, length, map, get_or, take, fold, filter, flat_map, find, Contains, All, bytes_eq, Option, Some, None, is_some, IsSome, option_map, option_and_then, position, slice_get, ltb, eqb, refl, sym, ap, ◌∙◌, subst, inl, inr, append-nil, append_assoc, add-zero, eq-eqb, ne_eqb, lt-ltb, le-ltb, ltb-true, true≢false, arith}
+use Rattle.std.specs.List.{position_or_len}
 use Rattle.std.specs.Option.{option_or}
-use Rattle.std.proofs.lemmas.Bool.{cases_lt, cases_Bool, cond_both}
-use Rattle.std.proofs.lemmas.List.{take_more, map_more, map_push, map-append, length_push, length-map, get_or-map}
+use Rattle.std.proofs.lemmas.Bool.{cases_lt, cond_both}
+use Rattle.std.proofs.lemmas.List.{take_more, map_more, map_push, length_push, length-map, get_or-map}
 use Rattle.std.proofs.lemmas.List.Concat.{flat_map-append, get_or-flat_map}
 use Rattle.std.proofs.lemmas.List.Elements.{filter-append}
-use Rattle.std.proofs.lemmas.List.Folds.{position_or_len_push, find_at, find-append, length-flat_map-take}
+use Rattle.std.proofs.lemmas.List.Folds.{position_or_len_push, find_at, length-flat_map-take}
 use Rattle.std.proofs.lemmas.List.Sums.{fold-append, prefix_len-le-length}
 use Rattle.std.proofs.lemmas.Option.{slice_get_past, slice_get-map, slice_get_within, slice_get_read, get_or_from_slice_get, cond_some, none-some}
 use Rattle.wasmi_module.specs.Modules.{Import, Export}

@@ -1,11 +1,11 @@
 -- What the tests of types decide.
-use Rattle.std.proofs.Common.{◌≡◌, ◌≢◌, ℕ, ◌≤◌, Bool, true, false, cond, ◌&&◌, ◌==◌, List, Option, Some, None, IfSome, IsSomeAnd, Decides, refl, sym, ap, ◌∙◌, true≢false, eqb-true, eq-eqb, leb-true, le-leb}
+use Rattle.std.proofs.Common.{◌≡◌, ℕ, ◌≤◌, Bool, true, false, cond, ◌==◌, Option, Some, None, IfSome, IsSomeAnd, Decides, refl, sym, ap, ◌∙◌, true≢false, eqb-true, eq-eqb, leb-true, le-leb}
 use Rattle.std.specs.Bool.{beq}
 use Rattle.std.specs.Cmp.Lexicographic.{pointwise}
 use Rattle.std.proofs.lemmas.Bool.Decides.{Decides-and, Decides-like}
 use Rattle.std.proofs.lemmas.Slice.Eq.{slice_eq-Decides}
 use Rattle.wasmi_module.specs.Format.{val_type_code, ref_type_code}
-use Rattle.wasmi_module.specs.Matching.{LimitsMatch, TableMatches, MemoryMatches}
+use Rattle.wasmi_module.specs.Matching.{LimitsMatch, TableMatches}
 use Rattle.wasmi_module.specs.Modules.{FuncType}
 use Rattle.wasmi_module.specs.declared.module.ValType.{ValType}
 use Rattle.wasmi_module.specs.declared.module.ValType.TheVariants as val
@@ -13,7 +13,6 @@ use Rattle.wasmi_module.specs.declared.module.RefType.{RefType}
 use Rattle.wasmi_module.specs.declared.module.RefType.TheVariants as ref
 use Rattle.wasmi_module.specs.declared.module.Limits.{Limits}
 use Rattle.wasmi_module.specs.declared.module.TableType.{TableType}
-use Rattle.wasmi_module.specs.declared.module.MemoryType.{MemoryType}
 use Rattle.wasmi_module.specs.declared.module.GlobalType.{GlobalType}
 use Rattle.wasmi_link_lib.specs.Lines.{ItemType, Func, Table, Memory, Global}
 use Rattle.wasmi_link_lib.specs.Linking.{val_type_eq, func_type_eq, most_matches, limits_match, matches, Matches}

@@ -10,7 +10,7 @@ use Rattle.wasmi_interner.specs.Interner.{symbol_of}
 use Rattle.wasmi_module.specs.Modules.{Export}
 use Rattle.wasmi_link_lib.specs.declared.exports.Place.{Place}
 use Rattle.wasmi_link_lib.specs.Linking.{Named, export_named, module_named}
-use Rattle.wasmi_link_lib.specs.Tables.{Notes, first_of, HasFirsts, HasExports, place_at, place_in, place_of}
+use Rattle.wasmi_link_lib.specs.Tables.{Notes, first_of, HasFirsts, HasExports, place_in, place_of}
 use Rattle.wasmi_link_lib.proofs.Lists.{got, map_read, find_position, position_push, position_within, slice_get_map, slice_get_last, slice_get_other}
 
 -- the key that a number has

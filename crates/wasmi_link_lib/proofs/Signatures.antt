@@ -1,6 +1,6 @@
 -- Types as they are lent are equal where they are equal as lists.
 use denote.Enum.Bare.{sameb, same_true, true_same}
-use Rattle.std.proofs.Common.{◌≡◌, ◌&&◌, Bool, List, rules}
+use Rattle.std.proofs.Common.{◌≡◌, ◌&&◌, rules}
 use Rattle.std.specs.Bool.{one_answer}
 use Rattle.std.specs.Cmp.Lexicographic.{pointwise}
 use Rattle.wasmi_module.specs.contracts.module.ValType.{the_type}

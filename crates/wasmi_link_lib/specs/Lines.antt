@@ -44,18 +44,20 @@ pub record Linked : Type 0 where
   pub distinct_types : ℕ
   pub names : ℕ
 
--- each of these without where it lies in memory
+-- a type without where it lies in memory,
 abbrev pub item_of : {A : Type 0} → rust_item.ItemType A → ItemType
 item_of (item.Func type) = Func (func_type_of type.now)
 item_of (item.Table type) = Table type
 item_of (item.Memory type) = Memory type
 item_of (item.Global type) = Global type
 
+-- an answer,
 abbrev pub answer_of : {A : Type 0} → rust_answer.Answer A → Answer
 answer_of (answer.Found name) = Found name.now
 answer_of answer.Missing = Missing
 answer_of (answer.Differs name type) = Differs name.now (item_of type)
 
+-- an import with its answer,
 abbrev pub line_of : {A : Type 0} → rust_line.Line A → Line
 line_of line = record {
   asker = line.asker.now;
@@ -65,6 +67,7 @@ line_of line = record {
   answer = answer_of line.answer;
 }
 
+-- and all that linking finds out
 abbrev pub linked_of : {A : Type 0} → rust_linked.Linked A → Linked
 linked_of linked = record {
   lines = map line_of linked.lines.items;

@@ -10,7 +10,6 @@ use Rattle.wasmi_module.specs.Modules.{FuncType, Import, Export, Module}
 use Rattle.wasmi_module.specs.Valid.{is_of, IsValid}
 use Rattle.wasmi_module.specs.Views.{module_of}
 use Rattle.wasmi_module.specs.declared.module.ValType.{ValType}
-use Rattle.wasmi_module.specs.declared.module.RefType.{RefType}
 use Rattle.wasmi_module.specs.declared.module.Limits.{Limits}
 use Rattle.wasmi_module.specs.declared.module.ImportType.{ImportType}
 use Rattle.wasmi_module.specs.declared.module.ImportType.TheVariants as import

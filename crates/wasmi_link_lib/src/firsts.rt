@@ -41,7 +41,9 @@ fn note_first<A: Allocator>(
         ⊎ (error ≡ ArenaError.OutOfSystemMemory)) }
 {
     if let Some(symbol) = names.get(name) {
-        if !firsts.has(symbol) {
+        let there = firsts.has(symbol);
+        let is_first = !there;
+        if is_first {
             firsts.set(symbol, id)?;
         }
     }

@@ -1,3 +1,4 @@
+pub mod Errors
 pub mod Made
 pub mod Maps
 pub mod Same

@@ -12,6 +12,8 @@ mod hashed;
 #[cfg(test)]
 mod kept;
 #[cfg(test)]
+mod large;
+#[cfg(test)]
 mod or_abort;
 #[cfg(test)]
 mod ordered;

@@ -44,6 +44,7 @@ IsInitWithin counts (RefNull type) = Unit {0}
 IsInitWithin counts (RefFunc index) = index < counts.functions
 IsInitWithin counts (GlobalGet index) = index < counts.globals
 
+-- whether what is imported is of this kind
 abbrev pub is_of : Kind → ImportType → Bool
 is_of Func (import.Func index) = true
 is_of Table (import.Table type) = true

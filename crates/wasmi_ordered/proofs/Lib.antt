@@ -3,6 +3,7 @@ mod Ended
 mod HeldMemory
 mod LentTree
 mod MapMemory
+mod NewEntry
 mod Renamed
 mod SameInOrder
 mod Values

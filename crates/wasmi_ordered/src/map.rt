@@ -1,13 +1,14 @@
 //! A map that keeps its keys in order.
-ghost use Rattle.std.specs.Prelude.{◌≡◌, ◌==◌, ◌<◌, ◌^◌, ◌+◌, [], length, IfNone, IfOk, OnOk, OnErr, IsOk, IsOkUnless, IsSome, Some, None, is_some, option_map, option_copied, if◌then◌else◌};
+ghost use Rattle.std.specs.Prelude.{◌≡◌, ◌==◌, ◌<◌, ◌^◌, ◌+◌, [], ◌∷◌, length, IfNone, IfOk, OnOk, OnErr, IsOk, IsSome, Some, None, is_some, option_map, option_copied, if◌then◌else◌};
 ghost use Rattle.std.specs.BTreeMap.{insert_entry};
 ghost use Rattle.std.specs.BTreeMap.IterMut.{iter_mut_rest, iter_mut_name, values_mut_rest, values_mut_name, IterMutCanStep};
-ghost use Rattle.std.specs.List.Sorted.{IsStrictlySortedBy};
+ghost use Rattle.std.specs.List.Sorted.{IsPermutation, IsStrictlySortedBy};
 ghost use Rattle.std.specs.Map.{keys_of, values_of, lookup_key, remove_entry};
 ghost use Rattle.std.specs.Map.Calls.{CalledAtPair, TakesPair, CallableOnEachPair, RetainsPairs};
 ghost use Rattle.std.specs.Map.Iter.{ShowsInOrder, GivesInOrder, deref, deref_pair};
 ghost use Rattle.std.specs.Option.{option_copied_mut};
 ghost use Rattle.std.specs.Ordering.{eq_by_cmp};
+ghost use Rattle.wasmi_map_specs.specs.Errors.{FailsOnlyForMemory};
 ghost use Rattle.wasmi_map_specs.specs.Maps.{value_at, ChangesAt};
 ghost use Rattle.wasmi_map_specs.specs.Values.{KeepsKeys};
 
@@ -18,6 +19,7 @@ mod ends;
 mod entry;
 mod grow;
 mod parts;
+mod try_insert;
 
 pub use entry::{Entry, OccupiedEntry, VacantEntry};
 use std::alloc::{Allocator, Global};
@@ -252,12 +254,14 @@ impl<K: Hash + Ord, V, A: Allocator> Map<K, V, A> {
         ensures value { OnOk result (value_at (eq_by_cmp K.cmp) self.new key ≡ Some value) }
         ensures changes { OnOk result (ChangesAt (eq_by_cmp K.cmp) self.old key (Some value) self.new) }
         ensures entries { OnOk result (self.new ≡ insert_entry K.cmp self.old key value) }
+        ensures new { value_at (eq_by_cmp K.cmp) self.old key ≡ None
+            → OnOk result (IsPermutation ((key, value) ∷ self.old) self.new) }
         ensures keys_stay { IfOk result (λ old. IsSome old → keys_of self.new ≡ keys_of self.old) }
         ensures len { IfOk result (λ old. length self.new
             ≡ length self.old + (if is_some old then 0 else 1)) }
         ensures absent { OnErr result (value_at (eq_by_cmp K.cmp) self.old key ≡ None) }
         ensures there { IsSome (value_at (eq_by_cmp K.cmp) self.old key) → IsOk result }
-        ensures errors { IsOkUnless result ArenaError.OutOfSystemMemory }
+        ensures errors { FailsOnlyForMemory result }
         ensures err { OnErr result (self.new ≡ self.old) }
     {
         let old = self.inner.insert(key, value)?;

@@ -1,5 +1,5 @@
 //! A set that keeps its elements in order.
-ghost use Rattle.std.specs.Prelude.{◌≡◌, ◌==◌, ◌<◌, ◌^◌, ◌+◌, [], true, false, not, length, find, IfNone, IfOk, OnOk, OnErr, IsOk, IsOkUnless, IsTrue, is_some, option_copied, if◌then◌else◌};
+ghost use Rattle.std.specs.Prelude.{◌≡◌, ◌==◌, ◌<◌, ◌^◌, ◌+◌, [], true, false, not, length, find, IfNone, IfOk, OnOk, OnErr, IsOk, IsTrue, is_some, option_copied, if◌then◌else◌};
 ghost use Rattle.std.specs.BTreeSet.{insert_key, replace_key};
 ghost use Rattle.std.specs.Bool.{OnFalse};
 ghost use Rattle.std.specs.Fn.{CalledAt};
@@ -8,6 +8,7 @@ ghost use Rattle.std.specs.List.Sorted.{IsStrictlySortedBy};
 ghost use Rattle.std.specs.Map.Iter.{ShowsInOrder, deref};
 ghost use Rattle.std.specs.Ordering.{eq_by_cmp};
 ghost use Rattle.std.specs.Set.{is_member, remove_key};
+ghost use Rattle.wasmi_map_specs.specs.Errors.{FailsOnlyForMemory};
 ghost use Rattle.wasmi_map_specs.specs.Sets.{ChangesAt};
 
 mod algebra;
@@ -154,7 +155,7 @@ impl<T: Hash + Ord, A: Allocator> Set<T, A> {
             ≡ length self.old + (if added then 1 else 0)) }
         ensures absent { OnErr result (is_member (eq_by_cmp T.cmp) self.old value ≡ false) }
         ensures there { IsTrue (is_member (eq_by_cmp T.cmp) self.old value) → IsOk result }
-        ensures errors { IsOkUnless result ArenaError.OutOfSystemMemory }
+        ensures errors { FailsOnlyForMemory result }
         ensures err { OnErr result (self.new ≡ self.old) }
     {
         let added = self.inner.insert(value)?;
@@ -207,7 +208,7 @@ impl<T: Hash + Ord, A: Allocator> Set<T, A> {
             ≡ length self.old + (if is_some old then 0 else 1)) }
         ensures absent { OnErr result (is_member (eq_by_cmp T.cmp) self.old value ≡ false) }
         ensures there { IsTrue (is_member (eq_by_cmp T.cmp) self.old value) → IsOk result }
-        ensures errors { IsOkUnless result ArenaError.OutOfSystemMemory }
+        ensures errors { FailsOnlyForMemory result }
         ensures err { OnErr result (self.new ≡ self.old) }
     {
         let old = self.inner.replace(value)?;

@@ -32,4 +32,4 @@ mod texts;
 pub use error::{ScriptError, exit_status};
 pub use program::run;
 pub use session::answer;
-pub use store::{EntityKey, EntityStore};
+pub use store::{Entities, EntityKey, EntityStore};

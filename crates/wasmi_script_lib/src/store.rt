@@ -1,56 +1,22 @@
 //! A store of entities, on top of the containers.
 ghost use Rattle.std.specs.Prelude.{◌≡◌, ◌≢◌, ◌<◌, ◌≤◌, ◌↔◌, ◌⊎◌, ◌^◌, [], length, IfOk, IfErr, IfNone, IfSome, OnOk, OnErr, IsErrOf, IsOk, IsOkUnless, IsSome, IsTrue, IsFalse, None, Some, option_map, slice_get};
-ghost use Rattle.std.proofs.Common.{lit≤};
 ghost use Rattle.std.specs.List.{AllByRecursion};
 ghost use Rattle.wasmi_arena.specs.Geometry.{max_len};
-ghost use Rattle.wasmi_arena.specs.Keys.{own_keys};
-ghost use Rattle.wasmi_arena.specs.KeyLaws.{own_keys_law};
 ghost use Rattle.wasmi_collections.specs.Interner.{symbol_of, AreDistinctTexts};
 ghost use Rattle.wasmi_script_lib.specs.Store.{Entity, IsFullFor, IsListed, IsOtherKind, KeepsEntities, RenamesKind, with_entity, with_new, with_property};
 
 use crate::kinds::Kinds;
 use std::alloc::{Allocator, Global};
 use std::marker::Model;
-use wasmi_arena::{ArenaError, ArenaKey, StableArena};
+use wasmi_arena::{ArenaError, ArenaKey, StableArena, TypedKey};
 use wasmi_collections::string_interner::{StringInterner, Sym};
 use wasmi_dense::ComponentVec;
 
+/// What an [`EntityKey`] is the key of.
+pub enum Entities {}
+
 /// The key of an entity. A contract sees its number, which is the entity's position.
-#[derive(Clone, Copy, Debug, PartialEq, Eq)]
-pub struct EntityKey {
-    number: u32,
-}
-
-impl Model for EntityKey {
-    ghost use Rattle.std.specs.Prelude.{ℕ};
-    ghost use Rattle.std.specs.Coded.{coded_ℕ};
-
-    ghost Value = { ℕ };
-
-    ghost coded = { coded_ℕ };
-
-    ghost view = { λ key. key.number };
-
-    ghost inverse = { λ n. record { number = n } };
-}
-
-/// The key of each number below 2^32.
-impl ArenaKey for EntityKey {
-    ghost keys = { own_keys (2 ^ 32) };
-
-    ghost key_law = { own_keys_law (2 ^ 32) (lit≤ tt) };
-
-    fn into_usize(self) -> usize {
-        self.number as usize
-    }
-
-    fn from_usize(value: usize) -> Option<Self> {
-        match u32::try_from(value) {
-            Ok(number) => Some(EntityKey { number }),
-            Err(_) => None,
-        }
-    }
-}
+pub type EntityKey = TypedKey<Entities>;
 
 /// What is kept of an entity: the symbol of its name, and the key of its kind.
 #[derive(Clone, Copy, PartialEq, Eq)]

@@ -13,9 +13,16 @@ fn replies(rt: HostRuntime) {
                 bad line 9\nbad line 10\n",
         ),
         (
-            "g 0\na x\na x\ng +0\ng 18446744073709551615\nn",
-            "error encounteded out of bounds key\nkey 0\nkey 1\nbad line 4\n\
-                error encounteded out of bounds key\ncounts 2 0 0 32\n",
+            "a x\na x\ng 1\ng 2\np 32\nn\nq",
+            "key 0\nkey 1\ntext x\nerror encounteded out of bounds key\nplace 1 0\n\
+                counts 2 0 0 32\nbad line 7\n",
+        ),
+        (
+            "g 0\na\na \ng 0\ng 00\np 4294967263\np 4294967264\ng +0\n\
+                g 18446744073709551616\ng 18446744073709551615",
+            "error encounteded out of bounds key\nbad line 2\nkey 0\ntext \ntext \n\
+                place 26 2147483647\nnone\nbad line 8\nbad line 9\n\
+                error encounteded out of bounds key\n",
         ),
         ("a x\r\ng 0\r\ng 0", "key 0\nbad line 2\ntext x\r\n"),
         (

@@ -1,50 +1,17 @@
 //! A store that hands out typed handles.
 ghost use Rattle.std.specs.Prelude.{◌≡◌, ◌^◌, [], ◌∷◌, ◌++◌, length, IfOk, OnOk, OnErr, option_copied, slice_get, Some};
-ghost use Rattle.std.proofs.Common.{lit≤};
-ghost use Rattle.wasmi_arena.specs.Keys.{own_keys};
-ghost use Rattle.wasmi_arena.specs.KeyLaws.{own_keys_law};
 
 use std::alloc::Global;
 use std::marker::Model;
-use wasmi_arena::{ArenaError, ArenaKey, StableArena};
+use wasmi_arena::{ArenaError, StableArena, TypedKey};
+
+/// What a [`FuncId`] is the handle of.
+pub enum Funcs {}
 
 /// The handle of a function. A handle of another type doesn't read a function.
 ///
 /// A contract sees the number that it holds, which is its position in the store.
-#[derive(Clone, Copy, PartialEq, Eq)]
-pub struct FuncId {
-    number: u32,
-}
-
-impl Model for FuncId {
-    ghost use Rattle.std.specs.Prelude.{ℕ};
-    ghost use Rattle.std.specs.Coded.{coded_ℕ};
-
-    ghost Value = { ℕ };
-
-    ghost coded = { coded_ℕ };
-
-    ghost view = { λ id. id.number };
-
-    ghost inverse = { λ n. record { number = n } };
-}
-
-impl ArenaKey for FuncId {
-    ghost keys = { own_keys (2 ^ 32) };
-
-    ghost key_law = { own_keys_law (2 ^ 32) (lit≤ tt) };
-
-    fn into_usize(self) -> usize {
-        self.number as usize
-    }
-
-    fn from_usize(value: usize) -> Option<Self> {
-        match u32::try_from(value) {
-            Ok(number) => Some(FuncId { number }),
-            Err(_) => None,
-        }
-    }
-}
+pub type FuncId = TypedKey<Funcs>;
 
 /// Functions of one type, each under its handle. A contract sees the list of them.
 #[derive(Drop)]

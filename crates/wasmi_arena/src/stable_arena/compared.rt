@@ -19,9 +19,15 @@ impl<Key: ArenaKey, T: Eq, A: Allocator> Eq for StableArena<Key, T, A> {
     ghost laws = { lists_equiv T.Eq.laws };
 }
 
-/// A map from keys to items.
-impl<Key: ArenaKey + Debug, T: Debug, A: Allocator> Debug for StableArena<Key, T, A> {
+/// A map from the numbers of the keys to the items.
+impl<Key: ArenaKey, T: Debug, A: Allocator> Debug for StableArena<Key, T, A> {
     fn fmt<W: Write>(&self, f: &mut Formatter<W>) -> fmt::Result {
-        f.debug_map().entries(self).finish()
+        let mut map = f.debug_map();
+        for number in 0..self.items.len() {
+            if let Some(item) = self.items.get(number) {
+                map.entry(&number, item);
+            }
+        }
+        map.finish()
     }
 }

@@ -4,7 +4,7 @@ ghost use Rattle.std.specs.Iterator.{YieldsFirstBy, YieldsLastBy, item_count};
 ghost use Rattle.wasmi_arena.specs.Entries.{entries};
 
 use super::StableArena;
-use crate::{ArenaKey, StableVecIntoIter};
+use crate::{ArenaKey, StableVecIntoIter, key_at};
 use std::alloc::{Allocator, Global};
 use std::marker::{Model, PhantomData};
 
@@ -52,13 +52,9 @@ impl<Key: ArenaKey, T: Drop, A: Allocator> Iterator for StableArenaIntoIter<Key,
 
     fn next(&mut self) -> Option<(Key, T)> {
         let item = self.items.next()?;
-        match Key::from_usize(self.next) {
-            Some(key) => {
-                self.next += 1;
-                Some((key, item))
-            }
-            None => unreachable!(),
-        }
+        let key = key_at(self.next);
+        self.next += 1;
+        Some((key, item))
     }
 }
 
@@ -67,10 +63,8 @@ impl<Key: ArenaKey, T: Drop, A: Allocator> DoubleEndedIterator for StableArenaIn
 
     fn next_back(&mut self) -> Option<(Key, T)> {
         let item = self.items.next_back()?;
-        match Key::from_usize(self.next + self.items.len()) {
-            Some(key) => Some((key, item)),
-            None => unreachable!(),
-        }
+        let key = key_at(self.next + self.items.len());
+        Some((key, item))
     }
 }
 

@@ -2,7 +2,7 @@
 ghost use Rattle.std.specs.Prelude.{◌≡◌, length};
 ghost use Rattle.std.specs.Iterator.{YieldsFirstBy, YieldsLastBy, item_count};
 
-use crate::{ArenaKey, StableVecIter};
+use crate::{ArenaKey, StableVecIter, key_at};
 use std::alloc::{Allocator, Global};
 use std::marker::{Model, PhantomData};
 
@@ -48,13 +48,9 @@ impl<'a, Key: ArenaKey, T, A: Allocator> Iterator for StableArenaIter<'a, Key, T
 
     fn next(&mut self) -> Option<(Key, &'a T)> {
         let item = self.items.next()?;
-        match Key::from_usize(self.next) {
-            Some(key) => {
-                self.next += 1;
-                Some((key, item))
-            }
-            None => unreachable!(),
-        }
+        let key = key_at(self.next);
+        self.next += 1;
+        Some((key, item))
     }
 }
 
@@ -64,9 +60,7 @@ impl<'a, Key: ArenaKey, T, A: Allocator> DoubleEndedIterator for StableArenaIter
     #[tactic(auto, using(crate::proofs::Entries::entries_from_last))]
     fn next_back(&mut self) -> Option<(Key, &'a T)> {
         let item = self.items.next_back()?;
-        match Key::from_usize(self.next + self.items.len()) {
-            Some(key) => Some((key, item)),
-            None => unreachable!(),
-        }
+        let key = key_at(self.next + self.items.len());
+        Some((key, item))
     }
 }

@@ -3,7 +3,7 @@ ghost use Rattle.std.specs.Prelude.{◌≡◌, length};
 ghost use Rattle.std.specs.Iterator.{YieldsFirstBy, YieldsLastBy, item_count};
 ghost use Rattle.wasmi_arena.specs.IterMut.{left};
 
-use crate::{ArenaKey, StableVecIterMut};
+use crate::{ArenaKey, StableVecIterMut, key_at};
 use std::alloc::{Allocator, Global};
 use std::marker::{Model, PhantomData};
 
@@ -51,13 +51,9 @@ impl<'a, Key: ArenaKey, T, A: Allocator> Iterator for StableArenaIterMut<'a, Key
 
     fn next(&mut self) -> Option<(Key, &'a mut T)> {
         let item = self.items.next()?;
-        match Key::from_usize(self.next) {
-            Some(key) => {
-                self.next += 1;
-                Some((key, item))
-            }
-            None => unreachable!(),
-        }
+        let key = key_at(self.next);
+        self.next += 1;
+        Some((key, item))
     }
 }
 
@@ -67,9 +63,7 @@ impl<'a, Key: ArenaKey, T, A: Allocator> DoubleEndedIterator for StableArenaIter
     #[tactic(auto, using(crate::proofs::Entries::entries_from_last))]
     fn next_back(&mut self) -> Option<(Key, &'a mut T)> {
         let item = self.items.next_back()?;
-        match Key::from_usize(self.next + self.items.len()) {
-            Some(key) => Some((key, item)),
-            None => unreachable!(),
-        }
+        let key = key_at(self.next + self.items.len());
+        Some((key, item))
     }
 }

@@ -8,74 +8,12 @@ ghost use Rattle.wasmi_arena.specs.Growth.{AppendsMany};
 ghost use Rattle.wasmi_arena.specs.Apart.{AreOpenApart};
 ghost use Rattle.wasmi_arena.specs.Table.{items_in, FillsBucket};
 
-use super::{BUCKETS, place_in_last};
-use crate::option::unwrap_mut;
+use crate::bucket_table::fill::{fill_bucket, open_apart};
+use crate::bucket_table::take::take_bucket;
+use crate::geometry::{BUCKETS, buckets_for, place_in_last};
 use crate::{ArenaError, Bucket, BucketTable, StableVec};
 use std::alloc::Allocator;
 use std::array;
-
-// How many buckets have room for `len` items.
-fn buckets_for(len: usize) -> usize
-    requires { len ≤ max_len }
-    ensures { result ≡ fewest len }
-{
-    if len == 0 {
-        return 0;
-    }
-    let (bucket, _) = StableVec::<()>::place(len - 1);
-    bucket + 1
-}
-
-// Opens the buckets from `first` to before `last`, which have no item yet.
-fn open_apart<T: Drop, A: Allocator + Clone>(
-    buckets: &mut [Option<Bucket<T, A>>],
-    first: usize,
-    last: usize,
-    alloc: &A,
-) -> Result<(), ArenaError>
-    requires in_table { length buckets.old ≡ 27 }
-    requires exist { last ≤ 27 }
-    ensures open { OnOk result (AreOpenApart buckets.new first last) }
-    ensures errors { IsOkUnless result ArenaError.OutOfSystemMemory }
-    ensures without_size { type_size T.row ≡ 0 → A.is_infallible alloc.now → IsOk result }
-{
-    for bucket in first..last {
-        let capacity = StableVec::<T>::size_of_bucket_at(bucket);
-        buckets[bucket] = Some(Bucket::open(alloc.clone()?, capacity)?);
-    }
-    Ok(())
-}
-
-// Takes an open bucket out of a table.
-fn take_bucket<T, A: Allocator>(buckets: &mut [Option<Bucket<T, A>>], bucket: usize) -> Bucket<T, A>
-    requires in_table { bucket < length buckets.old }
-    requires open { IsSome (slice_index_or buckets.old bucket None) }
-    ensures taken { slice_index_or buckets.old bucket None ≡ Some result }
-    ensures rest { buckets.new ≡ slice_set buckets.old bucket None }
-{
-    match buckets[bucket].take() {
-        Some(taken) => taken,
-        None => unreachable!(),
-    }
-}
-
-// Fills `amount` slots of an open bucket with values of `T::default()`, from `place` on, which is its first
-// free one.
-fn fill_bucket<T: Default, A: Allocator>(
-    buckets: &mut [Option<Bucket<T, A>>],
-    place: (usize, usize),
-    amount: usize,
-)
-    requires in_table { place.0 < length buckets.old }
-    requires open { IsSome (slice_index_or buckets.old place.0 None) }
-    requires slot { place.1 ≡ length (items_in (slice_index_or buckets.old place.0 None)) }
-    requires free { place.1 + amount ≤ size place.0 }
-    requires capacity { ForSome (slice_index_or buckets.old place.0 None)
-        (λ b. b.capacity ≡ size place.0) }
-    ensures { FillsBucket (All T.is_default) amount place.0 buckets.old buckets.new }
-{
-    unwrap_mut(&mut buckets[place.0]).push_defaults(place.1, amount);
-}
 
 impl<T: Default + Drop, A: Allocator + Clone> StableVec<T, A> {
     // Fills free slots of the last bucket with values of `T::default()`, at most `amount` of them, and

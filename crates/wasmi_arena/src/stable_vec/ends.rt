@@ -3,39 +3,11 @@ ghost use Rattle.std.specs.Prelude.{◌≡◌, ◌↔◌, ◌+◌, ◌-◌, ◌<
 ghost use Rattle.wasmi_arena.specs.Geometry.{IsPlace, fewest};
 ghost use Rattle.wasmi_arena.specs.Table.{items_in, bucket_cut};
 
-use super::start_of;
-use crate::{Bucket, BucketTable, StableVec};
+use crate::bucket_table::take::pop_from;
+use crate::geometry::{buckets_before, place, start_of};
+use crate::{BucketTable, StableVec};
 use std::alloc::Allocator;
 use std::array;
-
-// How many buckets the items before an index need, which has this place.
-fn buckets_before(_index: usize, place: (usize, usize)) -> usize
-    requires { IsPlace _index place.0 place.1 }
-    ensures { result ≡ fewest _index }
-{
-    if place.1 == 0 { place.0 } else { place.0 + 1 }
-}
-
-// Takes the item out of the last filled slot of an open bucket, which is closed if it was the only one.
-fn pop_from<T: Drop, A: Allocator>(buckets: &mut [Option<Bucket<T, A>>], place: (usize, usize)) -> T
-    requires in_table { place.0 < length buckets.old }
-    requires last { length (items_in (slice_index_or buckets.old place.0 None)) ≡ place.1 + 1 }
-    ensures bucket { buckets.new ≡ slice_set buckets.old place.0
-        (bucket_cut (slice_index_or buckets.old place.0 None) place.1) }
-    ensures item { slice_get (items_in (slice_index_or buckets.old place.0 None)) place.1 ≡ Some result }
-{
-    if place.1 == 0 {
-        match buckets[place.0].take() {
-            Some(mut emptied) => emptied.pop(0),
-            None => unreachable!(),
-        }
-    } else {
-        match &mut buckets[place.0] {
-            Some(open) => open.pop(place.1),
-            None => unreachable!(),
-        }
-    }
-}
 
 impl<T, A: Allocator> StableVec<T, A> {
     /// The first item, if there is one. Constant time.
@@ -71,7 +43,7 @@ impl<T, A: Allocator> StableVec<T, A> {
             return None;
         }
         let last = self.len - 1;
-        let place = StableVec::<T>::place(last);
+        let place = place(last);
         let item = pop_from(&mut self.table.buckets[..], place);
         self.open_buckets = buckets_before(last, place);
         self.slots = start_of(self.open_buckets);

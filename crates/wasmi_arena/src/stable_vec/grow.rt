@@ -8,33 +8,10 @@ ghost use Rattle.wasmi_arena.specs.Geometry.{size, max_len, fewest, slots, room}
 ghost use Rattle.wasmi_arena.specs.Growth.{Came, TakesAll, TakesSome, TakesUntilRefused};
 ghost use Rattle.wasmi_arena.specs.Table.{items_in, FillsBucket};
 
-use super::{place_in_last, start_of};
+use crate::bucket_table::fill::fill_bucket_from;
+use crate::geometry::{place_in_last, start_of};
 use crate::{ArenaError, Bucket, StableVec};
 use std::alloc::Allocator;
-
-// Moves items into the free slots of an open bucket, from `place` on, which is its first free one. Returns
-// how many went in, and the iterator if it may have more.
-fn fill_bucket_from<T, A: Allocator, I: Iterator<Item = T>>(
-    buckets: &mut [Option<Bucket<T, A>>],
-    place: (usize, usize),
-    items: I,
-) -> (usize, Option<I>)
-    requires in_table { place.0 < length buckets.old }
-    requires open { IsSome (slice_index_or buckets.old place.0 None) }
-    requires slot { place.1 ≡ length (items_in (slice_index_or buckets.old place.0 None)) }
-    requires capacity { ForSome (slice_index_or buckets.old place.0 None)
-        (λ b. b.capacity ≡ size place.0) }
-    requires can { I.can_next items × IsFinite (I.remaining items) }
-    ensures items { FillsBucket (Came I.next_gives items result.1) result.0 place.0 buckets.old buckets.new }
-    ensures fits { place.1 + result.0 ≤ size place.0 }
-    ensures goes { IfSome result.1 (λ rest.
-        I.can_next rest × UpTo (I.remaining rest) (count (I.remaining items))) }
-{
-    match &mut buckets[place.0] {
-        Some(open) => open.push_from(place.1, items),
-        None => unreachable!(),
-    }
-}
 
 impl<T: Drop, A: Allocator + Clone> StableVec<T, A> {
     // Puts `next`, which holds `amount` items, behind the other buckets, of which none has a free slot.
@@ -109,44 +86,5 @@ impl<T: Drop, A: Allocator + Clone> StableVec<T, A> {
         let mut vec = StableVec::new(alloc);
         vec.extend(iter)?;
         Ok(vec)
-    }
-}
-
-impl<T: Clone, A: Allocator> StableVec<T, A> {
-    /// A clone of each item, in order, in a vector over a clone of the allocator. Linear.
-    ///
-    /// Fails with `OutOfSystemMemory` if there is no memory for a bucket, or the clone of an item or of
-    /// the allocator fails.
-    pub fn clone(&self) -> Result<Self, ArenaError>
-    where
-        A: Clone,
-        ensures items { IfOk result (AllZip T.is_clone self.now) }
-        ensures errors { IsOkUnless result ArenaError.OutOfSystemMemory }
-        ensures without_size { type_size T.row ≡ 0 → All T.is_infallible self.now
-            → ((a : A) → A.is_infallible a) → IsOk result }
-        ensures empty { self.now ≡ [] → ((a : A) → A.is_infallible a) → IsOk result }
-    {
-        self.clone_in(self.alloc.clone()?)
-    }
-
-    /// A clone of each item, in order, in a vector over `alloc`. Linear.
-    ///
-    /// Fails with `OutOfSystemMemory` if there is no memory for a bucket, or the clone of an item or of
-    /// the allocator fails.
-    pub fn clone_in<B: Allocator + Clone>(&self, alloc: B) -> Result<StableVec<T, B>, ArenaError>
-        ensures items { IfOk result (AllZip T.is_clone self.now) }
-        ensures errors { IsOkUnless result ArenaError.OutOfSystemMemory }
-        ensures without_size { type_size T.row ≡ 0 → All T.is_infallible self.now
-            → ((b : B) → B.is_infallible b) → IsOk result }
-        ensures empty { self.now ≡ [] → IsOk result }
-    {
-        let mut made = StableVec::new(alloc);
-        for part in self.slices() {
-            let capacity = StableVec::<T>::size_of_bucket_at(made.open_buckets());
-            let mut next = Bucket::open(made.alloc.clone()?, capacity)?;
-            next.push_clones(part)?;
-            made.append_bucket(next, part.len());
-        }
-        Ok(made)
     }
 }

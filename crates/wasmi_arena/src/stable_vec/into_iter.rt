@@ -3,8 +3,8 @@ ghost use Rattle.std.specs.Prelude.{◌≡◌, length};
 ghost use Rattle.std.specs.Iterator.{YieldsFirst, YieldsLast, item_count};
 ghost use Rattle.wasmi_arena.specs.Ahead.{in_hand};
 
-use super::BUCKETS;
 use crate::bucket::BucketItems;
+use crate::geometry::BUCKETS;
 use crate::{Bucket, StableVec};
 use std::alloc::{Allocator, Global};
 use std::array;
@@ -19,7 +19,7 @@ pub struct StableVecIntoIter<T, A: Allocator = Global> {
     // What is left of the bucket that is taken from at the front.
     front: Option<BucketItems<T, A>>,
     // The buckets that neither end has come to, each with an item.
-    buckets: array::IntoIter<Option<Bucket<T, A>>, 27>,
+    buckets: array::IntoIter<Option<Bucket<T, A>>, BUCKETS>,
     // What is left of the bucket that is taken from at the back.
     back: Option<BucketItems<T, A>>,
     // How many items `buckets` have.

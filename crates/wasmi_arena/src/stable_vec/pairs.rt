@@ -7,6 +7,7 @@ ghost use Rattle.wasmi_arena.specs.VecLend.{lends_two, lends_pair, lends_both};
 
 use super::StableVec;
 use crate::ArenaError;
+use crate::geometry::place;
 use std::alloc::Allocator;
 
 impl<T, A: Allocator> StableVec<T, A> {
@@ -29,8 +30,8 @@ impl<T, A: Allocator> StableVec<T, A> {
         if first >= self.len || second >= self.len {
             return Err(ArenaError::KeyOutOfBounds);
         }
-        let (bucket, slot) = StableVec::<T>::place(first);
-        let (other_bucket, other_slot) = StableVec::<T>::place(second);
+        let (bucket, slot) = place(first);
+        let (other_bucket, other_slot) = place(second);
         self.table.swap(bucket, slot, other_bucket, other_slot);
         Ok(())
     }

@@ -1,5 +1,5 @@
 //! An arena that gives equal values one key.
-ghost use Rattle.std.specs.Prelude.{ℕ, ◌≡◌, ◌<◌, ◌≤◌, ◌==◌, ◌^◌, ◌↔◌, [], length, position, None, Some, Ok, IfSome, IfOk, IfErr, OnOk, OnErr, IsErrOf, IsOkUnless, IsTrue, slice_get, slice_set, IsPermutation, option_map};
+ghost use Rattle.std.specs.Prelude.{ℕ, ◌≡◌, ◌<◌, ◌≤◌, ◌==◌, ◌^◌, ◌↔◌, [], length, position, true, None, Some, Ok, IfSome, IfOk, IfErr, OnOk, OnErr, IsErrOf, IsOkUnless, IsTrue, slice_get, slice_set, IsPermutation, option_map};
 ghost use Rattle.std.specs.List.{IsDistinct};
 ghost use Rattle.std.specs.Cmp.{on_per, on_equiv};
 ghost use Rattle.std.specs.Cmp.Lexicographic.{pointwise, lists_per, lists_equiv};
@@ -100,6 +100,10 @@ impl<Key: ArenaKey, T: Eq + Hash, A: Allocator> DedupArena<Key, T, A> {
         ensures known { IfSome result (λ key.
             position (T.eq value.now) self.now.handed ≡ Some (Key.keys.number key)) }
         ensures within { IfSome result (λ key. Key.keys.number key < length self.now.items) }
+        ensures reads { IfSome result (λ key. option_map (T.eq value.now)
+            (slice_get self.now.handed (Key.keys.number key)) ≡ Some true) }
+        ensures alone { (place : ℕ) (other : T) → slice_get self.now.handed place ≡ Some other
+            → IsTrue (T.eq value.now other) → result ≡ Some (Key.keys.key place) }
     {
         match self.index.get(value) {
             Some(key) => Some(*key),
@@ -153,6 +157,12 @@ impl<Key: ArenaKey, T: Eq + Hash, A: Allocator> DedupArena<Key, T, A> {
         ensures within { IfOk result (λ key. Key.keys.number key < length self.new.items) }
         ensures kept { (other : T) (p : ℕ) → position (T.eq other) self.old.handed ≡ Some p
             → position (T.eq other) self.new.handed ≡ Some p }
+        ensures reads { IfOk result (λ key. option_map (T.eq value)
+            (slice_get self.new.handed (Key.keys.number key)) ≡ Some true) }
+        ensures earlier { (place : ℕ) (item : T) → slice_get self.old.items place ≡ Some item
+            → slice_get self.new.items place ≡ Some item }
+        ensures earlier_values { (place : ℕ) (other : T) → slice_get self.old.handed place ≡ Some other
+            → slice_get self.new.handed place ≡ Some other }
     {
         if let Some(key) = self.index.get(&value) {
             return Ok(*key);
@@ -209,6 +219,13 @@ impl<Key: ArenaKey, T: Eq + Hash, A: Allocator> DedupArena<Key, T, A> {
         ensures within { IfOk result (λ key. Key.keys.number key < length self.new.items) }
         ensures kept { (other : T) (p : ℕ) → position (T.eq other) self.old.handed ≡ Some p
             → position (T.eq other) self.new.handed ≡ Some p }
+        ensures reads { ((clone : T) → T.is_clone value.now clone → IsTrue (T.eq value.now clone))
+            → IfOk result (λ key. option_map (T.eq value.now)
+            (slice_get self.new.handed (Key.keys.number key)) ≡ Some true) }
+        ensures earlier { (place : ℕ) (item : T) → slice_get self.old.items place ≡ Some item
+            → slice_get self.new.items place ≡ Some item }
+        ensures earlier_values { (place : ℕ) (other : T) → slice_get self.old.handed place ≡ Some other
+            → slice_get self.new.handed place ≡ Some other }
     {
         if let Some(key) = self.key_of(value) {
             return Ok(key);
@@ -385,9 +402,9 @@ impl<Key: ArenaKey, T: Eq + Hash, A: Allocator> Eq for DedupArena<Key, T, A> {
     ghost laws = { on_equiv (λ a. a.items) (lists_equiv T.Eq.laws) };
 }
 
-/// A map from keys to items.
-impl<Key: ArenaKey + Debug, T: Eq + Hash + Debug, A: Allocator> Debug for DedupArena<Key, T, A> {
+/// A map from the numbers of keys to items.
+impl<Key: ArenaKey, T: Eq + Hash + Debug, A: Allocator> Debug for DedupArena<Key, T, A> {
     fn fmt<W: Write>(&self, f: &mut Formatter<W>) -> fmt::Result {
-        f.debug_map().entries(self).finish()
+        Debug::fmt(&self.items, f)
     }
 }

@@ -21,9 +21,23 @@ impl<Key: ArenaKey, T: Eq, A: Allocator> Eq for Arena<Key, T, A> {
     ghost laws = { on_equiv (λ a. a.items) (lists_equiv T.Eq.laws) };
 }
 
-/// A map from keys to items.
-impl<Key: ArenaKey + Debug, T: Debug, A: Allocator> Debug for Arena<Key, T, A> {
+/// A map from the numbers of keys to items.
+impl<Key: ArenaKey, T: Debug, A: Allocator> Debug for Arena<Key, T, A> {
     fn fmt<W: Write>(&self, f: &mut Formatter<W>) -> fmt::Result {
-        f.debug_map().entries(self).finish()
+        Debug::fmt(&DebugItems(self.items.as_slice()), f)
+    }
+}
+
+// What `Debug` writes for the items.
+#[derive(Clone, Copy)]
+struct DebugItems<'a, T>(&'a [T]);
+
+impl<T: Debug> Debug for DebugItems<'_, T> {
+    fn fmt<W: Write>(&self, f: &mut Formatter<W>) -> fmt::Result {
+        let mut map = f.debug_map();
+        for (number, item) in self.0.iter().enumerate() {
+            map.entry(&number, item);
+        }
+        map.finish()
     }
 }

@@ -7,7 +7,7 @@ use super::Arena;
 use std::alloc::{Allocator, Global};
 use std::collections::VecDeque;
 use std::marker::{Model, PhantomData};
-use wasmi_arena::ArenaKey;
+use wasmi_arena::{ArenaKey, key_at};
 
 /// The keys and items of an [`Arena`](crate::Arena) that are left to take out, in order, from both ends.
 ///
@@ -54,13 +54,9 @@ impl<Key: ArenaKey, T: Drop, A: Allocator> Iterator for IntoIter<Key, T, A> {
 
     fn next(&mut self) -> Option<(Key, T)> {
         let item = self.items.pop_front()?;
-        match Key::from_usize(self.next) {
-            Some(key) => {
-                self.next += 1;
-                Some((key, item))
-            }
-            None => unreachable!(),
-        }
+        let key = key_at(self.next);
+        self.next += 1;
+        Some((key, item))
     }
 }
 
@@ -70,10 +66,8 @@ impl<Key: ArenaKey, T: Drop, A: Allocator> DoubleEndedIterator for IntoIter<Key,
     #[tactic(auto, using(wasmi_arena::proofs::Entries::entries_from_last))]
     fn next_back(&mut self) -> Option<(Key, T)> {
         let item = self.items.pop_back()?;
-        match Key::from_usize(self.next + self.items.len()) {
-            Some(key) => Some((key, item)),
-            None => unreachable!(),
-        }
+        let key = key_at(self.next + self.items.len());
+        Some((key, item))
     }
 }
 

@@ -4,7 +4,7 @@ ghost use Rattle.std.specs.Iterator.{YieldsFirstBy, YieldsLastBy, item_count};
 
 use std::marker::{Model, PhantomData};
 use std::slice;
-use wasmi_arena::ArenaKey;
+use wasmi_arena::{ArenaKey, key_at};
 
 /// The keys and items of an [`Arena`](crate::Arena) that are left to visit, in order, from both ends.
 #[derive(Drop)]
@@ -48,13 +48,9 @@ impl<'a, Key: ArenaKey, T> Iterator for Iter<'a, Key, T> {
 
     fn next(&mut self) -> Option<(Key, &'a T)> {
         let item = self.items.next()?;
-        match Key::from_usize(self.next) {
-            Some(key) => {
-                self.next += 1;
-                Some((key, item))
-            }
-            None => unreachable!(),
-        }
+        let key = key_at(self.next);
+        self.next += 1;
+        Some((key, item))
     }
 }
 
@@ -64,9 +60,7 @@ impl<'a, Key: ArenaKey, T> DoubleEndedIterator for Iter<'a, Key, T> {
     #[tactic(auto, using(wasmi_arena::proofs::Entries::entries_from_last))]
     fn next_back(&mut self) -> Option<(Key, &'a T)> {
         let item = self.items.next_back()?;
-        match Key::from_usize(self.next + self.items.len()) {
-            Some(key) => Some((key, item)),
-            None => unreachable!(),
-        }
+        let key = key_at(self.next + self.items.len());
+        Some((key, item))
     }
 }

@@ -1,8 +1,7 @@
 //! The iterator over an arena in one vector that lends its items to be written.
-ghost use Rattle.std.specs.Prelude.{◌≡◌, ◌<◌, ◌≤◌, ◌^◌, length};
-ghost use Rattle.std.specs.Iterator.{YieldsFirstBy, YieldsLastBy, item_count};
+ghost use Rattle.std.specs.Prelude.{◌≡◌, ◌+◌, ◌<◌, ◌≤◌, ◌^◌, length};
+ghost use Rattle.std.specs.Slice.Iter.{iter_mut_rest};
 ghost use Rattle.wasmi_arena.specs.Entries.{entries};
-ghost use Rattle.wasmi_dense.specs.ArenaLoan.{left_entries, IsKeyed, loan_of};
 
 use std::marker::PhantomData;
 use std::slice;
@@ -16,9 +15,15 @@ pub struct IterMut<'a, Key: ArenaKey, T> {
     // The position of the first of `items`.
     next: usize,
     keys: PhantomData<Key>,
+    // Each position that is left has a key, and the one behind them is a number too. A fact of the value, so
+    // that no step asks for it.
+    ghost keyed: { (next + length (iter_mut_rest items) ≤ Key.keys.count)
+        × (next + length (iter_mut_rest items) < 2 ^ 64) },
 }
 
 impl<'a, Key: ArenaKey, T> IterMut<'a, Key, T> {
+    ghost use Rattle.wasmi_dense.specs.ArenaLoan.{left_entries, IsKeyed, loan_of};
+
     // Over the items of an arena.
     pub(super) fn new(items: &'a mut [T]) -> Self
         requires { length items.old ≤ Key.keys.count }
@@ -42,9 +47,10 @@ impl<'a, Key: ArenaKey, T> IterMut<'a, Key, T> {
 }
 
 impl<'a, Key: ArenaKey, T> Iterator for IterMut<'a, Key, T> {
-    type Item = (Key, &'a mut T);
+    ghost use Rattle.std.specs.Iterator.{YieldsFirstBy, item_count};
+    ghost use Rattle.wasmi_dense.specs.ArenaLoan.{left_entries};
 
-    ghost can_next = { IsKeyed Key.keys };
+    type Item = (Key, &'a mut T);
 
     ghost next_gives = { YieldsFirstBy (λ entry. (entry.0, entry.1.now)) (left_entries Key.keys) };
 
@@ -63,7 +69,8 @@ impl<'a, Key: ArenaKey, T> Iterator for IterMut<'a, Key, T> {
 }
 
 impl<'a, Key: ArenaKey, T> DoubleEndedIterator for IterMut<'a, Key, T> {
-    ghost can_next_back = { IsKeyed Key.keys };
+    ghost use Rattle.std.specs.Iterator.{YieldsLastBy};
+    ghost use Rattle.wasmi_dense.specs.ArenaLoan.{left_entries};
 
     ghost next_back_gives = { YieldsLastBy (λ entry. (entry.0, entry.1.now)) (left_entries Key.keys) };
 

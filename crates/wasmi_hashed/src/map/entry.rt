@@ -1,5 +1,5 @@
 //! The place of a key in a map, found by one search.
-ghost use Rattle.std.specs.Prelude.{◌≡◌, ◌∷◌, IfOk, IsOk, IsOkUnless, IsSome, IsTrue, MatchOption, OnErr, Some, None, unwrap_or};
+ghost use Rattle.std.specs.Prelude.{◌≡◌, ◌∷◌, IfOk, IsOk, IsSome, IsTrue, MatchOption, OnErr, Some, None, unwrap_or};
 ghost use Rattle.std.specs.Borrow.{Bor, MutBor, sem};
 ghost use Rattle.std.specs.Fn.{FnOnceReturnsAt};
 ghost use Rattle.std.specs.HashMap.{hasher_of, IsUnchanged};
@@ -8,6 +8,7 @@ ghost use Rattle.std.specs.List.Sorted.{IsPermutation};
 ghost use Rattle.std.specs.Map.{lookup_key, remove_entry, set_value};
 ghost use Rattle.std.specs.Map.Calls.{ModifiesValue};
 ghost use Rattle.std.specs.Option.{UnwrapsOrElse};
+ghost use Rattle.wasmi_map_specs.specs.Errors.{FailsOnlyForMemory};
 ghost use Rattle.wasmi_map_specs.specs.Maps.{value_at};
 ghost use Rattle.wasmi_hashed.specs.MapEntry.{place, map_of, IsPlaceOf, IsOfInner, lends_place, inner_rests};
 
@@ -75,10 +76,12 @@ impl<K: Eq + Hash, V, S: BuildHasher, A: Allocator> Map<K, V, S, A> {
             (λ _. (map_with_value (place entry) last).entries ≡ set_value (K.eq key) self.old.entries last)) }
         ensures hasher { IfOk result (λ entry. (last : V)
             → hasher_of (map_with_value (place entry) last) ≡ self.old.hasher) }
+        ensures state { IfOk result (λ entry. (last : V)
+            → hasher_of (entry_map_ref (place entry)).now ≡ self.old.hasher) }
         ensures removed { IfOk result (λ entry. IsPermutation (remove_entry (K.eq key) self.old.entries)
             (map_without_entry (place entry)).entries) }
         ensures absent { OnErr result (value_at K.eq self.old.entries key ≡ None) }
-        ensures errors { IsOkUnless result ArenaError.OutOfSystemMemory }
+        ensures errors { FailsOnlyForMemory result }
     {
         of_inner(place_in(self.inner_mut(), key))
     }
@@ -94,6 +97,8 @@ fn place_in<'a, K: Eq + Hash + Drop, V, S: BuildHasher, A: Allocator + Clone>(
     ensures* rests { sem 𝓛 (inner_rests K.row V.row S.row A.row S.Hasher.row A.Allocator inner.entry result) }
     ensures same_map { IfOk result (λ there. (entry_map_ref there).ghost_name ≡ inner.entry.ghost_name) }
     ensures place { IfOk result (IsPlaceOf K.eq (map_of inner.old) key) }
+    ensures state { IfOk result (λ there. (last : V)
+        → hasher_of (entry_map_ref there).now ≡ hasher_of inner.old) }
     ensures absent { OnErr result (value_at K.eq inner.old.entries key ≡ None) }
 {
     inner.entry(key)

@@ -1,8 +1,9 @@
 //! Calls that put several entries into a map, make one of them, or clone a map.
-ghost use Rattle.std.specs.Prelude.{◌≡◌, [], List, map, IfOk, OnOk, OnErr, IsOkUnless};
+ghost use Rattle.std.specs.Prelude.{◌≡◌, [], List, map, IfOk, OnOk, OnErr};
 ghost use Rattle.std.specs.Iterator.{IsFiniteIterable};
 ghost use Rattle.std.specs.List.{AllZip};
 ghost use Rattle.std.specs.Map.Iter.{deref_pair};
+ghost use Rattle.wasmi_map_specs.specs.Errors.{FailsOnlyForMemory};
 ghost use Rattle.wasmi_map_specs.specs.Maps.{TakesAll, TakesUntilRefused};
 
 use super::Map;
@@ -25,7 +26,7 @@ impl<K: Eq + Hash, V, S: BuildHasher, A: Allocator> Map<K, V, S, A> {
         A: Clone,
         ensures entries { IfOk result (λ map. AllZip
             (λ old new. K.is_clone old.0 new.0 × V.is_clone old.1 new.1) self.now.entries map.entries) }
-        ensures errors { IsOkUnless result ArenaError.OutOfSystemMemory }
+        ensures errors { FailsOnlyForMemory result }
     {
         let inner = self.inner.clone()?;
         Ok(Map { inner })
@@ -50,7 +51,7 @@ impl<K: Eq + Hash, V, S: BuildHasher, A: Allocator + Clone> Map<K, V, S, A> {
         ensures err { OnErr result (TakesUntilRefused K.eq U.into_iter_gives
             U.IntoIter.next_gives (map deref_pair) iter self.old.entries self.new.entries) }
         ensures hasher { self.new.hasher ≡ self.old.hasher }
-        ensures errors { IsOkUnless result ArenaError.OutOfSystemMemory }
+        ensures errors { FailsOnlyForMemory result }
     {
         for (key, value) in iter {
             self.insert(*key, *value)?;
@@ -73,7 +74,7 @@ impl<K: Eq + Hash, V, S: BuildHasher, A: Allocator + Clone> Map<K, V, S, A> {
         ensures err { OnErr result (TakesUntilRefused K.eq U.into_iter_gives
             U.IntoIter.next_gives (λ pairs. pairs) iter self.old.entries self.new.entries) }
         ensures hasher { self.new.hasher ≡ self.old.hasher }
-        ensures errors { IsOkUnless result ArenaError.OutOfSystemMemory }
+        ensures errors { FailsOnlyForMemory result }
     {
         for (key, value) in iter {
             self.insert(key, value)?;
@@ -96,7 +97,7 @@ impl<K: Eq + Hash, V, A: Allocator + Clone> Map<K, V, FixedState, A> {
             (λ pairs. pairs) iter [] map.entries) }
         ensures err { OnErr result ((held : List (K × V)) × TakesUntilRefused K.eq
             U.into_iter_gives U.IntoIter.next_gives (λ pairs. pairs) iter [] held) }
-        ensures errors { IsOkUnless result ArenaError.OutOfSystemMemory }
+        ensures errors { FailsOnlyForMemory result }
     {
         let mut map = Map::new(alloc);
         map.extend(iter)?;

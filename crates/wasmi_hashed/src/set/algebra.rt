@@ -1,8 +1,9 @@
 //! Set theory: tests of two sets, iterators over two, and sets made of two.
-ghost use Rattle.std.specs.Prelude.{◌<◌, ◌^◌, ◌↔◌, ◌++◌, length, IfOk, IsOkUnless, IsTrue};
+ghost use Rattle.std.specs.Prelude.{◌<◌, ◌^◌, ◌↔◌, ◌++◌, length, IfOk, IsTrue};
 ghost use Rattle.std.specs.List.{AllByRecursion, IsAmong, IsDistinct};
 ghost use Rattle.std.specs.Map.Iter.{ShowsInOrder, deref};
 ghost use Rattle.std.specs.Set.{IsUnion, IsIntersection, IsDifference, IsSymmetricDifference};
+ghost use Rattle.wasmi_map_specs.specs.Errors.{FailsOnlyForMemory};
 ghost use Rattle.wasmi_map_specs.specs.Sets.{IsSubset, IsDisjoint, HoldsClones};
 
 use super::Set;
@@ -95,7 +96,7 @@ impl<T: Eq + Hash + Clone, A: Allocator + Clone> Set<T, FixedState, A> {
     pub fn bitand(&self, other: &Self) -> Result<Self, ArenaError>
         ensures ok { IfOk result (λ set. HoldsClones T.eq T.is_clone
             (IsIntersection T.eq self.now.elements other.now.elements) set.elements) }
-        ensures errors { IsOkUnless result ArenaError.OutOfSystemMemory }
+        ensures errors { FailsOnlyForMemory result }
     {
         let inner = (&self.inner & &other.inner)?;
         Ok(Set { inner })
@@ -109,7 +110,7 @@ impl<T: Eq + Hash + Clone, A: Allocator + Clone> Set<T, FixedState, A> {
     pub fn bitor(&self, other: &Self) -> Result<Self, ArenaError>
         ensures ok { IfOk result (λ set. HoldsClones T.eq T.is_clone
             (IsUnion T.eq self.now.elements other.now.elements) set.elements) }
-        ensures errors { IsOkUnless result ArenaError.OutOfSystemMemory }
+        ensures errors { FailsOnlyForMemory result }
     {
         let inner = (&self.inner | &other.inner)?;
         Ok(Set { inner })
@@ -122,7 +123,7 @@ impl<T: Eq + Hash + Clone, A: Allocator + Clone> Set<T, FixedState, A> {
     pub fn bitxor(&self, other: &Self) -> Result<Self, ArenaError>
         ensures ok { IfOk result (λ set. HoldsClones T.eq T.is_clone
             (IsSymmetricDifference T.eq self.now.elements other.now.elements) set.elements) }
-        ensures errors { IsOkUnless result ArenaError.OutOfSystemMemory }
+        ensures errors { FailsOnlyForMemory result }
     {
         let inner = (&self.inner ^ &other.inner)?;
         Ok(Set { inner })
@@ -135,7 +136,7 @@ impl<T: Eq + Hash + Clone, A: Allocator + Clone> Set<T, FixedState, A> {
     pub fn sub(&self, other: &Self) -> Result<Self, ArenaError>
         ensures ok { IfOk result (λ set. HoldsClones T.eq T.is_clone
             (IsDifference T.eq self.now.elements other.now.elements) set.elements) }
-        ensures errors { IsOkUnless result ArenaError.OutOfSystemMemory }
+        ensures errors { FailsOnlyForMemory result }
     {
         let inner = (&self.inner - &other.inner)?;
         Ok(Set { inner })

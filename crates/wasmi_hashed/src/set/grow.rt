@@ -1,8 +1,9 @@
 //! Calls that put several elements into a set, make one of them, or clone a set.
-ghost use Rattle.std.specs.Prelude.{◌≡◌, [], List, map, IfOk, OnOk, OnErr, IsOkUnless};
+ghost use Rattle.std.specs.Prelude.{◌≡◌, [], List, map, IfOk, OnOk, OnErr};
 ghost use Rattle.std.specs.Iterator.{IsFiniteIterable};
 ghost use Rattle.std.specs.List.{AllZip};
 ghost use Rattle.std.specs.Map.Iter.{deref};
+ghost use Rattle.wasmi_map_specs.specs.Errors.{FailsOnlyForMemory};
 ghost use Rattle.wasmi_map_specs.specs.Sets.{TakesAll, TakesUntilRefused};
 
 use super::Set;
@@ -23,7 +24,7 @@ impl<T: Eq + Hash, S: BuildHasher, A: Allocator> Set<T, S, A> {
         S: Clone,
         A: Clone,
         ensures elements { IfOk result (λ set. AllZip T.is_clone self.now.elements set.elements) }
-        ensures errors { IsOkUnless result ArenaError.OutOfSystemMemory }
+        ensures errors { FailsOnlyForMemory result }
     {
         let inner = self.inner.clone()?;
         Ok(Set { inner })
@@ -43,7 +44,7 @@ impl<T: Eq + Hash, A: Allocator + Clone> Set<T, FixedState, A> {
             (λ items. items) iter [] set.elements) }
         ensures err { OnErr result ((held : List T) × TakesUntilRefused T.eq
             U.into_iter_gives U.IntoIter.next_gives (λ items. items) iter [] held) }
-        ensures errors { IsOkUnless result ArenaError.OutOfSystemMemory }
+        ensures errors { FailsOnlyForMemory result }
     {
         let mut set = Set::new(alloc);
         set.extend(iter)?;
@@ -68,7 +69,7 @@ impl<T: Eq + Hash, S: BuildHasher, A: Allocator + Clone> Set<T, S, A> {
         ensures err { OnErr result (TakesUntilRefused T.eq U.into_iter_gives
             U.IntoIter.next_gives (map deref) iter self.old.elements self.new.elements) }
         ensures hasher { self.new.hasher ≡ self.old.hasher }
-        ensures errors { IsOkUnless result ArenaError.OutOfSystemMemory }
+        ensures errors { FailsOnlyForMemory result }
     {
         for value in iter {
             self.insert(*value)?;
@@ -90,7 +91,7 @@ impl<T: Eq + Hash, S: BuildHasher, A: Allocator + Clone> Set<T, S, A> {
         ensures err { OnErr result (TakesUntilRefused T.eq U.into_iter_gives
             U.IntoIter.next_gives (λ items. items) iter self.old.elements self.new.elements) }
         ensures hasher { self.new.hasher ≡ self.old.hasher }
-        ensures errors { IsOkUnless result ArenaError.OutOfSystemMemory }
+        ensures errors { FailsOnlyForMemory result }
     {
         for value in iter {
             self.insert(value)?;

@@ -1,5 +1,5 @@
 //! The place of a key in a map, found by one search.
-ghost use Rattle.std.specs.Prelude.{◌≡◌, IfOk, IsOk, IsOkUnless, IsSome, OnErr, Some, None, unwrap_or};
+ghost use Rattle.std.specs.Prelude.{◌≡◌, IfOk, IsOk, IsSome, OnErr, Some, None, unwrap_or};
 ghost use Rattle.std.specs.Borrow.{Bor, MutBor, sem};
 ghost use Rattle.std.specs.Fn.{FnOnceReturnsAt};
 ghost use Rattle.std.specs.BTreeMap.{insert_entry, IsUnchanged};
@@ -9,6 +9,7 @@ ghost use Rattle.std.specs.Map.Calls.{ModifiesValue};
 ghost use Rattle.std.specs.Option.{UnwrapsOrElse};
 ghost use Rattle.std.specs.Ordering.{eq_by_cmp};
 ghost use Rattle.std.specs.declared.cmp.Ordering.TheVariants.{Equal};
+ghost use Rattle.wasmi_map_specs.specs.Errors.{FailsOnlyForMemory};
 ghost use Rattle.wasmi_map_specs.specs.Maps.{value_at};
 ghost use Rattle.wasmi_ordered.specs.MapEntry.{place, IsPlaceOf, IsOfInner, lends_place, inner_rests};
 
@@ -73,7 +74,7 @@ impl<K: Hash + Ord, V, A: Allocator> Map<K, V, A> {
         ensures removed { IfOk result (λ entry. (map_without_entry (place entry)).entries
             ≡ remove_entry (eq_by_cmp K.cmp key) self.old) }
         ensures absent { OnErr result (value_at (eq_by_cmp K.cmp) self.old key ≡ None) }
-        ensures errors { IsOkUnless result ArenaError.OutOfSystemMemory }
+        ensures errors { FailsOnlyForMemory result }
     {
         of_inner(place_in(self.inner_mut(), key))
     }

@@ -1,9 +1,10 @@
 //! Calls that put several entries into a map, make one of them, or clone a map.
-ghost use Rattle.std.specs.Prelude.{[], List, map, IfOk, OnOk, OnErr, IsOkUnless};
+ghost use Rattle.std.specs.Prelude.{[], List, map, IfOk, OnOk, OnErr};
 ghost use Rattle.std.specs.Iterator.{IsFiniteIterable};
 ghost use Rattle.std.specs.List.{AllZip};
 ghost use Rattle.std.specs.Map.Iter.{deref_pair};
 ghost use Rattle.std.specs.Ordering.{eq_by_cmp};
+ghost use Rattle.wasmi_map_specs.specs.Errors.{FailsOnlyForMemory};
 ghost use Rattle.wasmi_map_specs.specs.Maps.{TakesAll, TakesUntilRefused};
 
 use super::Map;
@@ -24,7 +25,7 @@ impl<K: Hash + Ord, V, A: Allocator + Clone> Map<K, V, A> {
         V: Clone,
         ensures entries { IfOk result (AllZip
             (λ old new. K.is_clone old.0 new.0 × V.is_clone old.1 new.1) self.now) }
-        ensures errors { IsOkUnless result ArenaError.OutOfSystemMemory }
+        ensures errors { FailsOnlyForMemory result }
     {
         let inner = self.inner.clone()?;
         Ok(Map { inner })
@@ -46,7 +47,7 @@ impl<K: Hash + Ord, V, A: Allocator + Clone> Map<K, V, A> {
             (map deref_pair) iter self.old self.new) }
         ensures err { OnErr result (TakesUntilRefused (eq_by_cmp K.cmp) U.into_iter_gives
             U.IntoIter.next_gives (map deref_pair) iter self.old self.new) }
-        ensures errors { IsOkUnless result ArenaError.OutOfSystemMemory }
+        ensures errors { FailsOnlyForMemory result }
     {
         for (key, value) in iter {
             self.insert(*key, *value)?;
@@ -68,7 +69,7 @@ impl<K: Hash + Ord, V, A: Allocator + Clone> Map<K, V, A> {
             (λ pairs. pairs) iter self.old self.new) }
         ensures err { OnErr result (TakesUntilRefused (eq_by_cmp K.cmp) U.into_iter_gives
             U.IntoIter.next_gives (λ pairs. pairs) iter self.old self.new) }
-        ensures errors { IsOkUnless result ArenaError.OutOfSystemMemory }
+        ensures errors { FailsOnlyForMemory result }
     {
         for (key, value) in iter {
             self.insert(key, value)?;
@@ -89,7 +90,7 @@ impl<K: Hash + Ord, V, A: Allocator + Clone> Map<K, V, A> {
             (λ pairs. pairs) iter []) }
         ensures err { OnErr result ((held : List (K × V)) × TakesUntilRefused (eq_by_cmp K.cmp)
             U.into_iter_gives U.IntoIter.next_gives (λ pairs. pairs) iter [] held) }
-        ensures errors { IsOkUnless result ArenaError.OutOfSystemMemory }
+        ensures errors { FailsOnlyForMemory result }
     {
         let mut map = Map::new(alloc);
         map.extend(iter)?;

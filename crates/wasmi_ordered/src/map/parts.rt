@@ -1,8 +1,9 @@
 //! A part of a map, and maps that are cut in two or joined.
-ghost use Rattle.std.specs.Prelude.{◌≡◌, ◌<◌, ◌+◌, ◌^◌, ◌++◌, [], length, IfOk, OnOk, OnErr, IsOkUnless};
+ghost use Rattle.std.specs.Prelude.{◌≡◌, ◌<◌, ◌+◌, ◌^◌, ◌++◌, [], length, IfOk, OnOk, OnErr};
 ghost use Rattle.std.specs.BTreeMap.Range.{IsLeBy, IsLtBy, entries_below, entries_from, entries_between};
 ghost use Rattle.std.specs.Map.Iter.{ShowsInOrder, ShowsInReverse, deref_pair};
 ghost use Rattle.std.specs.Ordering.{eq_by_cmp};
+ghost use Rattle.wasmi_map_specs.specs.Errors.{FailsOnlyForMemory};
 ghost use Rattle.wasmi_map_specs.specs.Maps.{InsertsAll, TakesFront};
 
 use super::{Map, Range};
@@ -38,7 +39,7 @@ impl<K: Hash + Ord, V, A: Allocator> Map<K, V, A> {
         ensures below { OnOk result (self.new ≡ entries_below (K.cmp key.now) self.old) }
         ensures from { IfOk result (λ rest. rest ≡ entries_from (K.cmp key.now) self.old) }
         ensures parts { IfOk result (λ rest. self.old ≡ self.new ++ rest) }
-        ensures errors { IsOkUnless result ArenaError.OutOfSystemMemory }
+        ensures errors { FailsOnlyForMemory result }
         ensures err { OnErr result (self.new ≡ self.old) }
     {
         let inner = self.inner.split_off(key)?;
@@ -60,7 +61,7 @@ impl<K: Hash + Ord, V, A: Allocator> Map<K, V, A> {
         ensures ok { OnOk result (InsertsAll (eq_by_cmp K.cmp) self.old other.old self.new) }
         ensures empty { OnOk result (other.new ≡ []) }
         ensures moves { TakesFront (eq_by_cmp K.cmp) self.old other.old self.new other.new }
-        ensures errors { IsOkUnless result ArenaError.OutOfSystemMemory }
+        ensures errors { FailsOnlyForMemory result }
     {
         self.inner.append(&mut other.inner)?;
         Ok(())

@@ -1,9 +1,10 @@
 //! Set theory: tests of two sets, iterators over two, and sets made of two.
-ghost use Rattle.std.specs.Prelude.{◌≡◌, ◌<◌, ◌^◌, ◌↔◌, not, true, false, length, filter, IfOk, IsOkUnless, IsTrue};
+ghost use Rattle.std.specs.Prelude.{◌≡◌, ◌<◌, ◌^◌, ◌↔◌, not, true, false, length, filter, IfOk, IsTrue};
 ghost use Rattle.std.specs.List.Sorted.{IsStrictlySortedBy};
 ghost use Rattle.std.specs.Map.Iter.{ShowsInOrder, deref};
 ghost use Rattle.std.specs.Ordering.{eq_by_cmp};
 ghost use Rattle.std.specs.Set.{is_member, sorted_merge, IsUnion, IsIntersection, IsDifference, IsSymmetricDifference};
+ghost use Rattle.wasmi_map_specs.specs.Errors.{FailsOnlyForMemory};
 ghost use Rattle.wasmi_map_specs.specs.Sets.{IsSubset, IsDisjoint, HoldsClones};
 
 use super::Set;
@@ -95,7 +96,7 @@ impl<T: Hash + Ord + Clone, A: Allocator + Clone> Set<T, A> {
     pub fn bitand(&self, other: &Self) -> Result<Self, ArenaError>
         ensures ok { IfOk result (HoldsClones (eq_by_cmp T.cmp) T.is_clone
             (IsIntersection (eq_by_cmp T.cmp) self.now other.now)) }
-        ensures errors { IsOkUnless result ArenaError.OutOfSystemMemory }
+        ensures errors { FailsOnlyForMemory result }
     {
         let inner = (&self.inner & &other.inner)?;
         Ok(Set { inner })
@@ -109,7 +110,7 @@ impl<T: Hash + Ord + Clone, A: Allocator + Clone> Set<T, A> {
     pub fn bitor(&self, other: &Self) -> Result<Self, ArenaError>
         ensures ok { IfOk result (HoldsClones (eq_by_cmp T.cmp) T.is_clone
             (IsUnion (eq_by_cmp T.cmp) self.now other.now)) }
-        ensures errors { IsOkUnless result ArenaError.OutOfSystemMemory }
+        ensures errors { FailsOnlyForMemory result }
     {
         let inner = (&self.inner | &other.inner)?;
         Ok(Set { inner })
@@ -122,7 +123,7 @@ impl<T: Hash + Ord + Clone, A: Allocator + Clone> Set<T, A> {
     pub fn bitxor(&self, other: &Self) -> Result<Self, ArenaError>
         ensures ok { IfOk result (HoldsClones (eq_by_cmp T.cmp) T.is_clone
             (IsSymmetricDifference (eq_by_cmp T.cmp) self.now other.now)) }
-        ensures errors { IsOkUnless result ArenaError.OutOfSystemMemory }
+        ensures errors { FailsOnlyForMemory result }
     {
         let inner = (&self.inner ^ &other.inner)?;
         Ok(Set { inner })
@@ -135,7 +136,7 @@ impl<T: Hash + Ord + Clone, A: Allocator + Clone> Set<T, A> {
     pub fn sub(&self, other: &Self) -> Result<Self, ArenaError>
         ensures ok { IfOk result (HoldsClones (eq_by_cmp T.cmp) T.is_clone
             (IsDifference (eq_by_cmp T.cmp) self.now other.now)) }
-        ensures errors { IsOkUnless result ArenaError.OutOfSystemMemory }
+        ensures errors { FailsOnlyForMemory result }
     {
         let inner = (&self.inner - &other.inner)?;
         Ok(Set { inner })

@@ -1,9 +1,10 @@
 //! Calls that put several elements into a set, make one of them, or clone a set.
-ghost use Rattle.std.specs.Prelude.{[], List, map, IfOk, OnOk, OnErr, IsOkUnless};
+ghost use Rattle.std.specs.Prelude.{[], List, map, IfOk, OnOk, OnErr};
 ghost use Rattle.std.specs.Iterator.{IsFiniteIterable};
 ghost use Rattle.std.specs.List.{AllZip};
 ghost use Rattle.std.specs.Map.Iter.{deref};
 ghost use Rattle.std.specs.Ordering.{eq_by_cmp};
+ghost use Rattle.wasmi_map_specs.specs.Errors.{FailsOnlyForMemory};
 ghost use Rattle.wasmi_map_specs.specs.Sets.{TakesAll, TakesUntilRefused};
 
 use super::Set;
@@ -21,7 +22,7 @@ impl<T: Hash + Ord, A: Allocator + Clone> Set<T, A> {
     where
         T: Clone,
         ensures elements { IfOk result (AllZip T.is_clone self.now) }
-        ensures errors { IsOkUnless result ArenaError.OutOfSystemMemory }
+        ensures errors { FailsOnlyForMemory result }
     {
         let inner = self.inner.clone()?;
         Ok(Set { inner })
@@ -39,7 +40,7 @@ impl<T: Hash + Ord, A: Allocator + Clone> Set<T, A> {
             (λ items. items) iter []) }
         ensures err { OnErr result ((held : List T) × TakesUntilRefused (eq_by_cmp T.cmp)
             U.into_iter_gives U.IntoIter.next_gives (λ items. items) iter [] held) }
-        ensures errors { IsOkUnless result ArenaError.OutOfSystemMemory }
+        ensures errors { FailsOnlyForMemory result }
     {
         let mut set = Set::new(alloc);
         set.extend(iter)?;
@@ -61,7 +62,7 @@ impl<T: Hash + Ord, A: Allocator + Clone> Set<T, A> {
             (map deref) iter self.old self.new) }
         ensures err { OnErr result (TakesUntilRefused (eq_by_cmp T.cmp) U.into_iter_gives
             U.IntoIter.next_gives (map deref) iter self.old self.new) }
-        ensures errors { IsOkUnless result ArenaError.OutOfSystemMemory }
+        ensures errors { FailsOnlyForMemory result }
     {
         for value in iter {
             self.insert(*value)?;
@@ -82,7 +83,7 @@ impl<T: Hash + Ord, A: Allocator + Clone> Set<T, A> {
             (λ items. items) iter self.old self.new) }
         ensures err { OnErr result (TakesUntilRefused (eq_by_cmp T.cmp) U.into_iter_gives
             U.IntoIter.next_gives (λ items. items) iter self.old self.new) }
-        ensures errors { IsOkUnless result ArenaError.OutOfSystemMemory }
+        ensures errors { FailsOnlyForMemory result }
     {
         for value in iter {
             self.insert(value)?;

@@ -1,10 +1,11 @@
 //! A part of a set, and sets that are cut in two or joined.
-ghost use Rattle.std.specs.Prelude.{◌≡◌, ◌<◌, ◌^◌, ◌++◌, [], length, IfOk, OnOk, OnErr, IsOkUnless};
+ghost use Rattle.std.specs.Prelude.{◌≡◌, ◌<◌, ◌^◌, ◌++◌, [], length, IfOk, OnOk, OnErr};
 ghost use Rattle.std.specs.BTreeMap.Range.{IsLeBy, IsLtBy, range_contains};
 ghost use Rattle.std.specs.List.{filter};
 ghost use Rattle.std.specs.Map.Iter.{ShowsInOrder, ShowsInReverse, deref};
 ghost use Rattle.std.specs.Ordering.{eq_by_cmp, is_gt, is_le};
 ghost use Rattle.std.specs.Set.{IsUnion};
+ghost use Rattle.wasmi_map_specs.specs.Errors.{FailsOnlyForMemory};
 ghost use Rattle.wasmi_map_specs.specs.Sets.{TakesFront};
 
 use super::{Range, Set};
@@ -39,7 +40,7 @@ impl<T: Hash + Ord, A: Allocator> Set<T, A> {
         ensures below { OnOk result (self.new ≡ filter (λ q. is_gt (T.cmp value.now q)) self.old) }
         ensures from { IfOk result (λ rest. rest ≡ filter (λ q. is_le (T.cmp value.now q)) self.old) }
         ensures parts { IfOk result (λ rest. self.old ≡ self.new ++ rest) }
-        ensures errors { IsOkUnless result ArenaError.OutOfSystemMemory }
+        ensures errors { FailsOnlyForMemory result }
         ensures err { OnErr result (self.new ≡ self.old) }
     {
         let inner = self.inner.split_off(value)?;
@@ -60,7 +61,7 @@ impl<T: Hash + Ord, A: Allocator> Set<T, A> {
         ensures ok { OnOk result (IsUnion (eq_by_cmp T.cmp) self.old other.old self.new) }
         ensures empty { OnOk result (other.new ≡ []) }
         ensures moves { TakesFront (eq_by_cmp T.cmp) self.old other.old self.new other.new }
-        ensures errors { IsOkUnless result ArenaError.OutOfSystemMemory }
+        ensures errors { FailsOnlyForMemory result }
     {
         self.inner.append(&mut other.inner)?;
         Ok(())

@@ -1,4 +1,4 @@
-use Rattle.wasmi_arena.proofs.Geometry.{fewest_is_least, fewest_is}
+use Rattle.wasmi_arena.proofs.Doubling.{fewest_is_least, fewest_is}
 use Rattle.wasmi_arena.proofs.laws.fewest_is_least.Goals as goal
 
 pub returns-clause-least : goal.returns-clause-least

@@ -1,4 +1,4 @@
-use Rattle.wasmi_arena.proofs.Geometry.{place_of}
+use Rattle.wasmi_arena.proofs.Doubling.{place_of}
 use Rattle.wasmi_arena.proofs.laws.place_exists.Goals as goal
 
 pub returns : goal.returns

@@ -1,4 +1,4 @@
-use Rattle.wasmi_arena.proofs.Geometry.{place_unique}
+use Rattle.wasmi_arena.proofs.Doubling.{place_unique}
 use Rattle.wasmi_arena.proofs.laws.place_is_unique.Goals as goal
 
 pub returns : goal.returns

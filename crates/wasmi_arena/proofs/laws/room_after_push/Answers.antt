@@ -1,4 +1,4 @@
-use Rattle.wasmi_arena.proofs.Geometry.{room-add-one}
+use Rattle.wasmi_arena.proofs.Doubling.{room-add-one}
 use Rattle.wasmi_arena.proofs.laws.room_after_push.Goals as goal
 
 pub returns : goal.returns

@@ -1,4 +1,4 @@
-use Rattle.wasmi_arena.proofs.Geometry.{place_of_slot}
+use Rattle.wasmi_arena.proofs.Doubling.{place_of_slot}
 use Rattle.wasmi_arena.proofs.laws.slot_has_one_index.Goals as goal
 
 pub returns-clause-index : goal.returns-clause-index

@@ -1,4 +1,4 @@
-use Rattle.wasmi_arena.proofs.Geometry.{slots-zero, slots-le}
+use Rattle.wasmi_arena.proofs.Doubling.{slots-zero, slots-le}
 use Rattle.wasmi_arena.proofs.laws.slots_are_few.Goals as goal
 
 pub returns-clause-none : goal.returns-clause-none

@@ -6,21 +6,10 @@ ghost use Rattle.wasmi_arena.specs.LoanLend.{lends_slots, lends_pair};
 ghost use Rattle.wasmi_arena.specs.Table.{items_in, items_of, HasBuckets};
 
 use super::ItemsLoan;
-use crate::{Bucket, StableVec};
+use crate::Bucket;
+use crate::geometry::places;
 use std::alloc::Allocator;
 use std::mem::align_of;
-
-// The bucket and the slot of one index, and those of another.
-fn places(first: usize, second: usize) -> (usize, usize, usize, usize)
-    requires first { first < max_len }
-    requires second { second < max_len }
-    ensures first { IsPlace first result.0 result.1 }
-    ensures second { IsPlace second result.2 result.3 }
-{
-    let (bucket, slot) = StableVec::<()>::place(first);
-    let (other_bucket, other_slot) = StableVec::<()>::place(second);
-    (bucket, slot, other_bucket, other_slot)
-}
 
 impl<'a, T, A: Allocator> ItemsLoan<'a, T, A> {
     // The items in two filled slots, of one bucket or of two. Each is found by its own bucket's pointer, so

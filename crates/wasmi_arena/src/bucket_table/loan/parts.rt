@@ -8,18 +8,9 @@ ghost use Rattle.wasmi_arena.specs.TableLend.{lends_filled};
 
 use super::ItemsLoan;
 use crate::Bucket;
-use crate::option::unwrap_mut;
+use crate::bucket_table::lend::items_mut;
 use std::alloc::Allocator;
 use std::marker::PhantomData;
-
-// The items of an open bucket, to write to.
-fn items_mut<T, A: Allocator>(bucket: &mut Option<Bucket<T, A>>) -> &mut [T]
-    requires { IsSome bucket.old }
-    ensures* writes_back { sem 𝓛 (lends_filled T.row A.row A.Allocator bucket.entry result) }
-    ensures value { result.now ≡ items_in bucket.old }
-{
-    unwrap_mut(bucket).slice_mut()
-}
 
 impl<'a, T, A: Allocator> ItemsLoan<'a, T, A> {
     /// Two loans: of the first buckets, of which there are `count`, and of those behind them.

@@ -1,5 +1,5 @@
 //! Calls by a text, where the values are `String`s: no value has to be made for a text that is there.
-ghost use Rattle.std.specs.Prelude.{ℕ, List, String, ◌≡◌, ◌<◌, ◌≤◌, ◌↔◌, length, map, None, Some, Ok, IfSome, IfOk, IfErr, OnErr, IsErrOf, ◌⊎◌, option_map};
+ghost use Rattle.std.specs.Prelude.{ℕ, List, String, ◌≡◌, ◌<◌, ◌≤◌, ◌↔◌, length, map, None, Some, Ok, IfSome, IfOk, IfErr, OnErr, IsErrOf, ◌⊎◌, option_map, slice_get};
 ghost use Rattle.std.specs.String.{string_bytes, string_eq};
 ghost use Rattle.wasmi_collections.specs.Dedup.{AllocatesValue};
 ghost use Rattle.wasmi_interner.specs.Interner.{symbol_of};
@@ -17,6 +17,10 @@ impl<Key: ArenaKey, B: Allocator, A: Allocator> DedupArena<Key, String<B>, A> {
         ensures known { IfSome result (λ key.
             symbol_of (map string_bytes self.now.handed) text.now ≡ Some (Key.keys.number key)) }
         ensures within { IfSome result (λ key. Key.keys.number key < length self.now.items) }
+        ensures reads { IfSome result (λ key.
+            slice_get (map string_bytes self.now.handed) (Key.keys.number key) ≡ Some text.now) }
+        ensures alone { (place : ℕ) → slice_get (map string_bytes self.now.handed) place ≡ Some text.now
+            → result ≡ Some (Key.keys.key place) }
     {
         match self.index.get_str(text) {
             Some(key) => Some(*key),
@@ -47,6 +51,15 @@ impl<Key: ArenaKey, B: Allocator, A: Allocator> DedupArena<Key, String<B>, A> {
         ensures kept { (other : List ℕ) (p : ℕ)
             → symbol_of (map string_bytes self.old.handed) other ≡ Some p
             → symbol_of (map string_bytes self.new.handed) other ≡ Some p }
+        ensures reads { IfOk result (λ key.
+            slice_get (map string_bytes self.new.handed) (Key.keys.number key) ≡ Some text.now) }
+        ensures earlier { (place : ℕ) (item : String B) → slice_get self.old.items place ≡ Some item
+            → slice_get self.new.items place ≡ Some item }
+        ensures earlier_values { (place : ℕ) (other : String B) → slice_get self.old.handed place ≡ Some other
+            → slice_get self.new.handed place ≡ Some other }
+        ensures earlier_texts { (place : ℕ) (other : List ℕ)
+            → slice_get (map string_bytes self.old.handed) place ≡ Some other
+            → slice_get (map string_bytes self.new.handed) place ≡ Some other }
     {
         if let Some(key) = self.key_of_str(text) {
             return Ok(key);

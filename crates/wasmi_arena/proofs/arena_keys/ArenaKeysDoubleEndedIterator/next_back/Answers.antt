@@ -11,7 +11,7 @@ last_key keys next left some =
     ap (λ n. map keys.key (range_with_len next n)) more ∙ map-range_with_len_more keys.key next (left - 1) (next + (left - 1)) refl
 
 pub returns-clause-steps : goal.returns-clause-steps
-returns-clause-steps g c = rw (← c.self.view_is, c.in-Some.ensures.1) (last_key g.Key.ArenaKey.keys c.self.inside.next c.self.inside.left c.if-self-eq0.false)
+returns-clause-steps g c = rw (← c.self.view_is, c.key_at.ensures) (last_key g.Key.ArenaKey.keys c.self.inside.next c.self.inside.left c.if-self-eq0.false)
 
 pub returns-clause-goes : goal.returns-clause-goes
 returns-clause-goes g c =

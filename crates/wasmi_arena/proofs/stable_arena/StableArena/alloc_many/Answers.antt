@@ -1,6 +1,6 @@
 use Rattle.std.proofs.Common.{arith, length, sym, true≢false}
 use Rattle.wasmi_arena.specs.Geometry.{fewest}
-use Rattle.wasmi_arena.proofs.Geometry.{start_mono, fewest-le}
+use Rattle.wasmi_arena.proofs.Doubling.{start_mono, fewest-le}
 use Rattle.wasmi_arena.proofs.stable_arena.StableArena.alloc_many.Goals as goal
 
 pub returns-then-amount-len-clause-with_room : goal.returns-then-amount-len-clause-with_room

@@ -3,7 +3,7 @@ use Rattle.std.specs.Option.{SomeIff, is_some}
 use Rattle.wasmi_arena.specs.Geometry.{max_len, fewest, slots}
 use Rattle.wasmi_arena.specs.Keys.{Keys}
 use Rattle.wasmi_arena.specs.Arena.{stable_limit}
-use Rattle.wasmi_arena.proofs.Geometry.{start_mono, fewest-le}
+use Rattle.wasmi_arena.proofs.Doubling.{start_mono, fewest-le}
 use Rattle.wasmi_arena.proofs.stable_arena.StableArena.fill_last_from.Goals as goal
 
 -- what holds exactly where there is a key

@@ -2,7 +2,7 @@ use Rattle.std.proofs.Common.{arith, ◌≡◌, ℕ, ◌+◌, ◌-◌, ◌<◌, 
 use Rattle.wasmi_arena.specs.Bucket.{Bucket}
 use Rattle.wasmi_arena.specs.Geometry.{size, max_len, fewest}
 use Rattle.wasmi_arena.specs.Growth.{AppendsMany}
-use Rattle.wasmi_arena.proofs.Geometry.{size_pos}
+use Rattle.wasmi_arena.proofs.Doubling.{size_pos}
 use Rattle.wasmi_arena.proofs.Growth.{many_more, many_length, many_moved}
 use Rattle.wasmi_arena.proofs.Apart.{apart_later, apart_below, apart_first, apart_taken, apart_rest, room_next, room_filled}
 use Rattle.wasmi_arena.proofs.stable_vec.StableVec.fill_from.Goals as goal

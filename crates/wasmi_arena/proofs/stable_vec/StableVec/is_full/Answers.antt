@@ -3,4 +3,4 @@ use Rattle.wasmi_arena.proofs.LaidOut.{free-lt_max}
 use Rattle.wasmi_arena.proofs.stable_vec.StableVec.is_full.Goals as goal
 
 pub returns-then-self : goal.returns-then-self
-returns-then-self g c = (λ never. cc, rw (← c.self.view_is) (λ full. absurd (not-le_of_lt (free-lt_max _ _ _ _ c.self.invariant c.if-self.true) full)))
+returns-then-self g c = (λ never. cc, rw (← c.self.view_is) (λ full. absurd (not-le_of_lt (free-lt_max c.self.invariant c.if-self.true) full)))

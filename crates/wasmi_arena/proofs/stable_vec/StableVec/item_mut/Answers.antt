@@ -4,17 +4,17 @@ use Rattle.wasmi_arena.proofs.stable_vec.StableVec.item_mut.Goals as goal
 
 pub slot_mut-requires : goal.slot_mut-requires
 slot_mut-requires g c =
-    rw (← c.bucket_mut-found.ensures.value) (slot_filled _ _ _ _ c.self.invariant _ _ _ c.place-bucket.ensures.place (index-lt_len _ _ _ _ c.self.invariant (rw c.self.view_is c.requires)))
+    rw (← c.bucket_mut-found.ensures.value) (slot_filled c.self.invariant c.place-bucket.ensures.place (index-lt_len c.self.invariant (rw c.self.view_is c.requires)))
 
 pub invariant_of-self-lent : goal.invariant_of-self-lent
 invariant_of-self-lent g c = λ w.
-    rw (← c.bucket_mut-found.ensures.value) (IsLaidOut-written _ _ _ _ c.self.invariant _ _ _ c.place-bucket.ensures.place (index-lt_len _ _ _ _ c.self.invariant (rw c.self.view_is c.requires)) w)
+    rw (← c.bucket_mut-found.ensures.value) (IsLaidOut-written c.self.invariant c.place-bucket.ensures.place (index-lt_len c.self.invariant (rw c.self.view_is c.requires)) w)
 
 pub returns : goal.returns
 returns g c =
-    let below = index-lt_len _ _ _ _ c.self.invariant (rw c.self.view_is c.requires) in
-    let written = items_of-written _ _ _ _ c.self.invariant _ _ _ c.place-bucket.ensures.place below in
-    let read = slice_get-slot _ _ _ _ c.self.invariant _ _ _ c.place-bucket.ensures.place below in (
+    let below = index-lt_len c.self.invariant (rw c.self.view_is c.requires) in
+    let written = items_of-written c.self.invariant c.place-bucket.ensures.place below in
+    let read = slice_get-slot c.self.invariant c.place-bucket.ensures.place below in (
       (refl, λ w. rw (← c.bucket_mut-found.ensures.value, ← c.self.view_is) (written w)),
       record {
         writes_back = tt;

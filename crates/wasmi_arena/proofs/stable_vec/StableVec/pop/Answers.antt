@@ -1,5 +1,5 @@
 use Rattle.std.proofs.Common.{◌≡◌, ℕ, ◌+◌, ◌-◌, ◌<◌, sym, arith}
-use Rattle.wasmi_arena.proofs.Geometry.{fewest-le, place-le_max}
+use Rattle.wasmi_arena.proofs.Doubling.{fewest-le, place-le_max}
 use Rattle.wasmi_arena.proofs.LaidOut.{items_of-pop, IsLaidOut-pop, last_in_place, popped}
 use Rattle.wasmi_arena.proofs.stable_vec.StableVec.pop.Goals as goal
 
@@ -9,7 +9,7 @@ before_last some = omega arith
 
 pub pop_from-item-requires-clause-last : goal.pop_from-item-requires-clause-last
 pop_from-item-requires-clause-last g c =
-    last_in_place _ _ _ _ c.self.invariant _ _ _ c.place-place.ensures.place (before_last (omega (arith, c.if-self-eq0.false)))
+    last_in_place c.self.invariant c.place-place.ensures.place (before_last (omega (arith, c.if-self-eq0.false)))
 
 pub start_of-self-inside-requires : goal.start_of-self-inside-requires
 start_of-self-inside-requires g c = rw c.buckets_before-self-inside.ensures (fewest-le _ (place-le_max c.place-place.ensures.place))
@@ -17,20 +17,20 @@ start_of-self-inside-requires g c = rw c.buckets_before-self-inside.ensures (few
 pub invariant_of-self : goal.invariant_of-self
 invariant_of-self g c =
     rw (c.pop_from-item.ensures.bucket, c.start_of-self-inside.ensures, c.buckets_before-self-inside.ensures)
-    (IsLaidOut-pop _ _ _ _ c.self.invariant _ _ _ c.place-place.ensures.place (before_last (omega (arith, c.if-self-eq0.false))))
+    (IsLaidOut-pop c.self.invariant c.place-place.ensures.place (before_last (omega (arith, c.if-self-eq0.false))))
 
 pub returns-clause-rest : goal.returns-clause-rest
 returns-clause-rest g c =
     rw (c.pop_from-item.ensures.bucket, ← c.self.view_is, ← c.self.invariant.items_counted)
-    (items_of-pop _ _ _ _ c.self.invariant _ _ _ c.place-place.ensures.place (before_last (omega (arith, c.if-self-eq0.false))))
+    (items_of-pop c.self.invariant c.place-place.ensures.place (before_last (omega (arith, c.if-self-eq0.false))))
 
 pub returns-clause-items : goal.returns-clause-items
 returns-clause-items g c =
     let last = before_last (omega (arith, c.if-self-eq0.false)) in
-    rw (c.pop_from-item.ensures.bucket, items_of-pop _ _ _ _ c.self.invariant _ _ _ c.place-place.ensures.place last, ← c.self.view_is)
-    (popped _ _ _ _ c.self.invariant _ _ _ c.place-place.ensures.place last _ c.pop_from-item.ensures.item).1
+    rw (c.pop_from-item.ensures.bucket, items_of-pop c.self.invariant c.place-place.ensures.place last, ← c.self.view_is)
+    (popped c.self.invariant c.place-place.ensures.place last _ c.pop_from-item.ensures.item).1
 
 pub returns-clause-value : goal.returns-clause-value
 returns-clause-value g c =
     let last = before_last (omega (arith, c.if-self-eq0.false)) in
-    rw (← c.self.view_is, ← c.self.invariant.items_counted) (sym (popped _ _ _ _ c.self.invariant _ _ _ c.place-place.ensures.place last _ c.pop_from-item.ensures.item).0)
+    rw (← c.self.view_is, ← c.self.invariant.items_counted) (sym (popped c.self.invariant c.place-place.ensures.place last _ c.pop_from-item.ensures.item).0)

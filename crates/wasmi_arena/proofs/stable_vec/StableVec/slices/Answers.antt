@@ -6,11 +6,11 @@ use Rattle.wasmi_arena.proofs.stable_vec.StableVec.slices.Goals as goal
 
 pub slice_bounds-open-end : goal.slice_bounds-open-end
 slice_bounds-open-end g c =
-    let few = open-le_27 _ _ _ _ c.self.invariant in let counted = c.self.invariant.buckets_counted in
+    let few = open-le_27 c.self.invariant in let counted = c.self.invariant.buckets_counted in
     omega (arith, length-take c.self.inside.open_buckets c.self.inside.table.buckets)
 
 pub invariant_of-result : goal.invariant_of-result
-invariant_of-result g c = rw c.iter.ensures.rest (parts_open _ _ _ _ c.self.invariant).0
+invariant_of-result g c = rw c.iter.ensures.rest (parts_open c.self.invariant).0
 
 pub returns-clause-parts : goal.returns-clause-parts
-returns-clause-parts g c = rw (c.iter.ensures.rest, ← c.self.view_is) (parts_open _ _ _ _ c.self.invariant).1
+returns-clause-parts g c = rw (c.iter.ensures.rest, ← c.self.view_is) (parts_open c.self.invariant).1

@@ -10,14 +10,14 @@ swap-requires g c =
       table_small g.row.T g.row.A g.A.Allocator assumption,
       (
         λ same alike. c.if-first-second.false (sym one.index_is ∙ ((λ k. start (same k) + alike k) ∙ other.index_is)),
-        (slot_filled _ _ _ _ c.self.invariant _ _ _ one c.if-first-self.false, slot_filled _ _ _ _ c.self.invariant _ _ _ other c.if-second-self.false),
+        (slot_filled c.self.invariant one c.if-first-self.false, slot_filled c.self.invariant other c.if-second-self.false),
       ),
     )
 
 pub invariant_of-self : goal.invariant_of-self
 invariant_of-self g c =
-    (IsLaidOut-swap _ _ _ _ c.self.invariant _ _ _ c.place-bucket.ensures.place c.if-first-self.false _ _ _ c.place-other_bucket.ensures.place c.if-second-self.false _ c.swap.ensures).0
+    (IsLaidOut-swap c.self.invariant c.place-bucket.ensures.place c.if-first-self.false c.place-other_bucket.ensures.place c.if-second-self.false _ c.swap.ensures).0
 
 pub returns-clause-ok : goal.returns-clause-ok
 returns-clause-ok g c =
-    rw (← c.self.view_is) (IsLaidOut-swap _ _ _ _ c.self.invariant _ _ _ c.place-bucket.ensures.place c.if-first-self.false _ _ _ c.place-other_bucket.ensures.place c.if-second-self.false _ c.swap.ensures).1
+    rw (← c.self.view_is) (IsLaidOut-swap c.self.invariant c.place-bucket.ensures.place c.if-first-self.false c.place-other_bucket.ensures.place c.if-second-self.false _ c.swap.ensures).1

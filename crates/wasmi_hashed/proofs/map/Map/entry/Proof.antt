@@ -123,9 +123,10 @@ entry_spec 𝓤 𝓛 𝓜 𝓡 wired X Y S Z N LX LY LS LZ LN e de p dp h dh s d
     use1 𝓛 (later (some (λ (r : There.Denot). (alive ⊛ ‵ (There.own_val r (v₂ ∷ []))) ⊛
     some (λ (ws : Unit {0} × (Unit {0} × Unit {0})). ‵ (lasts (Asks.ended X Y S Z N e de p dp h dh s ds n dn g dg cl dcl dk dd dm) κs (t, (key, tt)) ws)
     ⊛ ‵ (inner_rests K V T A H g t r) ⊛ raw (fact 𝓤 (IfOk r (λ there. (entry_map_ref there).ghost_name ≡ t.ghost_name)))
-    ⊛ raw (fact 𝓤 (IfOk r (IsPlaceOf p.eq (map_of t.now) key))) ⊛ raw (fact 𝓤 (OnErr r (value_at p.eq t.now.entries key ≡ None))))))) (id⊢ 𝓤 _) $
+    ⊛ raw (fact 𝓤 (IfOk r (IsPlaceOf p.eq (map_of t.now) key))) ⊛ raw (fact 𝓤 (IfOk r (λ there. (last : Y.Denot) → hasher_of (entry_map_ref there).now ≡ hasher_of t.now)))
+    ⊛ raw (fact 𝓤 (OnErr r (value_at p.eq t.now.entries key ≡ None))))))) (id⊢ 𝓤 _) $
     await ! tt $ pick ! (λ r. split ! $ split ! $ move ! (2 ∷ []) $ pick ! (λ ws. split ! $ drop ! $ split ! $ move ! (1 ∷ []) $
-    split ! $ heard ! _ (λ same_map. split ! $ heard ! _ (λ is_place. heard ! _ (λ is_absent.
+    split ! $ heard ! _ (λ same_map. split ! $ heard ! _ (λ is_place. split ! $ heard ! _ (λ has_state. heard ! _ (λ is_absent.
     -- [how the inner map is left; the tokens; the answer; what the map is in the end]
     move ! (2 ∷ []) $ peeks ! There _ (shows 𝓛 There) r (v₂ ∷ []) (λ seen₂.
     lands_as ! refl refl ((there_laws.lawful 𝓛).typed r (v₂ ∷ []) seen₂).0 $
@@ -153,6 +154,8 @@ entry_spec 𝓤 𝓛 𝓜 𝓡 wired X Y S Z N LX LY LS LZ LN e de p dp h dh s d
     use0 𝓛 (raw (fact 𝓤 (OnErr res (value_at p.eq map.now.entries key ≡ None)))) (fact_i 𝓤 _ (emp 𝓤)
     (subst (λ (m : Entries X.Denot Y.Denot S.Denot). OnErr res (value_at p.eq m.entries key ≡ None)) as_map (of_absence place OutOfSystemMemory _ r res made is_absent))) $
     use0 𝓛 (raw (fact 𝓤 (IfOk res (λ entry. IsPermutation (remove_entry (p.eq key) map.now.entries) (map_without_entry (place entry)).entries)))) (fact_i 𝓤 _ (emp 𝓤) (each_ok res is (λ entry told. told.7))) $
+    use0 𝓛 (raw (fact 𝓤 (IfOk res (λ entry. (last : Y.Denot) → hasher_of (entry_map_ref (place entry)).now ≡ map.now.hasher)))) (fact_i 𝓤 _ (emp 𝓤)
+    (subst (λ (m : Entries X.Denot Y.Denot S.Denot). IfOk res (λ entry. (last : Y.Denot) → hasher_of (entry_map_ref (place entry)).now ≡ m.hasher)) as_map (of_place place OutOfSystemMemory (λ there. (last : Y.Denot) → hasher_of (entry_map_ref there).now ≡ hasher_of t.now) r res made has_state))) $
     use0 𝓛 (raw (fact 𝓤 (IfOk res (λ entry. (last : Y.Denot) → hasher_of (map_with_value (place entry) last) ≡ map.now.hasher)))) (fact_i 𝓤 _ (emp 𝓤) (each_ok res is (λ entry told. told.6))) $
     use0 𝓛 (raw (fact 𝓤 (IfOk res (λ entry. (last : Y.Denot) → MatchOption (value_at p.eq map.now.entries key) (IsPermutation ((key, last) ∷ map.now.entries) (map_with_value (place entry) last).entries) (λ _. (map_with_value (place entry) last).entries ≡ set_value (p.eq key) map.now.entries last))))) (fact_i 𝓤 _ (emp 𝓤) (each_ok res is (λ entry told. told.5))) $
     use0 𝓛 (raw (fact 𝓤 (IfOk res (λ entry. (entry_map_ref (place entry)).now.entries ≡ map.now.entries)))) (fact_i 𝓤 _ (emp 𝓤) (each_ok res is (λ entry told. told.4))) $
@@ -160,4 +163,4 @@ entry_spec 𝓤 𝓛 𝓜 𝓡 wired X Y S Z N LX LY LS LZ LN e de p dp h dh s d
     use0 𝓛 (raw (fact 𝓤 (IfOk res (λ entry. entry_value (place entry) ≡ value_at p.eq map.now.entries key)))) (fact_i 𝓤 _ (emp 𝓤) (each_ok res is (λ entry told. told.2))) $
     use0 𝓛 (raw (fact 𝓤 (IfOk res (λ entry. p.eq key (entry_key (place entry)) ≡ true)))) (fact_i 𝓤 _ (emp 𝓤) (each_ok res is (λ entry told. told.1))) $
     use0 𝓛 (raw (fact 𝓤 (IfOk res (λ entry. entry_value (place entry) ≡ None → entry_key (place entry) ≡ key)))) (fact_i 𝓤 _ (emp 𝓤) (each_ok res is (λ entry told. told.0))) $
-    use0 𝓛 (‵ (let_go 2)) (gone 𝓛 2) $ move ! (13 ∷ 0 ∷ 11 ∷ []) $ group ! 3 $ move ! (0 ∷ 11 ∷ []) $ done !)))))))))))))))))))))))))
+    use0 𝓛 (‵ (let_go 2)) (gone 𝓛 2) $ move ! (14 ∷ 0 ∷ 12 ∷ []) $ group ! 3 $ move ! (0 ∷ 12 ∷ []) $ done !))))))))))))))))))))))))))

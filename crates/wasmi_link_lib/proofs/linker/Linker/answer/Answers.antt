@@ -1,7 +1,7 @@
-use Rattle.std.proofs.Common.{◌≡◌, ◌∙◌, ap, cond, map, option_map, slice_get, Some, sym}
+use Rattle.std.proofs.Common.{◌∙◌, ap, cond, map, option_map, sym}
 use Rattle.wasmi_module.specs.Valid.{IsValid}
 use Rattle.wasmi_module.specs.Views.{module_of}
-use Rattle.wasmi_link_lib.specs.Lines.{Answer, Found, Differs}
+use Rattle.wasmi_link_lib.specs.Lines.{Found, Differs}
 use Rattle.wasmi_link_lib.specs.Linking.{answer_by, exported, named_of}
 use Rattle.wasmi_link_lib.specs.Tables.{keyed_of, signature_of}
 use Rattle.wasmi_link_lib.proofs.Asked.{answered, missing}

@@ -43,8 +43,8 @@ use Rattle.std_alloc.proofs.VecSteps.Shapes.{after as rest_of}
 use Rattle.wasmi_arena.specs.Loan.{SameBuckets, loan_owns}
 use Rattle.wasmi_arena.specs.Table.{items_of, items_in, with_items, write_all}
 use Rattle.wasmi_arena.specs.contracts.bucket_table.loan.ItemsLoan.bucket as F
-use Rattle.wasmi_arena.specs.contracts.bucket_table.loan.parts.items_mut as Call
-use Rattle.wasmi_arena.proofs.bucket_table.loan.parts.items_mut.Met as Lends
+use Rattle.wasmi_arena.specs.contracts.bucket_table.lend.items_mut as Call
+use Rattle.wasmi_arena.proofs.bucket_table.lend.items_mut.Met as Lends
 use Rattle.wasmi_arena.proofs.bucket_table.loan.ItemsLoan.bucket.Statement.{statement}
 use Rattle.wasmi_arena.proofs.bucket_table.loan.ItemsLoan.bucket.Code as code
 use Rattle.wasmi_arena.proofs.BucketLoans.{lent, Kept, opens, closes, here, here_at, others_of, one_out, one_back}
@@ -97,7 +97,7 @@ bucket_spec 𝓤 𝓛 𝓜 𝓡 wired X Y LX LY g d dd met md =
     use0 𝓛 (raw (fact 𝓤 (IsSome held))) (fact_i 𝓤 (IsSome held) (emp 𝓤) is_open) $ use0 𝓛 (raw (fact 𝓤 (κs.1.1.0 ⊑ Y.lives))) (fact_i 𝓤 _ (emp 𝓤) in_A) $ join ! $
     use0 𝓛 (raw (fact 𝓤 (κs.1.0 ⊑ X.lives))) (fact_i 𝓤 _ (emp 𝓤) in_T) $ join ! $ move ! (1 ∷ 0 ∷ []) $ use2 𝓛 (raw (G.pre z)) (id⊢ 𝓤 _) $
     -- [what the call asks; what closes the loan]
-    calls_at ! (framed 𝓤 𝓛.H 𝓜 𝓣) G (Lends.met 𝓤 𝓛 𝓜 𝓡 (code.calls-wasmi_arena::bucket_table::loan::parts::items_mut 𝓡.env wired) X Y LX LY g d dd met md) z
+    calls_at ! (framed 𝓤 𝓛.H 𝓜 𝓣) G (Lends.met 𝓤 𝓛 𝓜 𝓡 (code.calls-wasmi_arena::bucket_table::lend::items_mut 𝓡.env wired) X Y LX LY g d dd met md) z
     (and_then ! (get ! refl) (no_more !)) (λ v.
     use1 𝓛 (later (some (λ (u : MutBor (List X.Denot)). ((‵ (flft κ r-q) ⊛ others_alive) ⊛ ‵ ((MutSlice (named 0) κ (R E)).own_val u (v ∷ []))) ⊛
     some (λ (ws : Unit {0} × Unit {0}). ‵ (lasts (Call.ended X Y g d dd) κs' (r, tt) ws) ⊛ ‵ (follows Item Items p.1 u.ghost_name (with_items held)) ⊛ raw (fact 𝓤 (u.now ≡ items_in held)))))) (id⊢ 𝓤 _) $

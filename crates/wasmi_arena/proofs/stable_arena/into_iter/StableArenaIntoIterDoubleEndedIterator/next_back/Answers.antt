@@ -11,7 +11,7 @@ returns-clause-goes g c = rw (← c.self.view_is) (progress_fewer (λ entries. e
 pub returns-clause-steps : goal.returns-clause-steps
 returns-clause-steps g c =
     let keys = g.Key.ArenaKey.keys in
-    rw (← c.self.view_is, c.in-Some.ensures.1, c.len.ensures) (ap (entries_from keys c.self.inside.next) c.in_ok-item.ensures.steps ∙ entries_from_last keys c.self.inside.next c.next_back.new.self c.in_ok-item.item)
+    rw (← c.self.view_is, c.key_at-key.ensures, c.len.ensures) (ap (entries_from keys c.self.inside.next) c.in_ok-item.ensures.steps ∙ entries_from_last keys c.self.inside.next c.next_back.new.self c.in_ok-item.item)
 
 pub returns-in_err-item-clause-goes : goal.returns-in_err-item-clause-goes
 returns-in_err-item-clause-goes g c = rw c.from_residual.ensures (record { on = λ _. tt; keeps = tt; rests = λ _. tt })

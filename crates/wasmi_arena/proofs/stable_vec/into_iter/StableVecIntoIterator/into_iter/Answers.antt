@@ -7,7 +7,7 @@ use Rattle.wasmi_arena.proofs.stable_vec.into_iter.StableVecIntoIterator.into_it
 pub loop-init : goal.loop-init
 loop-init g c =
     let all = c.into_iter-buckets.ensures.into_iter_gives.1 in
-    record { kept = sym (take-length _); counted = omega (arith, all); within = open-le_27 _ _ _ _ c.self.invariant }
+    record { kept = sym (take-length _); counted = omega (arith, all); within = open-le_27 c.self.invariant }
 
 pub loop-preserved : goal.loop-preserved
 loop-preserved g c =
@@ -17,9 +17,9 @@ loop-preserved g c =
 pub invariant_of-result : goal.invariant_of-result
 invariant_of-result g c =
     let left = kept_open _ c.loop.buckets c.loop.buckets _ _ (c.loop.invariant.kept, c.loop.invariant.counted) (omega (arith, c.loop.invariant.within)) ∙ ap (take c.self.inside.open_buckets) c.into_iter-buckets.ensures.into_iter_gives.0 in
-    rw left (all_ahead _ _ _ _ c.self.invariant [] [] refl refl).0
+    rw left (all_ahead c.self.invariant [] [] refl refl).0
 
 pub returns : goal.returns
 returns g c =
     let left = kept_open _ c.loop.buckets c.loop.buckets _ _ (c.loop.invariant.kept, c.loop.invariant.counted) (omega (arith, c.loop.invariant.within)) ∙ ap (take c.self.inside.open_buckets) c.into_iter-buckets.ensures.into_iter_gives.0 in
-    record { into_iter_gives = rw (left, ← c.self.view_is) (all_ahead _ _ _ _ c.self.invariant [] [] refl refl).1 }
+    record { into_iter_gives = rw (left, ← c.self.view_is) (all_ahead c.self.invariant [] [] refl refl).1 }
