@@ -241,6 +241,9 @@ fn kind(item: Item) -> &'static str {
 }
 
 fn write_name(text: &mut String, name: &str) {
+    if name.bytes().all(|b| (0x20..0x7f).contains(&b)) {
+        return text.push_str(name);
+    }
     for c in name.chars() {
         if c.is_control() {
             let _ = write!(text, "\\u{{{:x}}}", u32::from(c));

@@ -2,13 +2,18 @@
 #![tactic(auto)]
 
 use std::fmt::Display;
-use std::io::{self, Write};
+use std::io::{self, Read};
 use std::process::ExitCode;
 use std::rt::{Env, Files};
 use std::{env, fs};
 use thiserror::Error;
 use wasmi_link_lib::{File, LinkError, link};
 use wasmi_module::DecodeError;
+
+// How many bytes one read asks for, and the most reads that a file may take.
+const READ_LEN: usize = 65536;
+
+const MOST_READS: u64 = 1 << 40;
 
 // Why there is no report.
 #[derive(Debug, Drop, Error)]
@@ -67,13 +72,32 @@ fn read_all<'a>(
         return Err(Failure::NoFiles);
     }
     let mut contents = Vec::new(rt.alloc());
+    let mut buffer = [0u8; READ_LEN];
     for path in paths {
-        match fs::read(rt, path.as_str()) {
+        match read(rt, path.as_str(), &mut buffer) {
             Ok(bytes) => contents.push(bytes).map_err(|_| Failure::NoMemory)?,
             Err(error) => return Err(Failure::Unread(path.as_str(), error)),
         }
     }
     Ok(contents)
+}
+
+// The bytes of a file. A buffer that serves for all files isn't cleared for each.
+fn read(
+    rt: &(impl Files + AllocGlobal),
+    path: &str,
+    buffer: &mut [u8; READ_LEN],
+) -> io::Result<Vec<u8>> {
+    let mut file = fs::open(rt, path)?;
+    let mut bytes = Vec::new(rt.alloc());
+    for _ in 0..MOST_READS {
+        let count = file.read(buffer)?;
+        if count == 0 {
+            return Ok(bytes);
+        }
+        bytes.extend_from_slice(&buffer[..count])?;
+    }
+    Err(io::Error::from(io::ErrorKind::InvalidData))
 }
 
 // Prints the report on files, and returns the status.
@@ -91,7 +115,7 @@ fn run<'a>(
         files.push(file).map_err(|_| Failure::NoMemory)?;
     }
     match link(rt.alloc(), &files) {
-        Ok(outcome) => match rt.print(outcome.text.as_str()) {
+        Ok(outcome) => match rt.write_all(outcome.text.as_bytes()) {
             Ok(()) => Ok(outcome.status),
             Err(error) => Err(Failure::Unwritten(error)),
         },

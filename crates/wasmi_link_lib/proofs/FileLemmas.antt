@@ -4,8 +4,10 @@ use Rattle.std.specs.List.{AllZip}
 use Rattle.std.proofs.lemmas.List.{take_more, map_push}
 use Rattle.std.proofs.lemmas.Slice.Zip.{all_zipped_more}
 use Rattle.wasmi_link_lib.specs.declared.files.File.{File}
+use Rattle.wasmi_link_lib.specs.declared.files.LinkError.{LinkError}
+use Rattle.wasmi_link_lib.specs.declared.files.LinkError.TheVariants.{NotAModule, Refused}
 use Rattle.wasmi_link_lib.specs.declared.named.NamedModule as rust_named
-use Rattle.wasmi_link_lib.specs.Files.{IsIn}
+use Rattle.wasmi_link_lib.specs.Files.{IsIn, IsRefusal, IsShortage}
 use Rattle.wasmi_link_lib.specs.Linking.{Named, AreValid, named_of}
 
 -- one more module
@@ -25,3 +27,8 @@ valid_in [] (m ∷ ms) there k d within = absurd there
 valid_in (f ∷ fs) [] there k d within = absurd there
 valid_in (f ∷ fs) (m ∷ ms) there zero d within = there.0.valid
 valid_in (f ∷ fs) (m ∷ ms) there (suc k) d within = valid_in fs ms there.1 k d (omega arith)
+
+-- a shortage is why there is no report on files
+pub refusal-shortage : (files : List File) (error : LinkError) → IsShortage error → IsRefusal files error
+refusal-shortage files (NotAModule place error) short = absurd short
+refusal-shortage files (Refused error) short = short

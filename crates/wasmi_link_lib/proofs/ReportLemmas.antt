@@ -1,9 +1,11 @@
 -- The texts of a report, put together.
-use Rattle.std.proofs.Common.{◌≡◌, ℕ, ◌+◌, ◌<◌, ◌≤◌, List, [], ◌∷◌, ◌++◌, map, take, get_or, length, codes, decimal, refl, sym, ap, ◌∙◌, append_assoc, append-nil}
-use Rattle.std.specs.Char.{encode_utf8}
-use Rattle.std.specs.List.{flat_map}
-use Rattle.std.specs.Str.{IsUtf8, chars}
-use Rattle.std.proofs.lemmas.Str.{chars_past_char, chars-nil}
+use Rattle.std.proofs.Common.{◌≡◌, ℕ, ◌+◌, ◌<◌, ◌≤◌, List, [], ◌∷◌, ◌++◌, map, take, get_or, length, codes, decimal, refl, sym, ap, ◌∙◌, append_assoc, append-nil, zero, suc, cond, false, arith}
+use Rattle.std.specs.Char.{encode_utf8, is_control}
+use Rattle.std.specs.Fmt.{digits}
+use Rattle.std.specs.List.{All, flat_map}
+use Rattle.std.specs.Str.{IsAscii, IsUtf8, chars}
+use Rattle.std.proofs.lemmas.Str.{chars_past_char, chars-nil, chars-IsAscii, encode_ascii}
+use Rattle.std.proofs.lemmas.Bool.Decides.{nat_tests}
 use Rattle.std.proofs.lemmas.List.{take_more, take_all, nil_from_length}
 use Rattle.std.proofs.lemmas.List.Concat.{flat_map-append}
 use Rattle.std.proofs.lemmas.List.Folds.{flat_map-map}
@@ -71,3 +73,23 @@ report_written report items lines i text same all written counted =
     counted ∙ ap (λ t. t ++ (counts_text (linked_of report) ++ 10 ∷ [])) (
     written ∙ ap (flat_map (λ line. line_text (line_of line) ++ 10 ∷ [])) (take_all i items all ∙ same)
     ∙ sym (flat_map-map (λ (line : Line). line_text line ++ 10 ∷ []) line_of report.lines.items))
+
+-- ASCII characters that print are written as they are
+char_text-plain : (b : ℕ) → 32 ≤ b → b < 127 → char_text b ≡ b ∷ []
+char_text-plain b low high =
+    let no : is_control b ≡ false = grind (arith, nat_tests) in
+    ap (λ t. cond t (92 ∷ codes "u{" ++ digits 16 false b ++ codes "}") (encode_utf8 b)) no ∙ encode_ascii b (omega (arith, high))
+
+flat_map-plain : (bs : List ℕ) → All (λ b. (32 ≤ b) × (b < 127)) bs → flat_map char_text bs ≡ bs
+flat_map-plain [] plain = refl
+flat_map-plain (b ∷ bs) plain =
+    let here = plain 0 0 (omega arith) in
+    ap (λ t. t ++ flat_map char_text bs) (char_text-plain b here.0 here.1) ∙ ap (λ t. b ∷ t) (flat_map-plain bs (λ k d within. plain (suc k) d (omega (arith, within))))
+
+is_ascii-plain : (bs : List ℕ) → All (λ b. (32 ≤ b) × (b < 127)) bs → IsAscii bs
+is_ascii-plain [] plain i = omega arith
+is_ascii-plain (b ∷ bs) plain zero = let here = plain 0 0 (omega arith) in omega (arith, here.1)
+is_ascii-plain (b ∷ bs) plain (suc i) = is_ascii-plain bs (λ k d within. plain (suc k) d (omega (arith, within))) i
+
+pub name_text-plain : (name : List ℕ) → All (λ b. (32 ≤ b) × (b < 127)) name → name_text name ≡ name
+name_text-plain name plain = ap (flat_map char_text) (chars-IsAscii name (is_ascii-plain name plain)) ∙ flat_map-plain name plain

@@ -1,9 +1,13 @@
 -- What a report on files says.
-use Rattle.std.specs.Prelude.{◌≡◌, ℕ, List}
+use Rattle.std.specs.Prelude.{◌≡◌, ◌≢◌, ◌<◌, ◌⊎◌, ℕ, List, length, take}
 use Rattle.std.specs.List.{AllZip}
 use Rattle.wasmi_module.specs.Sections.{IsWritten}
 use Rattle.wasmi_module.specs.Valid.{IsValid}
+use Rattle.wasmi_arena.specs.declared.error.ArenaError.TheVariants.{NotEnoughKeys, OutOfSystemMemory}
+use Rattle.wasmi_module.specs.declared.error.DecodeError.TheVariants.{NoMemory}
 use Rattle.wasmi_link_lib.specs.declared.files.File.{File}
+use Rattle.wasmi_link_lib.specs.declared.files.LinkError.{LinkError}
+use Rattle.wasmi_link_lib.specs.declared.files.LinkError.TheVariants.{NotAModule, Refused}
 use Rattle.wasmi_link_lib.specs.Paths.{IsModuleName}
 use Rattle.wasmi_link_lib.specs.Report.{report_text, status_of}
 use Rattle.wasmi_link_lib.specs.Linking.{Named, linked}
@@ -20,3 +24,13 @@ pub record Tells (files : List File) (text : List ℕ) (status : ℕ) : Type 0 w
   pub read : AllZip IsIn files modules
   pub reported : text ≡ report_text (linked modules)
   pub ended : status ≡ status_of (linked modules)
+
+-- there is no memory, or there are more modules, names or types than have keys
+abbrev pub IsShortage : LinkError → Type 0
+IsShortage (NotAModule place error) = ⊥
+IsShortage (Refused error) = (error ≡ OutOfSystemMemory) ⊎ (error ≡ NotEnoughKeys)
+
+-- the file at a place is refused, and those before it are modules; or there is a shortage
+abbrev pub IsRefusal : List File → LinkError → Type 0
+IsRefusal files (NotAModule place error) = (place < length files) × (error ≢ NoMemory) × (before : List Named) × AllZip IsIn (take place files) before
+IsRefusal files (Refused error) = IsShortage (Refused error)

@@ -1,7 +1,7 @@
 //! From the files of modules to a report.
-ghost use Rattle.std.specs.Prelude.{◌≡◌, map, IfOk, string_bytes};
+ghost use Rattle.std.specs.Prelude.{◌≡◌, map, IfErr, IfOk, string_bytes};
 ghost use Rattle.std.specs.List.{AllZip};
-ghost use Rattle.wasmi_link_lib.specs.Files.{IsIn, Tells};
+ghost use Rattle.wasmi_link_lib.specs.Files.{IsIn, IsRefusal, IsShortage, Tells};
 ghost use Rattle.wasmi_link_lib.specs.Linking.{AreValid, linked, named_of};
 ghost use Rattle.wasmi_link_lib.specs.Report.{report_text, status_of};
 
@@ -44,12 +44,16 @@ pub enum LinkError {
 }
 
 impl From<AllocError> for LinkError {
+    ghost from_gives = { λ _ error. IsShortage error };
+
     fn from(_error: AllocError) -> LinkError {
         LinkError::Refused(ArenaError::OutOfSystemMemory)
     }
 }
 
 impl<T: Drop> From<AllocFailed<T>> for LinkError {
+    ghost from_gives = { λ _ error. IsShortage error };
+
     fn from(_error: AllocFailed<T>) -> LinkError {
         LinkError::Refused(ArenaError::OutOfSystemMemory)
     }
@@ -60,7 +64,8 @@ impl<T: Drop> From<AllocFailed<T>> for LinkError {
 /// Of several files that are no modules, the error is of the first. Expected time and memory are linear in
 /// the files and the report.
 pub fn link<A: Allocator + Copy>(alloc: A, files: &[File<'_>]) -> Result<Outcome<A>, LinkError>
-    ensures { IfOk result (λ outcome. Tells files.now (string_bytes outcome.text) outcome.status) }
+    ensures tells { IfOk result (λ outcome. Tells files.now (string_bytes outcome.text) outcome.status) }
+    ensures errors { IfErr result (IsRefusal files.now) }
 {
     let modules = decode_all(alloc, &*files)?;
     link_modules(alloc, &modules)
@@ -76,6 +81,7 @@ fn link_modules<A: Allocator + Copy>(
         string_bytes outcome.text ≡ report_text (linked (map named_of modules.now))) }
     ensures status { IfOk result (λ outcome.
         outcome.status ≡ status_of (linked (map named_of modules.now))) }
+    ensures errors { IfErr result IsShortage }
 {
     let linked = match resolve(alloc, &*modules) {
         Ok(linked) => linked,
@@ -93,6 +99,7 @@ fn decode_all<'a, A: Allocator + Copy>(
 ) -> Result<Vec<NamedModule<'a, A>, A>, LinkError>
     ensures read { IfOk result (λ modules. AllZip IsIn files.now (map named_of modules.items)) }
     ensures valid { IfOk result (λ modules. AreValid (map named_of modules.items)) }
+    ensures errors { IfErr result (IsRefusal files.now) }
 {
     let mut modules = Vec::new(alloc);
     for (place, file) in files.iter().enumerate() {

@@ -1,16 +1,8 @@
-use Rattle.std.proofs.Common.{refl}
-use Rattle.std.proofs.lemmas.Str.{IsUtf8-past_char}
-use Rattle.wasmi_link_lib.proofs.ReportLemmas.{name_more, name_end}
+use Rattle.std.proofs.Common.{◌++◌, ap, rules, string_bytes, sym}
+use Rattle.std.proofs.lemmas.Result.{IfOk-equal}
+use Rattle.wasmi_link_lib.proofs.ReportLemmas.{name_text-plain}
 use Rattle.wasmi_link_lib.proofs.text.names.write_name.Goals as goal
 
-pub loop-c-init : goal.loop-c-init
-loop-c-init g c = rw (c.into_iter-c-iterator.ensures.into_iter_gives, c.chars-c-items.ensures.rest) (c.utf8.name, refl)
-
-pub loop-c-preserved : goal.loop-c-preserved
-loop-c-preserved g c =
-    let inv = c.loop-c.invariant in
-    let parts = c.in-Some.ensures.steps.0 in
-    (IsUtf8-past_char _ _ _ inv.0 parts, name_more _ _ _ _ _ _ inv.0 parts inv.1 c.in_ok-write_char.ensures)
-
-pub returns : goal.returns
-returns g c = name_end _ _ _ c.in-None.ensures.steps.0.0 c.loop-c.invariant.1
+pub returns-then-is_plain : goal.returns-then-is_plain
+returns-then-is_plain g c =
+    IfOk-equal c.push_str.result _ _ _ (search rules) (ap (λ t. string_bytes c.args.text.now ++ t) (sym (name_text-plain c.args.name.now (c.is_plain.ensures c.if-is_plain.true))))
