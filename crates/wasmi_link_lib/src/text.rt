@@ -12,6 +12,9 @@ use names::write_name;
 use std::alloc::{AllocError, Allocator};
 use types::{kind_text, write_given, write_type};
 
+// How many bytes a line is taken to have, so that the text seldom grows.
+const LINE_LEN: usize = 96;
+
 /// A line for each import, and a line of counts. Expected time and memory are linear in the text.
 pub fn report<A: Allocator, B: Allocator>(
     alloc: B,
@@ -19,7 +22,7 @@ pub fn report<A: Allocator, B: Allocator>(
 ) -> Result<String<B>, AllocError>
     ensures { IfOk result (λ text. string_bytes text ≡ report_text (linked_of linked.now)) }
 {
-    let mut text = String::new(alloc);
+    let mut text = String::with_capacity(alloc, linked.lines.len().saturating_mul(LINE_LEN))?;
     for line in &linked.lines {
         write_line(&mut text, line)?;
     }
