@@ -14,8 +14,7 @@ use wasmi_arena::ArenaError;
 /// their hashes.
 ///
 /// The modules are valid, as those that `decode` returns. Fails with `OutOfSystemMemory` if there is no memory for
-/// the tables or the lines, and with `NotEnoughKeys` if there are more than 4,294,967,264 modules, or more than 2^32
-/// names or types of functions.
+/// the tables or the lines, and with `NotEnoughKeys` if there are more than 2^32 modules, names or types of functions.
 pub fn resolve<'a, A: Allocator + Copy>(
     alloc: A,
     modules: &'a [NamedModule<'a, A>],
