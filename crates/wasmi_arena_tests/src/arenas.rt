@@ -196,12 +196,12 @@ fn debug_texts_of_arenas(rt: HostRuntime) {
     arena.alloc(false).or_abort(&rt);
     let two = format!(in rt.alloc(); "{arena:?} {arena:#?}").or_abort(&rt);
     assert_equal!(rt; two.as_str(), "{0: true, 1: false} {\n    0: true,\n    1: false,\n}");
-    // Its keys, and not its positions.
+    // The numbers of its keys, and not what these hold.
     let keyed: StableArena<NonZero<u32>, u8> = StableArena::from_iter(rt.alloc(), 7..9).or_abort(
         &rt,
     );
     let text = format!(in rt.alloc(); "{keyed:?}").or_abort(&rt);
-    assert_equal!(rt; text.as_str(), "{1: 7, 2: 8}");
+    assert_equal!(rt; text.as_str(), "{0: 7, 1: 8}");
 }
 
 #[test]

@@ -376,7 +376,11 @@ fn a_third_value_is_refused(rt: HostRuntime) {
             let key = arena.alloc(value);
             log.refuse_none();
             let refused = nth == 1 || key.is_err();
-            let wanted = if refused { Err(ArenaError::OutOfSystemMemory) } else { Ok(2) };
+            let wanted = if refused {
+                Err(ArenaError::OutOfSystemMemory)
+            } else {
+                Ok(2)
+            };
             assert_equal!(rt; key, wanted, "at {nth}");
             assert_equal!(rt; (arena.key_of_str("a"), arena.key_of_str("b")), (Some(0), Some(1)), "at {nth}");
             assert_equal!(rt; arena.len(), if refused { 2 } else { 3 }, "at {nth}");

@@ -106,7 +106,10 @@ fn runs_drop_each_key_and_value_once(rt: HostRuntime) {
 // How many values an arena has that is made of these, of which each request up to the nth is given memory.
 fn collected(log: &Log, heap: Logged<'_>, nth: u64) -> Result<usize, ArenaError> {
     log.refuse_once(nth);
-    let made: DedupArena<usize, i32, Logged<'_>> = DedupArena::from_iter(heap, [0, 1, 0, 2, 3, 4, 5])?;
+    let made: DedupArena<usize, i32, Logged<'_>> = DedupArena::from_iter(
+        heap,
+        [0, 1, 0, 2, 3, 4, 5],
+    )?;
     Ok(made.len())
 }
 

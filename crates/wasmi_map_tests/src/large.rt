@@ -3,9 +3,9 @@ use crate::or_abort::OrAbort;
 use std::alloc::Global;
 use std::cell::Cell;
 use wasmi_arena::ArenaError;
-use wasmi_vectors::assert_equal;
 use wasmi_hashed as hashed;
 use wasmi_ordered as ordered;
+use wasmi_vectors::assert_equal;
 
 const MANY: u32 = 131_072;
 
@@ -30,8 +30,9 @@ impl Seen {
 
     // Notes a key, and returns whether it is even.
     fn is_even(&self, key: u32) -> bool {
-        self.ascending
-            .set(self.ascending.get() && (self.count.get() == 0 || self.last.get() < key));
+        self.ascending.set(
+            self.ascending.get() && (self.count.get() == 0 || self.last.get() < key),
+        );
         self.count.set(self.count.get().wrapping_add(1));
         self.sum.set(self.sum.get().wrapping_add(key as u64));
         self.last.set(key);
@@ -139,7 +140,9 @@ fn many_elements_are_found_and_visited_once(rt: HostRuntime) {
 // A hashed map or set that is cleared has room for as many again.
 #[test]
 fn what_is_cleared_keeps_its_room(rt: HostRuntime) {
-    let mut map = hashed::Map::from_iter(rt.alloc(), (0..1_000u32).map(|key| (key, key))).or_abort(&rt);
+    let mut map = hashed::Map::from_iter(rt.alloc(), (0..1_000u32).map(|key| (key, key))).or_abort(
+        &rt,
+    );
     let mut set = hashed::Set::from_iter(rt.alloc(), 0..1_000u32).or_abort(&rt);
     let room = (map.capacity(), set.capacity());
     map.clear();
@@ -151,12 +154,17 @@ fn what_is_cleared_keeps_its_room(rt: HostRuntime) {
 // Each value is written through `values_mut`, whose closure counts on.
 #[test]
 fn each_value_is_written_once(rt: HostRuntime) {
-    let mut ordered = ordered::Map::from_iter(rt.alloc(), (0..6u32).map(|key| (key, 0u32))).or_abort(&rt);
+    let mut ordered = ordered::Map::from_iter(
+        rt.alloc(),
+        (0..6u32).map(|key| (key, 0u32)),
+    ).or_abort(&rt);
     for value in ordered.values_mut() {
         *value = value.wrapping_add(8);
     }
     assert!(rt; ordered.values().eq([8, 8, 8, 8, 8, 8].iter()));
-    let mut hashed = hashed::Map::from_iter(rt.alloc(), (0..6u32).map(|key| (key, 0u32))).or_abort(&rt);
+    let mut hashed = hashed::Map::from_iter(rt.alloc(), (0..6u32).map(|key| (key, 0u32))).or_abort(
+        &rt,
+    );
     for value in hashed.values_mut() {
         *value = value.wrapping_add(8);
     }

@@ -239,11 +239,11 @@ pub fn items<A: AnyArena>(arena: &A) -> impl Iterator<Item = i64> + '_ {
 }
 
 /// The text of an arena. By docs/DIFFERENCES.md, '`Debug` of `StableArena`' and '`Debug` of `Arena`', the Rust crate
-/// shows the private fields, and the port a map from keys to items.
+/// shows the private fields, and the port a map from the numbers of keys to items.
 struct AsMap<'a, A>(&'a A);
 
 impl<A: AnyArena> Debug for AsMap<'_, A> {
     fn fmt(&self, f: &mut fmt::Formatter<'_>) -> fmt::Result {
-        f.debug_map().entries(self.0.iter()).finish()
+        f.debug_map().entries(self.0.iter().map(|(_, item)| item).enumerate()).finish()
     }
 }

@@ -168,11 +168,11 @@ impl<Key: ArenaKey + Debug> Container for DedupTwin<Key> {
 }
 
 /// The text of an arena. By docs/DIFFERENCES.md, '`Debug` of `DedupArena`', the Rust crate shows the private fields,
-/// and the port a map from keys to items.
+/// and the port a map from the numbers of keys to items.
 struct AsMap<'a, Key>(&'a DedupArena<Key, i64>);
 
 impl<Key: ArenaKey + Debug> Debug for AsMap<'_, Key> {
     fn fmt(&self, f: &mut fmt::Formatter<'_>) -> fmt::Result {
-        f.debug_map().entries(self.0.iter()).finish()
+        f.debug_map().entries(self.0.iter().map(|(_, item)| item).enumerate()).finish()
     }
 }

@@ -81,7 +81,11 @@ fn walks_give_each_entry_once(rt: HostRuntime) {
     assert!(rt; values.iter().eq([1, 2, 3, 4, 5, 6].iter()));
     let mut pairs: Vec<(u32, u32)> = copy.into_iter().collect(rt.alloc()).or_abort(&rt);
     pairs.sort_unstable();
-    assert!(rt; pairs.iter().eq([(1, 1), (2, 2), (3, 3), (4, 4), (5, 5), (6, 6)].iter()));
+    assert!(rt;
+        pairs
+            .iter()
+            .eq([(1, 1), (2, 2), (3, 3), (4, 4), (5, 5), (6, 6)].iter())
+    );
 }
 
 #[test]
