@@ -1,5 +1,5 @@
 -- The parts of a path.
-use Rattle.std.proofs.Common.{◌≡◌, ℕ, ◌<◌, ◌≤◌, ◌+◌, List, [], ◌∷◌, ◌++◌, length, take, drop, Some, None, refl, sym, ap, ◌∙◌, inl, inr, lit<, get_or, eqb, subst, append_assoc, take-append-drop}
+use Rattle.std.proofs.Common.{◌≡◌, ℕ, List, [], ◌∷◌, ◌++◌, take, drop, None, refl, sym, ap, ◌∙◌, inl, inr, lit<, get_or, eqb, subst, append_assoc, take-append-drop}
 use Rattle.std.specs.List.{Contains}
 use Rattle.std.specs.Str.{NoCharPasses}
 use Rattle.std.proofs.lemmas.List.{get_or_default}

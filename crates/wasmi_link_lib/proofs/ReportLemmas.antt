@@ -1,5 +1,5 @@
 -- The texts of a report, put together.
-use Rattle.std.proofs.Common.{◌≡◌, ℕ, ◌+◌, ◌<◌, ◌≤◌, List, [], ◌∷◌, ◌++◌, map, take, get_or, length, codes, decimal, refl, sym, ap, ◌∙◌, append_assoc, append-nil, zero, suc, cond, false, arith}
+use Rattle.std.proofs.Common.{◌≡◌, ℕ, ◌+◌, ◌<◌, ◌≤◌, List, [], ◌∷◌, ◌++◌, take, get_or, length, codes, decimal, refl, sym, ap, ◌∙◌, append_assoc, append-nil, zero, suc, cond, false, arith}
 use Rattle.std.specs.Char.{encode_utf8, is_control}
 use Rattle.std.specs.Fmt.{digits}
 use Rattle.std.specs.List.{All, flat_map}

@@ -1,4 +1,4 @@
-use Rattle.std.proofs.Common.{ap, map, subst, sym}
+use Rattle.std.proofs.Common.{map, subst, sym}
 use Rattle.wasmi_link_lib.specs.Linking.{AreValid, named_of}
 use Rattle.wasmi_link_lib.proofs.files.link.Goals as goal
 
