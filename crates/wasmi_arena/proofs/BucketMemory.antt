@@ -42,9 +42,9 @@ use Rattle.wasmi_arena.specs.Bucket.{Bucket, bucket}
 use Rattle.wasmi_arena.specs.Slots.{with_items}
 use Rattle.wasmi_arena.specs.contracts.bucket.Bucket as BucketType
 use Rattle.wasmi_arena.specs.contracts.bucket.Bucket.TheInside as InsideType
-use Rattle.wasmi_arena.proofs.block.BlockPtr.TheLaws as PtrLaws
-use Rattle.wasmi_arena.proofs.block.DeallocRight.TheLaws as RightLaws
-use Rattle.wasmi_arena.proofs.block.Slots.TheLaws as SlotsLaws
+use Rattle.wasmi_arena.proofs.raw.block.BlockPtr.TheLaws as PtrLaws
+use Rattle.wasmi_arena.proofs.raw.block.DeallocRight.TheLaws as RightLaws
+use Rattle.wasmi_arena.proofs.raw.block.Slots.TheLaws as SlotsLaws
 use Rattle.wasmi_arena.proofs.bucket.Bucket.TheLaws as BucketLaws
 use Rattle.wasmi_arena.proofs.Frame.{SlotsRow, PtrRow, ptr_tells}
 use Rattle.wasmi_arena.proofs.NewBlock.{RightRow}

@@ -41,10 +41,10 @@ use Rattle.wasmi_arena.specs.Bucket.{Bucket}
 use Rattle.std.specs.Mem.{type_size}
 use Rattle.wasmi_arena.specs.Loan.{SameBuckets, loan_owns}
 use Rattle.wasmi_arena.specs.Table.{items_of, refilled}
-use Rattle.wasmi_arena.specs.contracts.bucket_table.loan.ItemsLoan as Loan
+use Rattle.wasmi_arena.specs.contracts.raw.loan.ItemsLoan as Loan
 use Rattle.wasmi_arena.proofs.Refilled.{length-refilled, refilled-own, refilled-append}
 use Rattle.wasmi_arena.proofs.TableMemory.{MaybeBucket}
-use Rattle.wasmi_arena.proofs.bucket_table.loan.ItemsLoan.TheLaws as LoanLaws
+use Rattle.wasmi_arena.proofs.raw.loan.ItemsLoan.TheLaws as LoanLaws
 
 module _ (κ : NamedLft) (E : El) (Z : Al) where
   abbrev pub LoanRow : RattleType

@@ -34,11 +34,11 @@ use Rattle.core.proofs.slots.Leases.{P}
 use Rattle.std_alloc.proofs.RcSteps.{Good, word}
 use Rattle.wasmi_arena.specs.Block.{slots_own, right_owns}
 use Rattle.wasmi_arena.specs.Slots.{IsNewBlock}
-use Rattle.wasmi_arena.specs.contracts.block.BlockPtr as PtrType
-use Rattle.wasmi_arena.specs.contracts.block.Slots as SlotsType
-use Rattle.wasmi_arena.specs.contracts.block.DeallocRight as RightType
-use Rattle.wasmi_arena.proofs.block.Slots.TheLaws as SlotsLaws
-use Rattle.wasmi_arena.proofs.block.DeallocRight.TheLaws as RightLaws
+use Rattle.wasmi_arena.specs.contracts.raw.block.BlockPtr as PtrType
+use Rattle.wasmi_arena.specs.contracts.raw.block.Slots as SlotsType
+use Rattle.wasmi_arena.specs.contracts.raw.block.DeallocRight as RightType
+use Rattle.wasmi_arena.proofs.raw.block.Slots.TheLaws as SlotsLaws
+use Rattle.wasmi_arena.proofs.raw.block.DeallocRight.TheLaws as RightLaws
 use Rattle.wasmi_arena.proofs.Frame.{SlotsRow, PtrRow, Marker, let_go, gone}
 
 -- the machine value of a struct whose one field is a `PhantomData`

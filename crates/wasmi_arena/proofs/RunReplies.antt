@@ -1,5 +1,5 @@
 -- What a run's replies tell: its keys go on from the length, and each item that came took one place of the room.
-use Rattle.std.proofs.Common.{◌≡◌, zero, suc, take, Some, arith, ℕ, ◌+◌, ◌≤◌, List, [], ◌∷◌, length, slice_get, refl, ap, ◌∙◌, subst}
+use Rattle.std.proofs.Common.{◌≡◌, zero, suc, take, Some, arith, ℕ, ◌+◌, ◌≤◌, List, [], ◌∷◌, length, slice_get, ap, ◌∙◌, subst}
 use Rattle.std.proofs.lemmas.Option.{get_or_from_slice_get}
 use Rattle.wasmi_arena.specs.Keys.{Keys}
 use Rattle.wasmi_arena.specs.Arena.{ArenaState, ArenaStep, ArenaRun, allocs_in, keys_in}

@@ -1,8 +1,8 @@
 -- How the fields of a bucket agree. No public clause cites this module.
 use Rattle.std.specs.Prelude.{◌≡◌, ℕ, ◌+◌, length}
-use Rattle.wasmi_arena.specs.declared.block.BlockPtr.{BlockPtr}
-use Rattle.wasmi_arena.specs.declared.block.Slots.{Slots}
-use Rattle.wasmi_arena.specs.declared.block.DeallocRight.{DeallocRight}
+use Rattle.wasmi_arena.specs.declared.raw.block.BlockPtr.{BlockPtr}
+use Rattle.wasmi_arena.specs.declared.raw.block.Slots.{Slots}
+use Rattle.wasmi_arena.specs.declared.raw.block.DeallocRight.{DeallocRight}
 use Rattle.wasmi_arena.specs.Slots.{IsOneBlock}
 
 -- one block of so many slots, of which the first `len` hold the items and the rest are free

@@ -3,7 +3,7 @@ use Rattle.std.specs.Prelude.{◌≡◌, ℕ, List, [], ◌++◌, map, length, O
 use Rattle.std.specs.List.{refill}
 use base.Fml.{GName}
 use Rattle.wasmi_arena.specs.Table.{items_in, AreFilled}
-use Rattle.wasmi_arena.specs.declared.bucket_table.loan.ItemsLoan.{ItemsLoan}
+use Rattle.wasmi_arena.specs.declared.raw.loan.ItemsLoan.{ItemsLoan}
 
 module _ {X : Type 0} where
   -- what is left to visit.

@@ -2,7 +2,7 @@
 use Rattle.std.specs.Prelude.{ℕ, List, slice_set}
 use Rattle.std.specs.Borrow.{Fml, RattleType, MutBor, Array, follows, follows_both}
 use Rattle.wasmi_arena.specs.Table.{items_of, write, write_all}
-use Rattle.wasmi_arena.specs.declared.bucket_table.loan.ItemsLoan.{ItemsLoan}
+use Rattle.wasmi_arena.specs.declared.raw.loan.ItemsLoan.{ItemsLoan}
 
 module _ (R A : RattleType) (loan : ItemsLoan R.Denot A.Denot) where
   -- those of that bucket are what was written last through the slice, and no other changes

@@ -1,8 +1,8 @@
 -- What the calls on the slots of a block do to them. No public clause cites this module.
 use Rattle.std.specs.Prelude.{◌≡◌, ℕ, ◌+◌, ◌-◌, List, [], ◌∷◌, ◌++◌, drop, take, length}
-use Rattle.wasmi_arena.specs.declared.block.BlockPtr.{BlockPtr}
-use Rattle.wasmi_arena.specs.declared.block.Slots.{Slots}
-use Rattle.wasmi_arena.specs.declared.block.DeallocRight.{DeallocRight}
+use Rattle.wasmi_arena.specs.declared.raw.block.BlockPtr.{BlockPtr}
+use Rattle.wasmi_arena.specs.declared.raw.block.Slots.{Slots}
+use Rattle.wasmi_arena.specs.declared.raw.block.DeallocRight.{DeallocRight}
 
 -- the same slots with these items
 abbrev pub with_items : {T : Type 0} → Slots T → List T → Slots T

@@ -2,8 +2,8 @@
 use Rattle.std.specs.Prelude.{ℕ, List, length, slice_set}
 use Rattle.std.specs.Borrow.{Fml, RattleType, MutBor, Array, Lends}
 use Rattle.std.specs.List.{refill}
-use Rattle.wasmi_arena.specs.declared.block.Slots.{Slots}
-use Rattle.wasmi_arena.specs.contracts.block.Slots.{the_row}
+use Rattle.wasmi_arena.specs.declared.raw.block.Slots.{Slots}
+use Rattle.wasmi_arena.specs.contracts.raw.block.Slots.{the_row}
 use Rattle.wasmi_arena.specs.Slots.{with_items}
 
 -- their items are what was written last through the reference

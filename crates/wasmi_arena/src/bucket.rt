@@ -7,7 +7,7 @@ ghost use Rattle.wasmi_arena.specs.Bucket.{bucket};
 mod fill;
 mod into_items;
 
-use crate::block::{BlockPtr, DeallocRight, Slots, allocate, without_block};
+use crate::raw::block::{BlockPtr, DeallocRight, Slots, allocate, without_block};
 pub(crate) use into_items::BucketItems;
 use std::alloc::{AllocError, Allocator, Global};
 use std::marker::Model;

@@ -4,14 +4,13 @@
 
 mod any_arena;
 mod arena_keys;
-mod block;
 mod bucket;
 mod bucket_table;
 mod error;
 mod geometry;
 mod key;
 pub mod laws;
-mod option;
+mod raw;
 mod run;
 mod stable_arena;
 mod stable_vec;
@@ -22,12 +21,14 @@ pub use arena_keys::ArenaKeys;
 pub use bucket::Bucket;
 // A crate above can name a bucket in a contract only if it reaches the types of its fields.
 #[doc(hidden)]
-pub use block::{BlockPtr, DeallocRight, Slots};
-#[doc(hidden)]
-pub use bucket_table::{BucketTable, ItemsLoan};
+pub use bucket_table::BucketTable;
 pub use error::ArenaError;
 pub use geometry::{BUCKETS, MAX_LEN};
 pub use key::{ArenaKey, key_at};
+#[doc(hidden)]
+pub use raw::block::{BlockPtr, DeallocRight, Slots};
+#[doc(hidden)]
+pub use raw::loan::ItemsLoan;
 pub use run::{ArenaCommand, ArenaReply, run_arena};
 pub use stable_arena::{StableArena, StableArenaIntoIter, StableArenaIter, StableArenaIterMut};
 pub use stable_vec::{

@@ -17,7 +17,7 @@ mod iter;
 mod iter_mut;
 mod pairs;
 
-use crate::{ArenaError, ArenaKey, Bucket, ItemsLoan, StableVec, StableVecIterMut};
+use crate::{ArenaError, ArenaKey, StableVec, StableVecIterMut};
 pub use into_iter::StableArenaIntoIter;
 pub use iter::StableArenaIter;
 pub use iter_mut::StableArenaIterMut;
@@ -30,7 +30,7 @@ use std::marker::{Model, PhantomData};
 /// most as many as there are keys.
 #[derive(Drop)]
 pub struct StableArena<Key: ArenaKey, T, A: Allocator = Global> {
-    items: StableVec<T, A>,
+    pub(crate) items: StableVec<T, A>,
     keys: PhantomData<Key>,
 }
 
@@ -51,7 +51,6 @@ impl<Key: ArenaKey, T, A: Allocator> StableArena<Key, T, A> {
     ghost use Rattle.std.specs.Borrow.{sem};
     ghost use Rattle.wasmi_arena.specs.ArenaLend.{lends_get, lends_items};
     ghost use Rattle.wasmi_arena.specs.IterMut.{left, loan_of, KeepsLength};
-    ghost use Rattle.wasmi_arena.specs.Table.{HasBuckets};
 
     /// An empty arena, which asks `alloc` for memory when a bucket is opened. Constant time, no allocation.
     pub fn new(alloc: A) -> Self
@@ -204,18 +203,6 @@ impl<Key: ArenaKey, T, A: Allocator> StableArena<Key, T, A> {
             items: self.items.iter(),
             next: 0,
             keys: PhantomData,
-        }
-    }
-
-    // All items, to write to.
-    fn lend<'a>(&'a mut self) -> ItemsLoan<'a, T, A>
-        ensures* writes_back { sem 𝓛 (lends_items Key.row T.row A.row Key.ArenaKey A.Allocator self.entry result.whole) }
-        ensures one_name { result.name ≡ result.whole }
-        ensures buckets { HasBuckets self.old result.buckets }
-    {
-        ItemsLoan {
-            first: &raw mut self.items.table.buckets as *mut Option<Bucket<T, A>>,
-            marker: PhantomData,
         }
     }
 

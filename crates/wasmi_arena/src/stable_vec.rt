@@ -8,7 +8,7 @@ ghost use Rattle.wasmi_arena.specs.IterMut.{left, loan_of, KeepsLength};
 ghost use Rattle.wasmi_arena.specs.TableLend.{lends_slot};
 ghost use Rattle.wasmi_arena.specs.VecLend.{lends_items};
 ghost use Rattle.wasmi_arena.specs.StableVec.{bucket_at, filled_parts};
-ghost use Rattle.wasmi_arena.specs.Table.{items_in, bucket_with, HasBuckets};
+ghost use Rattle.wasmi_arena.specs.Table.{items_in, bucket_with};
 
 mod clone;
 mod compared;
@@ -26,8 +26,8 @@ mod slices_mut;
 use crate::bucket_table::fill::{fill_next, open_with};
 use crate::bucket_table::lend::slot_mut;
 use crate::geometry::{BUCKETS, MAX_LEN, is_limit, place, size_of, start_of};
-use crate::option::unwrap_ref;
-use crate::{ArenaError, Bucket, BucketTable, ItemsLoan};
+use crate::raw::option::unwrap_ref;
+use crate::{ArenaError, Bucket, BucketTable};
 pub use into_iter::StableVecIntoIter;
 pub use iter::StableVecIter;
 pub use iter_mut::StableVecIterMut;
@@ -225,18 +225,6 @@ impl<T, A: Allocator> StableVec<T, A> {
         let open = &buckets[..self.open_buckets];
         StableVecSlices {
             buckets: open.iter(),
-        }
-    }
-
-    // All items, to write to.
-    pub(crate) fn lend<'a>(&'a mut self) -> ItemsLoan<'a, T, A>
-        ensures* writes_back { sem 𝓛 (lends_items T.row A.row A.Allocator self.entry result.whole) }
-        ensures one_name { result.name ≡ result.whole }
-        ensures buckets { HasBuckets self.old result.buckets }
-    {
-        ItemsLoan {
-            first: &raw mut self.table.buckets as *mut Option<Bucket<T, A>>,
-            marker: PhantomData,
         }
     }
 

@@ -14,6 +14,7 @@ use std::marker::{Model, PhantomData};
 #[derive_where(Clone, Copy, Debug, PartialEq, Eq, PartialOrd, Ord, Hash)]
 pub struct TypedKey<Of> {
     number: u32,
+    #[derive_where(skip(EqHashOrd))]
     of: PhantomData<Of>,
 }
 

@@ -3,7 +3,7 @@ ghost use Rattle.std.specs.Prelude.{◌≡◌, length};
 ghost use Rattle.std.specs.Iterator.{YieldsFirst, YieldsLast, item_count};
 ghost use Rattle.wasmi_arena.specs.Filled.{IsFilledBlock};
 
-use crate::block::{BlockPtr, DeallocRight, Slots, deallocate};
+use crate::raw::block::{BlockPtr, DeallocRight, Slots, deallocate};
 use std::alloc::Allocator;
 use std::marker::Model;
 

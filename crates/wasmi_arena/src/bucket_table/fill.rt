@@ -10,7 +10,7 @@ ghost use Rattle.wasmi_arena.specs.Growth.{Came};
 ghost use Rattle.wasmi_arena.specs.Table.{items_in, bucket_with, FillsBucket};
 
 use crate::geometry::{BUCKETS, size_of};
-use crate::option::unwrap_mut;
+use crate::raw::option::unwrap_mut;
 use crate::{ArenaError, Bucket};
 use std::alloc::Allocator;
 

@@ -5,7 +5,7 @@ ghost use Rattle.wasmi_arena.specs.Table.{items_in};
 ghost use Rattle.wasmi_arena.specs.TableLend.{lends_slot, lends_filled};
 
 use crate::Bucket;
-use crate::option::unwrap_mut;
+use crate::raw::option::unwrap_mut;
 use std::alloc::Allocator;
 
 // The item in a filled slot of an open bucket, to write to.

@@ -6,9 +6,9 @@ use std::alloc::Allocator;
 use std::fmt::{self, Debug, Formatter, Write};
 
 impl<Key: ArenaKey, T: PartialEq, A: Allocator> PartialEq for StableArena<Key, T, A> {
-    ghost eq = { pointwise T.eq };
-
     ghost laws = { lists_per T.laws };
+
+    ghost eq = { pointwise T.eq };
 
     fn eq(&self, other: &Self) -> bool {
         self.items == other.items

@@ -37,9 +37,9 @@ use Rattle.core.proofs.mem.Param.{El}
 use Rattle.wasmi_arena.specs.Table.{items_of, HasBuckets}
 use Rattle.wasmi_arena.specs.contracts.stable_arena.StableArena.pair as F
 use Rattle.wasmi_arena.specs.contracts.stable_arena.StableArena.lend as All
-use Rattle.wasmi_arena.specs.contracts.bucket_table.loan.ItemsLoan.pair as Both
+use Rattle.wasmi_arena.specs.contracts.raw.loan.ItemsLoan.pair as Both
 use Rattle.wasmi_arena.proofs.stable_arena.StableArena.lend.Met as LendsAll
-use Rattle.wasmi_arena.proofs.bucket_table.loan.ItemsLoan.pair.Met as LendsBoth
+use Rattle.wasmi_arena.proofs.raw.loan.ItemsLoan.pair.Met as LendsBoth
 use Rattle.wasmi_arena.proofs.stable_arena.StableArena.pair.Statement.{statement}
 use Rattle.wasmi_arena.proofs.stable_arena.StableArena.pair.Code as code
 use Rattle.wasmi_arena.proofs.FilledParts.{HasBuckets-items, HasBuckets-own}
@@ -102,7 +102,7 @@ pair_spec 𝓤 𝓛 𝓜 𝓡 wired K X Y LK LX LY copy keys kd clone cd g d dd 
     use0 𝓛 (raw (fact 𝓤 (i ≢ j))) (fact_i 𝓤 _ (emp 𝓤) apart) $ join ! $ use0 𝓛 (raw (fact 𝓤 (HasBuckets (items_of it.buckets) it.buckets))) (fact_i 𝓤 _ (emp 𝓤) own) $ join ! $
     use0 𝓛 (raw (fact 𝓤 (κs.1.1.1.0 ⊑ Y.lives))) (fact_i 𝓤 _ (emp 𝓤) in_A) $ join ! $ use0 𝓛 (raw (fact 𝓤 (κs.1.1.0 ⊑ X.lives))) (fact_i 𝓤 _ (emp 𝓤) in_T) $ join ! $
     move ! (1 ∷ 0 ∷ []) $ use2 𝓛 (raw (G₂.pre z₂)) (id⊢ 𝓤 _) $
-    calls_at ! (framed 𝓤 𝓛.H 𝓜 𝓣) G₂ (LendsBoth.met 𝓤 𝓛 𝓜 𝓡 (code.calls-wasmi_arena::bucket_table::loan::ItemsLoan::pair 𝓡.env wired) X Y LX LY g d dd met md) z₂
+    calls_at ! (framed 𝓤 𝓛.H 𝓜 𝓣) G₂ (LendsBoth.met 𝓤 𝓛 𝓜 𝓡 (code.calls-wasmi_arena::raw::loan::ItemsLoan::pair 𝓡.env wired) X Y LX LY g d dd met md) z₂
     (and_then ! (get ! refl) (and_then ! (get ! refl) (and_then ! (get ! refl) (no_more !)))) (λ v.
     let Written = λ (x y : X.Denot). set (set (items_of it.buckets) i x) j y in
     use1 𝓛 (later (some (λ (r : Two). ((‵ (flft κ q) ⊛ ‵ (flft κs.1.1.0 qs.1.1.0) ⊛ ‵ (flft κs.1.1.1.0 qs.1.1.1.0) ⊛ ‵ ftrue) ⊛ ‵ ((Pair κ T).own_val r (v ∷ []))) ⊛
