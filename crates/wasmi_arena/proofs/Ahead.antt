@@ -3,7 +3,7 @@ use Rattle.std.proofs.Common.{◌≡◌, ℕ, ◌+◌, ◌-◌, ◌<◌, ◌≤�
 use Rattle.std.proofs.lemmas.List.{nil_from_length}
 use Rattle.std.specs.Option.{MatchOption}
 use Rattle.std.specs.Iterator.{YieldsFirstBy, YieldsLastBy, MakesProgress, item_count}
-use Rattle.wasmi_arena.specs.Ahead.{joined, AreSome, HasAhead}
+use Rattle.wasmi_arena.specs.inner.Ahead.{joined, AreSome, HasAhead}
 
 module _ {T : Type 0} where
   joined-append : (parts : List (List T)) (part : List T) → joined (parts ++ part ∷ []) ≡ joined parts ++ part

@@ -29,7 +29,7 @@ use Rattle.core.specs.contracts.marker.PhantomData as marker
 use Rattle.core.specs.declared.option.Option.{Option}
 use Rattle.core.specs.List.{refill, length_refill}
 use Rattle.wasmi_arena.specs.Bucket.{Bucket}
-use Rattle.wasmi_arena.specs.Loan.{SameBuckets}
+use Rattle.wasmi_arena.specs.inner.Loan.{SameBuckets}
 use Rattle.wasmi_arena.specs.contracts.stable_arena.StableArena as Arena
 use Rattle.wasmi_arena.specs.contracts.stable_arena.StableArena.TheInside as ArenaInside
 use Rattle.wasmi_arena.specs.declared.key.ArenaKey as Key

@@ -37,9 +37,9 @@ use Rattle.core.proofs.slots.Leases.{P}
 use Rattle.core.specs.declared.option.Option.TheVariants.{Some}
 use Rattle.std_alloc.proofs.RcSteps.{word}
 use Rattle.std.specs.Mem.{type_size}
-use Rattle.wasmi_arena.specs.Block.{empty, slots_own}
+use Rattle.wasmi_arena.specs.inner.Block.{empty, slots_own}
 use Rattle.wasmi_arena.specs.Bucket.{Bucket, bucket}
-use Rattle.wasmi_arena.specs.Slots.{with_items}
+use Rattle.wasmi_arena.specs.inner.Slots.{with_items}
 use Rattle.wasmi_arena.specs.contracts.bucket.Bucket as BucketType
 use Rattle.wasmi_arena.specs.contracts.bucket.Bucket.TheInside as InsideType
 use Rattle.wasmi_arena.proofs.raw.block.BlockPtr.TheLaws as PtrLaws

@@ -31,7 +31,7 @@ use denote.Struct.Owning.{shape}
 use Rattle.core.proofs.mem.Param.{El, R}
 use Rattle.std.specs.Mem.{type_size}
 use Rattle.std_alloc.proofs.RcSteps.{word}
-use Rattle.wasmi_arena.specs.Block.{runs, slots_own}
+use Rattle.wasmi_arena.specs.inner.Block.{runs, slots_own}
 use Rattle.wasmi_arena.specs.contracts.raw.block.Slots as SlotsType
 use Rattle.wasmi_arena.specs.contracts.raw.block.BlockPtr as PtrType
 use Rattle.wasmi_arena.proofs.raw.block.BlockPtr.TheLaws as PtrLaws

@@ -24,8 +24,8 @@ use denote.Slice.{Room}
 use Rattle.core.proofs.mem.Param.{El, R, el_x}
 use Rattle.core.proofs.ptr.Rows.{times_below}
 use Rattle.std.specs.List.{refill}
-use Rattle.wasmi_arena.specs.Block.{runs, slots_own, empty}
-use Rattle.wasmi_arena.specs.Slots.{with_items}
+use Rattle.wasmi_arena.specs.inner.Block.{runs, slots_own, empty}
+use Rattle.wasmi_arena.specs.inner.Slots.{with_items}
 use Rattle.wasmi_arena.proofs.Frame.{SlotsRow, Marker, bytes}
 use Rattle.wasmi_arena.proofs.SlotRuns.{sz, to_cells, of_cells}
 

@@ -32,8 +32,8 @@ use Rattle.core.proofs.alloc.Calls.{Al, token}
 use Rattle.core.proofs.mem.Param.{El, R}
 use Rattle.core.proofs.slots.Leases.{P}
 use Rattle.std_alloc.proofs.RcSteps.{Good, word}
-use Rattle.wasmi_arena.specs.Block.{slots_own, right_owns}
-use Rattle.wasmi_arena.specs.Slots.{IsNewBlock}
+use Rattle.wasmi_arena.specs.inner.Block.{slots_own, right_owns}
+use Rattle.wasmi_arena.specs.inner.Slots.{IsNewBlock}
 use Rattle.wasmi_arena.specs.contracts.raw.block.BlockPtr as PtrType
 use Rattle.wasmi_arena.specs.contracts.raw.block.Slots as SlotsType
 use Rattle.wasmi_arena.specs.contracts.raw.block.DeallocRight as RightType

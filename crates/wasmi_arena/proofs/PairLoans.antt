@@ -15,7 +15,7 @@ use Rattle.core.proofs.mem.Param.{El, R}
 use Rattle.core.proofs.slots.Leases.{P}
 use Rattle.core.specs.declared.option.Option.{Option}
 use Rattle.wasmi_arena.specs.Bucket.{Bucket}
-use Rattle.wasmi_arena.specs.Loan.{SameBuckets}
+use Rattle.wasmi_arena.specs.inner.Loan.{SameBuckets}
 
 module _ {M : Type 1} {𝓤 : Ura M} (𝓛 : Logic 𝓤) (R S T U : RattleType) (F : S.Denot → R.Denot) (G : T.Denot → U.Denot → S.Denot) (γ δ γ₁ γ₂ : GName) where
   open 𝓛 use {A}

@@ -16,7 +16,7 @@ use denote.Slice.{elements_shared, elements_shr_laws}
 use denote.Struct.Lending.{Lends, Lends-both, Lends-first, Lends-nothing, Lends-said, Lends-false}
 use denote.Memory.{part_at, shared_of}
 use Rattle.std.specs.Mem.{type_size}
-use Rattle.wasmi_arena.specs.Block.{empty, runs, fit, slots_own, slots_lend}
+use Rattle.wasmi_arena.specs.inner.Block.{empty, runs, fit, slots_own, slots_lend}
 use lib.ListN.{length}
 
 module _ (R : RattleType) where

@@ -32,7 +32,7 @@ use Rattle.core.proofs.mem.Param.{El, R, el_x, elτ, Good}
 use Rattle.core.proofs.ptr.Rows as rows
 use Rattle.std_alloc.proofs.RawLayout.{as_raw, as_written}
 use Rattle.std.specs.Mem.{type_size}
-use Rattle.wasmi_arena.specs.Block.{empty, runs}
+use Rattle.wasmi_arena.specs.inner.Block.{empty, runs}
 
 -- an item that is there is the first one
 pub cut_first : {X : Type 0} (xs : List X) → 0 < length xs → (x : X) × (xs ≡ x ∷ take_off 1 xs)

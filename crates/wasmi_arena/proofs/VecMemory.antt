@@ -26,7 +26,7 @@ use Rattle.core.proofs.alloc.Calls.{Al}
 use Rattle.core.proofs.mem.Param.{El, R}
 use Rattle.core.proofs.slots.Leases.{P}
 use Rattle.core.specs.List.{refill}
-use Rattle.wasmi_arena.specs.Loan.{SameBuckets}
+use Rattle.wasmi_arena.specs.inner.Loan.{SameBuckets}
 use Rattle.wasmi_arena.specs.Table.{refilled}
 use Rattle.wasmi_arena.specs.contracts.stable_vec.StableVec as Vec
 use Rattle.wasmi_arena.specs.contracts.stable_vec.StableVec.TheInside as VecInside

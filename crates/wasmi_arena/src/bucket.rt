@@ -29,7 +29,7 @@ pub struct Bucket<T, A: Allocator = Global> {
 
 impl<T, A: Allocator> Model for Bucket<T, A> {
     ghost use Rattle.wasmi_arena.specs.Bucket.{Bucket, bucket, bucket_code};
-    ghost use Rattle.wasmi_arena.specs.Filled.{IsFilledBlock};
+    ghost use Rattle.wasmi_arena.specs.inner.Filled.{IsFilledBlock};
 
     ghost Value = { Bucket T };
 
@@ -41,7 +41,7 @@ impl<T, A: Allocator> Model for Bucket<T, A> {
 }
 
 impl<T, A: Allocator> Bucket<T, A> {
-    ghost use Rattle.wasmi_arena.specs.BucketLend.{lends_items, lends_item};
+    ghost use Rattle.wasmi_arena.specs.inner.BucketLend.{lends_items, lends_item};
 
     // An empty bucket of `capacity` slots, in one block that it asks of `alloc`, which it keeps. Nothing is
     // asked for where the items take no memory.

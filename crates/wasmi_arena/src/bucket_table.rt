@@ -1,7 +1,7 @@
 //! The table of a stable vector's buckets.
 ghost use Rattle.std.specs.Prelude.{◌≡◌, ◌<◌, slice_index_or, None};
 ghost use Rattle.std.specs.Borrow.{sem};
-ghost use Rattle.wasmi_arena.specs.TableLend.{lends_bucket};
+ghost use Rattle.wasmi_arena.specs.inner.TableLend.{lends_bucket};
 
 pub(crate) mod fill;
 pub(crate) mod lend;

@@ -5,7 +5,7 @@ ghost use Rattle.std.specs.Mem.{type_size};
 ghost use Rattle.std.specs.Option.{ForSome, option_copied_mut};
 ghost use Rattle.wasmi_arena.specs.Geometry.{size, start, max_len, IsPlace, IsFewest, fewest, slots, room, bucket_of, slot_of};
 ghost use Rattle.wasmi_arena.specs.IterMut.{left, loan_of, KeepsLength};
-ghost use Rattle.wasmi_arena.specs.TableLend.{lends_slot};
+ghost use Rattle.wasmi_arena.specs.inner.TableLend.{lends_slot};
 ghost use Rattle.wasmi_arena.specs.VecLend.{lends_items};
 ghost use Rattle.wasmi_arena.specs.StableVec.{bucket_at, filled_parts};
 ghost use Rattle.wasmi_arena.specs.Table.{items_in, bucket_with};

@@ -66,18 +66,6 @@ impl<Key, T, A: Allocator> ComponentVec<Key, T, A> {
         self.components.len()
     }
 
-    /// Makes room for the extent to rise by `additional` without a request for memory. Linear where the
-    /// block must grow.
-    ///
-    /// Fails with `OutOfSystemMemory` if there is no memory for it. Components and extent stay.
-    pub fn reserve(&mut self, additional: usize) -> Result<(), ArenaError>
-        ensures same { self.new ≡ self.old }
-        ensures errors { IsOkUnless result ArenaError.OutOfSystemMemory }
-    {
-        self.components.reserve(additional)?;
-        Ok(())
-    }
-
     /// A clone of each component under the key of its source, and the same extent, over a clone of the
     /// allocator. Linear in the extent.
     ///
@@ -128,7 +116,7 @@ impl<Key: ArenaKey, T, A: Allocator> ComponentVec<Key, T, A> {
     /// `OutOfSystemMemory` if the number isn't below the extent and there is no memory to raise it.
     /// After an error nothing has changed, and the component is dropped. Below the extent it takes
     /// constant time and no memory; from there on it makes one request for memory at most, and is
-    /// linear in how far the extent rises.
+    /// linear in how far the extent rises. So once the greatest key was set, no key is refused.
     pub fn set(&mut self, index: Key, component: T) -> Result<Option<T>, ArenaError>
     where
         T: Drop,

@@ -12,14 +12,14 @@ use Rattle.std.proofs.lemmas.List.Elements.{All-append, All-cons, All-drop, All-
 use Rattle.std.proofs.lemmas.Map.Keys.{sorted_head, sorted_tail, IsDistinct-from_sorted, IsDistinct-head, IsDistinct-cons, IsDistinct-tail}
 use Rattle.std.proofs.lemmas.Map.Steps.{length-le_from_distinct_below}
 use Rattle.std.proofs.lemmas.Option.{none-some, same_Some, slice_get-map, slice_get_within, slice_get-get_or, get_or_from_slice_get}
-use Rattle.wasmi_interner.specs.Hash.{hash_of}
-use Rattle.wasmi_interner.specs.Index.{hash_cmp, text_at, order_with, orders_with, IsEntryOf, IsSlotOf, IsRestOf, IsFiled, IsIndexOf, IsReady, Inserts, Carries}
+use Rattle.wasmi_interner.specs.inner.Hash.{hash_of}
+use Rattle.wasmi_interner.specs.inner.Index.{hash_cmp, text_at, order_with, orders_with, IsEntryOf, IsSlotOf, IsRestOf, IsFiled, IsIndexOf, IsReady, Inserts, Carries}
 use Rattle.wasmi_interner.specs.Interner.{symbol_of, AreDistinctTexts}
 use Rattle.wasmi_interner.specs.LenOrder.{len_cmp}
 use Rattle.wasmi_interner.specs.LenOrderLaws.{len_cmp_total, len_cmp-Equal}
-use Rattle.wasmi_interner.specs.RestBlocks.{RestState}
+use Rattle.wasmi_interner.specs.inner.RestBlocks.{RestState}
 use Rattle.wasmi_interner.specs.Search.{IsFound, IsSearchable}
-use Rattle.wasmi_interner.specs.Slots.{Table, IsGap, IsTaken, Puts, is_empty_slot, is_marker, gap, one, rest, says, met_in, with_slot}
+use Rattle.wasmi_interner.specs.inner.Slots.{Table, IsGap, IsTaken, Puts, is_empty_slot, is_marker, gap, one, rest, says, met_in, with_slot}
 use Rattle.wasmi_interner.specs.declared.entry.Entry.{Entry}
 use Rattle.wasmi_interner.specs.declared.index.Place.{Place}
 use Rattle.wasmi_interner.specs.declared.index.Place.TheVariants.{Gap, Beside, Rest}

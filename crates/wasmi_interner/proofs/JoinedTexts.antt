@@ -8,7 +8,7 @@ use Rattle.std.proofs.lemmas.List.Folds.{drop_split}
 use Rattle.std.proofs.lemmas.Option.{slice_get-get_or, slice_get-map}
 use Rattle.std.proofs.lemmas.Slice.Eq.{bytes_eq-Decides, slice_eq-Decides}
 use Rattle.std.proofs.lemmas.Str.{IsCharBoundary-at_seam}
-use Rattle.wasmi_interner.specs.Texts.{AreJoined, texts_at}
+use Rattle.wasmi_interner.specs.inner.Texts.{AreJoined, texts_at}
 use Rattle.wasmi_interner.specs.declared.texts.Part.{Part}
 
 module _ (joined : List ℕ) where

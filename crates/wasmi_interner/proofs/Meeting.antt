@@ -4,7 +4,7 @@ use Rattle.std.proofs.lemmas.Bool.{cases_lt, le-leb}
 use Rattle.std.proofs.lemmas.Bool.Decides.{eqb_tells, leb_tells}
 use Rattle.std.proofs.lemmas.List.{drop-set-add, drop-set-lt, length-drop, length-set, get_or-drop, get_or-take}
 use Rattle.std.proofs.lemmas.Option.{same_Some, slice_get-get_or}
-use Rattle.wasmi_interner.specs.Slots.{Table, Meeting, IsGap, IsTaken, is_empty_slot, is_marker, gap, one, rest, says, met, met_from, met_in, with_slot}
+use Rattle.wasmi_interner.specs.inner.Slots.{Table, Meeting, IsGap, IsTaken, is_empty_slot, is_marker, gap, one, rest, says, met, met_from, met_in, with_slot}
 use Rattle.wasmi_interner.specs.declared.entry.Entry.{Entry}
 
 -- what is met with a slot in front

@@ -10,7 +10,7 @@ use Rattle.std.proofs.lemmas.List.{append_assoc, append-nil, length-append, leng
 use Rattle.std.proofs.lemmas.List.Edits.{insert-append_left, insert-append_right, length-insert}
 use Rattle.std.proofs.lemmas.Grind.{common_steps, flat_map-append}
 use Rattle.wasmi_interner.specs.declared.entry.Entry.{Entry}
-use Rattle.wasmi_interner.specs.RestBlocks.{AreFew, BlockState, IsFull, IsBlocks, IsWidth, RestState, entries_in, room_in, with_entries}
+use Rattle.wasmi_interner.specs.inner.RestBlocks.{AreFew, BlockState, IsFull, IsBlocks, IsWidth, RestState, entries_in, room_in, with_entries}
 
 pub width_pos : (w : ℕ) → IsWidth w → 0 < w
 width_pos w is = omega (arith, is.2, pow_pos is.0)

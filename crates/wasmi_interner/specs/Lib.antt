@@ -1,10 +1,6 @@
 pub mod BinaryDigits
-pub mod Hash
-pub mod Index
 pub mod Interner
 pub mod LenOrder
 pub mod LenOrderLaws
-pub mod RestBlocks
 pub mod Search
-pub mod Slots
-pub mod Texts
+pub mod inner

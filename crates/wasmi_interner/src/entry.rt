@@ -1,6 +1,6 @@
 //! An entry of the index of an interner.
 ghost use Rattle.std.specs.Prelude.{◌≡◌, ◌<◌, List, [], ◌∷◌, Some, true, length, nat_lt, slice_get};
-ghost use Rattle.wasmi_interner.specs.Slots.{is_empty_slot, is_marker};
+ghost use Rattle.wasmi_interner.specs.inner.Slots.{is_empty_slot, is_marker};
 ghost use Rattle.wasmi_interner.specs.declared.entry.Entry.{Entry};
 
 use crate::Sym;

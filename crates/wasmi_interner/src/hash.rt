@@ -1,6 +1,6 @@
 //! The hash of a text.
 ghost use Rattle.std.specs.Prelude.{◌≡◌, ◌<◌, ◌^◌};
-ghost use Rattle.wasmi_interner.specs.Hash.{hash_of};
+ghost use Rattle.wasmi_interner.specs.inner.Hash.{hash_of};
 
 use std::hash::{FoldHasher, Hasher};
 

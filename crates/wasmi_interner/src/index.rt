@@ -1,10 +1,10 @@
 //! The index of an interner.
 ghost use Rattle.std.specs.Prelude.{◌≡◌, ℕ, ◌+◌, ◌<◌, ◌≤◌, ◌^◌, List, [], ◌++◌, length, IfErr, IfOk, IfSome, IsOkUnless, IsTrue, None, OnOk, Some, replicate, slice_get};
 ghost use Rattle.wasmi_interner.specs.BinaryDigits.{digits};
-ghost use Rattle.wasmi_interner.specs.Index.{BelongsAt, Carries, Inserts, IsEntryOf, IsIndexOf, IsReady, IsRestOf, orders_with, text_at};
+ghost use Rattle.wasmi_interner.specs.inner.Index.{BelongsAt, Carries, Inserts, IsEntryOf, IsIndexOf, IsReady, IsRestOf, orders_with, text_at};
 ghost use Rattle.wasmi_interner.specs.Interner.{symbol_of};
 ghost use Rattle.wasmi_interner.specs.Search.{IsFound};
-ghost use Rattle.wasmi_interner.specs.Slots.{IsTaken, met_in, rest};
+ghost use Rattle.wasmi_interner.specs.inner.Slots.{IsTaken, met_in, rest};
 
 use crate::entry::{Entries, Entry};
 use crate::rest::Rest;

@@ -1,7 +1,7 @@
 //! The entries of an interner that no slot has.
 ghost use Rattle.std.specs.Prelude.{◌≡◌, ◌+◌, ◌%◌, ◌<◌, ◌≤◌, ◌⊎◌, ◌^◌, [], length, nat_lt, IfOk, OnOk, IsOkUnless, vec_items};
 ghost use Rattle.std.specs.List.{insert};
-ghost use Rattle.wasmi_interner.specs.RestBlocks.{AreFew, IsBlocks, entries_in, room_in};
+ghost use Rattle.wasmi_interner.specs.inner.RestBlocks.{AreFew, IsBlocks, entries_in, room_in};
 
 mod block;
 mod width;
@@ -35,7 +35,7 @@ const PART: usize = 16;
 
 impl<A: Allocator> Model for Rest<A> {
     ghost use Rattle.std.specs.Prelude.{◌≡◌, length, vec_items};
-    ghost use Rattle.wasmi_interner.specs.RestBlocks.{AreFew, IsBlocks, IsWidth, RestState, entries_in, room_in};
+    ghost use Rattle.wasmi_interner.specs.inner.RestBlocks.{AreFew, IsBlocks, IsWidth, RestState, entries_in, room_in};
 
     ghost Value = { RestState };
 

@@ -1,7 +1,7 @@
 //! The slots of the index of an interner.
 ghost use Rattle.std.specs.Prelude.{◌≡◌, ◌<◌, [], length, IfOk, IsTrue, Some, false, slice_get, true};
 ghost use Rattle.std.specs.List.{All};
-ghost use Rattle.wasmi_interner.specs.Slots.{Meets, Puts, is_empty_slot, with_slot};
+ghost use Rattle.wasmi_interner.specs.inner.Slots.{Meets, Puts, is_empty_slot, with_slot};
 
 use crate::entry::Entry;
 use std::alloc::{AllocError, Allocator};
@@ -38,7 +38,7 @@ pub(crate) enum Met {
 
 impl<A: Allocator> Model for Slots<A> {
     ghost use Rattle.std.specs.Prelude.{◌≤◌, vec_items};
-    ghost use Rattle.wasmi_interner.specs.Slots.{Table};
+    ghost use Rattle.wasmi_interner.specs.inner.Slots.{Table};
 
     ghost Value = { Table };
 

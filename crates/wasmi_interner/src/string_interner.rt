@@ -35,7 +35,7 @@ pub struct StringInterner<A: Allocator = Global> {
 
 impl<A: Allocator> Model for StringInterner<A> {
     ghost use Rattle.std.specs.Prelude.{◌≤◌, ◌^◌, ℕ, List, length};
-    ghost use Rattle.wasmi_interner.specs.Index.{IsIndexOf};
+    ghost use Rattle.wasmi_interner.specs.inner.Index.{IsIndexOf};
 
     ghost Value = { List (List ℕ) };
 

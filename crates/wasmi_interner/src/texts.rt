@@ -23,7 +23,7 @@ struct Part {
 
 impl<A: Allocator> Model for Texts<A> {
     ghost use Rattle.std.specs.Prelude.{ℕ, List, string_bytes};
-    ghost use Rattle.wasmi_interner.specs.Texts.{AreJoined, texts_at};
+    ghost use Rattle.wasmi_interner.specs.inner.Texts.{AreJoined, texts_at};
 
     ghost Value = { List (List ℕ) };
 

@@ -7,7 +7,7 @@ use crate::line::Line;
 use crate::pair_key::PairKey;
 use crate::replay::Container;
 use crate::stable_vec::{answer_place, walk_buckets};
-use crate::walk::{walk_steps, walk_steps_to_end, write_all};
+use crate::walk::{walk_steps, write_all};
 use std::alloc::Global;
 use std::mem;
 use std::ops::Range;
@@ -87,12 +87,12 @@ macro_rules! answer_item {
 }
 
 macro_rules! walk {
-    ($arena:ident, $walk:ident, $out:ident, $walk_mut:ident) => {
+    ($arena:ident, $walk:ident, $out:ident) => {
         match $walk {
             Walk::Iter(steps) => walk_steps($arena.iter(), steps, Numbered, $out),
             Walk::For => write_all($arena.len(), &*$arena, Numbered, $out),
             Walk::IterMut(steps, first) => {
-                $walk_mut($arena.iter_mut(), steps, Renewed(first), $out)
+                walk_steps($arena.iter_mut(), steps, Renewed(first), $out)
             }
             Walk::ForMut(first) => write_all($arena.len(), $arena, Renewed(first), $out),
             _ => bad($out),
@@ -167,7 +167,7 @@ impl<Key: ArenaKey> AnyArena<Key> for StableArena<Key, i64> {
                 let len = self.len();
                 write_all(len, self.iter_mut().rev(), Renewed(first), out)
             }
-            walk => walk!(self, walk, out, walk_steps),
+            walk => walk!(self, walk, out),
         }
     }
 }
@@ -224,7 +224,7 @@ impl<Key: PairKey> AnyArena<Key> for Arena<Key, i64> {
                 let len = self.len();
                 write_all(len, self.iter_mut().rev(), Renewed(first), out)
             }
-            walk => walk!(self, walk, out, walk_steps_to_end),
+            walk => walk!(self, walk, out),
         }
     }
 }
@@ -269,6 +269,6 @@ impl<Key: ArenaKey> AnyArena<Key> for DedupArena<Key, i64> {
     }
 
     fn walk(&mut self, _alloc: Global, walk: Walk<'_>, out: &mut Line) {
-        walk!(self, walk, out, walk_steps_to_end)
+        walk!(self, walk, out)
     }
 }

@@ -1,11 +1,11 @@
 //! Calls on a `ComponentVec`. A line names a key by its number.
 
-use crate::answers::{Answer, bad, done, found, keep, shown, write, written};
+use crate::answers::{Answer, bad, found, keep, shown, write, written};
 use crate::call::{Call, ItemCall, Walk};
 use crate::format::{Numbered, Renewed};
 use crate::line::Line;
 use crate::replay::Container;
-use crate::walk::{walk_steps, walk_steps_to_end, write_all};
+use crate::walk::{walk_steps, write_all};
 use std::alloc::Global;
 use wasmi_arena::ArenaKey;
 use wasmi_dense::ComponentVec;
@@ -35,7 +35,6 @@ fn answer_call<Key: ArenaKey>(
             components.clear();
             Answer::DONE
         }
-        Call::Reserve(count) => done(components.reserve(usize::from(count))),
         Call::Clone => keep(components.clone(), other),
         Call::Item(number, call) => match Key::from_usize(number) {
             Some(key) => answer_item(components, key, call),
@@ -79,7 +78,7 @@ fn answer_walk<Key: ArenaKey>(
         Walk::Iter(steps) => walk_steps(components.iter(), steps, Numbered, out),
         Walk::For => write_all(components.extent(), &*components, Numbered, out),
         Walk::IterMut(steps, first) => {
-            walk_steps_to_end(components.iter_mut(), steps, Renewed(first), out)
+            walk_steps(components.iter_mut(), steps, Renewed(first), out)
         }
         Walk::ForMut(first) => write_all(components.extent(), components, Renewed(first), out),
         _ => bad(out),

@@ -74,31 +74,6 @@ pub fn walk_steps<I: DoubleEndedIterator + Left, F: Format<I::Item>>(
     end(items.left(), out)
 }
 
-/// The same of an iterator that isn't asked again once it came to its end, since no contract says that it may be.
-pub fn walk_steps_to_end<I: DoubleEndedIterator + Left, F: Format<I::Item>>(
-    mut items: I,
-    steps: &str,
-    mut format: F,
-    out: &mut Line,
-)
-    requires can { I.can_next items }
-    requires both_ends { (it : I) → (I.can_next it → I.can_next_back it) × (I.can_next_back it → I.can_next it) }
-{
-    let mut ended = false;
-    for step in steps.bytes() {
-        let given = if ended {
-            None
-        } else if step == b'f' {
-            items.next()
-        } else {
-            items.next_back()
-        };
-        ended = given.is_none();
-        step_given(given, &mut format, out);
-    }
-    end(items.left(), out)
-}
-
 /// Writes how many items there are, and each, by a `for`.
 pub fn write_all<U: IntoIterator + Drop, F: Format<U::Item>>(
     len: usize,

@@ -18,8 +18,7 @@ impl Generator {
             12 => self.cleared(),
             13 => self.exchanged(),
             14 => self.set_alike(),
-            15 => Call::Reserve(self.random.below(100) as u16),
-            16..=17 => self.components_walked(),
+            15..=17 => self.components_walked(),
             18 => self.components_cloned(),
             _ => Call::Eq,
         }

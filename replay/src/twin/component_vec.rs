@@ -154,7 +154,6 @@ impl<Key: ArenaKey> Container for ComponentTwin<Key> {
                 Some(key) => self.answer_item(key, call, out),
                 None => writeln!(out, "no key"),
             },
-            Call::Reserve(_) => writeln!(out, "done"),
             Call::Clone => {
                 self.other = self.components.clone();
                 writeln!(out, "done")

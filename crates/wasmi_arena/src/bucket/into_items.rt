@@ -1,7 +1,7 @@
 //! The items of a bucket by value, taken out from both ends.
 ghost use Rattle.std.specs.Prelude.{◌≡◌, length};
 ghost use Rattle.std.specs.Iterator.{YieldsFirst, YieldsLast, item_count};
-ghost use Rattle.wasmi_arena.specs.Filled.{IsFilledBlock};
+ghost use Rattle.wasmi_arena.specs.inner.Filled.{IsFilledBlock};
 
 use crate::raw::block::{BlockPtr, DeallocRight, Slots, deallocate};
 use std::alloc::Allocator;
@@ -22,7 +22,7 @@ pub struct BucketItems<T, A: Allocator> {
 
 impl<T, A: Allocator> Model for BucketItems<T, A> {
     ghost use Rattle.std.specs.Prelude.{List};
-    ghost use Rattle.wasmi_arena.specs.Filled.{IsTakenFrom};
+    ghost use Rattle.wasmi_arena.specs.inner.Filled.{IsTakenFrom};
 
     ghost Value = { List T };
 

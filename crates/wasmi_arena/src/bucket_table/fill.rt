@@ -4,7 +4,7 @@ ghost use Rattle.std.specs.List.{All};
 ghost use Rattle.std.specs.Mem.{type_size};
 ghost use Rattle.std.specs.Iterator.{IsFinite, UpTo, size as count};
 ghost use Rattle.std.specs.Option.{ForSome};
-ghost use Rattle.wasmi_arena.specs.Apart.{AreOpenApart};
+ghost use Rattle.wasmi_arena.specs.inner.Apart.{AreOpenApart};
 ghost use Rattle.wasmi_arena.specs.Geometry.{size};
 ghost use Rattle.wasmi_arena.specs.Growth.{Came};
 ghost use Rattle.wasmi_arena.specs.Table.{items_in, bucket_with, FillsBucket};

@@ -2,7 +2,7 @@
 ghost use Rattle.std.specs.Prelude.{◌≡◌, ◌<◌, length, slice_get, IsSome, Some};
 ghost use Rattle.std.specs.Borrow.{sem};
 ghost use Rattle.wasmi_arena.specs.Table.{items_in};
-ghost use Rattle.wasmi_arena.specs.TableLend.{lends_slot, lends_filled};
+ghost use Rattle.wasmi_arena.specs.inner.TableLend.{lends_slot, lends_filled};
 
 use crate::Bucket;
 use crate::raw::option::unwrap_mut;

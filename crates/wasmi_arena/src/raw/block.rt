@@ -2,7 +2,7 @@
 ghost use Rattle.std.specs.Prelude.{◌≡◌, ℕ, List, ⊤};
 ghost use base.Fml.{ftrue};
 ghost use denote.RawPtr.{Ptr};
-ghost use Rattle.wasmi_arena.specs.Block.{slots_own, slots_lend, right_owns};
+ghost use Rattle.wasmi_arena.specs.inner.Block.{slots_own, slots_lend, right_owns};
 
 mod items;
 mod memory;

@@ -2,7 +2,7 @@
 ghost use Rattle.std.specs.Prelude.{List, Option};
 ghost use base.Fml.{GName, ftrue};
 ghost use Rattle.wasmi_arena.specs.Bucket.{Bucket};
-ghost use Rattle.wasmi_arena.specs.Loan.{loan_owns};
+ghost use Rattle.wasmi_arena.specs.inner.Loan.{loan_owns};
 
 mod pairs;
 mod parts;

@@ -1,7 +1,7 @@
 //! The value of an `Option` that has one. It lies behind the tag, which isn't read.
 ghost use Rattle.std.specs.Prelude.{◌≡◌, IsSome, Some};
 ghost use Rattle.std.specs.Borrow.{sem};
-ghost use Rattle.wasmi_arena.specs.OptionLend.{lends_value};
+ghost use Rattle.wasmi_arena.specs.inner.OptionLend.{lends_value};
 
 use std::mem::align_of;
 

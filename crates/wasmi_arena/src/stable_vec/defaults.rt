@@ -5,7 +5,7 @@ ghost use Rattle.std.specs.Mem.{type_size};
 ghost use Rattle.std.specs.Option.{ForSome};
 ghost use Rattle.wasmi_arena.specs.Geometry.{size, max_len, fewest, room};
 ghost use Rattle.wasmi_arena.specs.Growth.{AppendsMany};
-ghost use Rattle.wasmi_arena.specs.Apart.{AreOpenApart};
+ghost use Rattle.wasmi_arena.specs.inner.Apart.{AreOpenApart};
 ghost use Rattle.wasmi_arena.specs.Table.{items_in, FillsBucket};
 
 use crate::bucket_table::fill::{fill_bucket, open_apart};

@@ -1,7 +1,7 @@
 //! The iterator that takes the items out of a stable vector.
 ghost use Rattle.std.specs.Prelude.{◌≡◌, length};
 ghost use Rattle.std.specs.Iterator.{YieldsFirst, YieldsLast, item_count};
-ghost use Rattle.wasmi_arena.specs.Ahead.{in_hand};
+ghost use Rattle.wasmi_arena.specs.inner.Ahead.{in_hand};
 
 use crate::bucket::BucketItems;
 use crate::geometry::BUCKETS;
@@ -33,7 +33,7 @@ impl<T, A: Allocator> Model for StableVecIntoIter<T, A> {
     ghost Value = { List T };
 
     ghost use Rattle.wasmi_arena.specs.Table.{items_of, IsAhead};
-    ghost use Rattle.wasmi_arena.specs.Ahead.{in_hand};
+    ghost use Rattle.wasmi_arena.specs.inner.Ahead.{in_hand};
 
     ghost view = { λ it. in_hand it.front ++ items_of (array_into_iter_items it.buckets) ++ in_hand it.back };
 

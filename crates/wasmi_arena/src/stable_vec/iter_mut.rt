@@ -35,7 +35,7 @@ impl<'a, T, A: Allocator> Model for StableVecIterMut<'a, T, A> {
     ghost Value = { List T × GName };
 
     ghost use Rattle.wasmi_arena.specs.IterMut.{left, loan_of};
-    ghost use Rattle.wasmi_arena.specs.Ahead.{joined, HasAhead};
+    ghost use Rattle.wasmi_arena.specs.inner.Ahead.{joined, HasAhead};
 
     ghost view = { λ it. (
       iter_mut_rest it.front ++ joined (left it.slices) ++ iter_mut_rest it.back,

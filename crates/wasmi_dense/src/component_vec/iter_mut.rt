@@ -17,6 +17,8 @@ pub struct ComponentVecIterMut<'a, Key: ArenaKey, T> {
     // The number of the first of `slots`.
     next: usize,
     keys: PhantomData<Key>,
+    // The number behind the last place is a number too. A fact of the value, so that no step asks for it.
+    ghost numbered: { next + length (iter_mut_rest slots) < 2 ^ 64 },
 }
 
 impl<'a, Key: ArenaKey, T> ComponentVecIterMut<'a, Key, T> {
@@ -87,8 +89,6 @@ fn last_of<'a, Key: ArenaKey, T>(
 impl<'a, Key: ArenaKey, T> Iterator for ComponentVecIterMut<'a, Key, T> {
     type Item = (Key, &'a mut T);
 
-    ghost can_next = { IsNumbered };
-
     ghost next_gives = { YieldsFirstBy (λ entry. (entry.0, entry.1.now)) (left_components Key.keys) };
 
     ghost remaining = { item_count (left_components Key.keys) };
@@ -99,8 +99,6 @@ impl<'a, Key: ArenaKey, T> Iterator for ComponentVecIterMut<'a, Key, T> {
 }
 
 impl<'a, Key: ArenaKey, T> DoubleEndedIterator for ComponentVecIterMut<'a, Key, T> {
-    ghost can_next_back = { IsNumbered };
-
     ghost next_back_gives = { YieldsLastBy (λ entry. (entry.0, entry.1.now)) (left_components Key.keys) };
 
     fn next_back(&mut self) -> Option<(Key, &'a mut T)> {

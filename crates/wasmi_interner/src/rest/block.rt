@@ -1,7 +1,7 @@
 //! A block of entries.
 ghost use Rattle.std.specs.Prelude.{◌≡◌, ◌++◌, ◌+◌, ◌==◌, ◌<◌, ◌≤◌, [], ◌∷◌, length, IfOk, OnErr, OnOk, Some, slice_get, vec_capacity, vec_items};
 ghost use Rattle.std.specs.List.{insert};
-ghost use Rattle.wasmi_interner.specs.RestBlocks.{BlockState, with_entries};
+ghost use Rattle.wasmi_interner.specs.inner.RestBlocks.{BlockState, with_entries};
 
 use super::width::Width;
 use crate::entry::Entry;
@@ -19,7 +19,7 @@ pub(super) struct Block<A: Allocator> {
 
 impl<A: Allocator> Model for Block<A> {
     ghost use Rattle.std.specs.Prelude.{◌≤◌};
-    ghost use Rattle.wasmi_interner.specs.RestBlocks.{BlockState};
+    ghost use Rattle.wasmi_interner.specs.inner.RestBlocks.{BlockState};
 
     ghost Value = { BlockState };
 

@@ -1,6 +1,6 @@
 //! The width of the blocks of a rest.
 ghost use Rattle.std.specs.Prelude.{◌≡◌, ◌+◌, ◌/◌, ◌%◌, ◌<◌, ◌^◌, IfSome, None};
-ghost use Rattle.wasmi_interner.specs.RestBlocks.{IsWidth};
+ghost use Rattle.wasmi_interner.specs.inner.RestBlocks.{IsWidth};
 
 use std::marker::Model;
 

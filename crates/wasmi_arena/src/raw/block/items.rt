@@ -1,8 +1,8 @@
 //! The items in the slots of a block: one goes in, one comes out, all are lent as a slice.
 ghost use Rattle.std.specs.Prelude.{◌≡◌, ◌+◌, ◌<◌, [], ◌∷◌, ◌++◌, length, slice_get, Some};
 ghost use Rattle.std.specs.Borrow.{sem};
-ghost use Rattle.wasmi_arena.specs.Slots.{with_last, without_first, without_last};
-ghost use Rattle.wasmi_arena.specs.SlotsLend.{lends_items, lends_item};
+ghost use Rattle.wasmi_arena.specs.inner.Slots.{with_last, without_first, without_last};
+ghost use Rattle.wasmi_arena.specs.inner.SlotsLend.{lends_items, lends_item};
 
 use super::{BlockPtr, Slots};
 use std::slice;

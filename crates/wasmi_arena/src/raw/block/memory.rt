@@ -2,8 +2,8 @@
 ghost use Rattle.std.specs.Prelude.{◌≡◌, ◌↔◌, IfOk, IfSome, IsSome, IsTrue};
 ghost use Rattle.std.specs.Mem.{type_size};
 ghost use Rattle.std.specs.Vec.Ownership.{FitsInBlock};
-ghost use Rattle.wasmi_arena.specs.Block.{takes_memory};
-ghost use Rattle.wasmi_arena.specs.Slots.{IsNewBlock, AreEmptied};
+ghost use Rattle.wasmi_arena.specs.inner.Block.{takes_memory};
+ghost use Rattle.wasmi_arena.specs.inner.Slots.{IsNewBlock, AreEmptied};
 
 use super::{BlockPtr, DeallocRight, Slots};
 use std::alloc::{AllocError, Allocator};

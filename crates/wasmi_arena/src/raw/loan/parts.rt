@@ -2,9 +2,9 @@
 ghost use Rattle.std.specs.Prelude.{◌≡◌, ◌≤◌, length, slice_index_or, IsSome, None};
 ghost use Rattle.std.specs.Borrow.{sem};
 ghost use Rattle.wasmi_arena.specs.IterMut.{IsCut};
-ghost use Rattle.wasmi_arena.specs.LoanLend.{lends_bucket};
+ghost use Rattle.wasmi_arena.specs.inner.LoanLend.{lends_bucket};
 ghost use Rattle.wasmi_arena.specs.Table.{items_in, items_of, AreFilled};
-ghost use Rattle.wasmi_arena.specs.TableLend.{lends_filled};
+ghost use Rattle.wasmi_arena.specs.inner.TableLend.{lends_filled};
 
 use super::ItemsLoan;
 use crate::Bucket;

@@ -1,6 +1,6 @@
 use Rattle.std.proofs.Common.{◌∙◌, ◌/◌, ap}
 use Rattle.core.specs.Hash.FoldHasher.{finish, write}
-use Rattle.wasmi_interner.specs.Hash.{hash_of}
+use Rattle.wasmi_interner.specs.inner.Hash.{hash_of}
 use Rattle.wasmi_interner.proofs.hash.hash_of_text.Goals as goal
 
 pub returns : goal.returns

@@ -1,7 +1,7 @@
 use Rattle.std.proofs.Common.{◌≡◌, ◌∙◌, [], ap, get_or, subst, sym}
 use Rattle.std.proofs.lemmas.Option.{get_or_from_slice_get}
-use Rattle.wasmi_interner.specs.Hash.{hash_of}
-use Rattle.wasmi_interner.specs.Index.{IsRestOf, orders_with, text_at}
+use Rattle.wasmi_interner.specs.inner.Hash.{hash_of}
+use Rattle.wasmi_interner.specs.inner.Index.{IsRestOf, orders_with, text_at}
 use Rattle.wasmi_interner.specs.Search.{IsFound}
 use Rattle.wasmi_interner.proofs.Filing.{rest_searchable}
 use Rattle.wasmi_interner.proofs.index.rank_of.Goals as goal

@@ -1,6 +1,6 @@
 use Rattle.std.proofs.Common.{◌≡◌, ◌+◌, length, take}
 use Rattle.std.specs.List.{AllZip}
-use Rattle.wasmi_arena.specs.Slots.{IsOneBlock}
+use Rattle.wasmi_arena.specs.inner.Slots.{IsOneBlock}
 use Rattle.wasmi_arena.proofs.bucket.Bucket.push_clones.Given as goal
 
 -- the slots before this one hold the clones of the items before, and the others are as they were

@@ -1,6 +1,6 @@
 use Rattle.std.proofs.Common.{◌≡◌, ◌+◌, length}
 use Rattle.wasmi_arena.specs.Growth.{AppendsMany}
-use Rattle.wasmi_arena.specs.Slots.{IsOneBlock}
+use Rattle.wasmi_arena.specs.inner.Slots.{IsOneBlock}
 use Rattle.wasmi_arena.proofs.bucket.Bucket.push_defaults.Given as goal
 
 -- so many slots are filled, and the others are as they were

@@ -1,7 +1,7 @@
 use Rattle.std.proofs.Common.{◌≡◌, ◌+◌, List, ◌++◌, length}
 use Rattle.std.specs.Iterator.{Yields, UpTo}
 use Rattle.std.specs.Iterator.{size as count}
-use Rattle.wasmi_arena.specs.Slots.{IsOneBlock}
+use Rattle.wasmi_arena.specs.inner.Slots.{IsOneBlock}
 use Rattle.wasmi_arena.proofs.bucket.Bucket.push_from.Given as goal
 
 -- so many items came and are in, and the other slots are as they were

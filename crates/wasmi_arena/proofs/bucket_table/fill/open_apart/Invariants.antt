@@ -1,4 +1,4 @@
-use Rattle.wasmi_arena.specs.Apart.{AreOpenApart}
+use Rattle.wasmi_arena.specs.inner.Apart.{AreOpenApart}
 use Rattle.wasmi_arena.proofs.bucket_table.fill.open_apart.Given as goal
 
 -- the buckets so far are open

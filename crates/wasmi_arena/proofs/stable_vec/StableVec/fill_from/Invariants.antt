@@ -1,7 +1,7 @@
 use Rattle.std.proofs.Common.{◌≡◌, ◌+◌, ◌-◌, ◌<◌, ◌≤◌, length}
 use Rattle.wasmi_arena.specs.Geometry.{fewest, room}
 use Rattle.wasmi_arena.specs.Growth.{AppendsMany}
-use Rattle.wasmi_arena.specs.Apart.{AreOpenApart}
+use Rattle.wasmi_arena.specs.inner.Apart.{AreOpenApart}
 use Rattle.wasmi_arena.proofs.stable_vec.StableVec.fill_from.Given as goal
 
 -- all but those that are left are in, no slot is free for these, and the buckets for them are open

@@ -1,5 +1,5 @@
 use Rattle.std.proofs.Common.{subst, IfSome}
-use Rattle.wasmi_interner.specs.Index.{Carries}
+use Rattle.wasmi_interner.specs.inner.Index.{Carries}
 use Rattle.wasmi_interner.proofs.Filing.{carried}
 use Rattle.wasmi_interner.proofs.index.Index.grow.Goals as goal
 

@@ -1,6 +1,6 @@
 use Rattle.std.proofs.Common.{◌≡◌, ◌∙◌, ℕ, ap, arith, length, map, refl, subst, sym}
 use Rattle.std.specs.List.{Contains, insert}
-use Rattle.wasmi_interner.specs.Index.{IsRestOf, text_at}
+use Rattle.wasmi_interner.specs.inner.Index.{IsRestOf, text_at}
 use Rattle.wasmi_interner.specs.declared.entry.Entry.{Entry}
 use Rattle.wasmi_interner.proofs.Filing.{found_own, has_new, has_old, marked_taken, rank_within, rest_few, rest_insert, taken_entry}
 use Rattle.wasmi_interner.proofs.index.Index.move_to_rest.Goals as goal

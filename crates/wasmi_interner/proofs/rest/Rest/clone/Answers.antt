@@ -1,7 +1,7 @@
 use Rattle.std.proofs.Common.{◌∙◌, ap, vec_items}
 use Rattle.std.specs.List.{each_same}
-use Rattle.wasmi_interner.specs.RestBlocks.{entries_in}
-use Rattle.wasmi_interner.specs.RestBlocks.{RestState}
+use Rattle.wasmi_interner.specs.inner.RestBlocks.{entries_in}
+use Rattle.wasmi_interner.specs.inner.RestBlocks.{RestState}
 use Rattle.wasmi_interner.proofs.rest.Rest.clone.Goals as goal
 
 pub invariant_of-result : goal.invariant_of-result

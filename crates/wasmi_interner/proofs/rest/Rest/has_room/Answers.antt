@@ -1,5 +1,5 @@
 use Rattle.std.proofs.Common.{◌-◌, ◌∙◌, not, ◌==◌, nat_lt, ap, arith, length, sym, vec_items}
-use Rattle.wasmi_interner.specs.RestBlocks.{RestState}
+use Rattle.wasmi_interner.specs.inner.RestBlocks.{RestState}
 use Rattle.wasmi_interner.proofs.RestBlocks.{counted, not_full}
 use Rattle.wasmi_interner.proofs.rest.Rest.has_room.Goals as goal
 

@@ -2,7 +2,7 @@ use Rattle.std.proofs.Common.{◌≡◌, ◌<◌, ◌+◌, ◌-◌, ◌*◌, ◌
 use Rattle.std.specs.List.{insert}
 use Rattle.std.proofs.lemmas.List.{length-set}
 use Rattle.std.proofs.lemmas.List.Edits.{length-insert}
-use Rattle.wasmi_interner.specs.RestBlocks.{AreFew, IsBlocks, RestState, entries_in}
+use Rattle.wasmi_interner.specs.inner.RestBlocks.{AreFew, IsBlocks, RestState, entries_in}
 use Rattle.wasmi_interner.proofs.RestBlocks.{fits_last, full, goes, pushed_out, put_last, width_pos}
 use Rattle.wasmi_interner.proofs.rest.Rest.insert.Goals as goal
 

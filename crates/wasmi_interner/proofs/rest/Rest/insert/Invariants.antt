@@ -1,6 +1,6 @@
 use Rattle.std.proofs.Common.{◌-◌, ◌≡◌, ◌<◌, ◌≤◌, ◌+◌, ◌*◌, length, vec_items}
 use Rattle.std.specs.List.{insert}
-use Rattle.wasmi_interner.specs.RestBlocks.{AreFew, IsBlocks, IsWidth, entries_in, room_in}
+use Rattle.wasmi_interner.specs.inner.RestBlocks.{AreFew, IsBlocks, IsWidth, entries_in, room_in}
 use Rattle.wasmi_interner.proofs.rest.Rest.insert.Given as goal
 
 -- what is carried goes to a place of the next block, which is the front of all but the first

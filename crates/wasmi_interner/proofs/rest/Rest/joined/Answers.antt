@@ -1,7 +1,7 @@
 use Rattle.std.proofs.Common.{◌%◌, ℕ, subst, ◌≡◌, ◌<◌, ◌≤◌, ◌+◌, ◌∙◌, ◌++◌, [], ◌∷◌, ap, sym, arith, length, vec_items}
 use Rattle.std.proofs.lemmas.List.{length-append, take_all}
 use Rattle.std.proofs.lemmas.List.Elements.{All-append}
-use Rattle.wasmi_interner.specs.RestBlocks.{IsFull, RestState, entries_in}
+use Rattle.wasmi_interner.specs.inner.RestBlocks.{IsFull, RestState, entries_in}
 use Rattle.wasmi_interner.proofs.RestBlocks.{full_at, full_one, joined_more, of_full}
 use Rattle.wasmi_interner.proofs.rest.Rest.joined.Goals as goal
 

@@ -1,6 +1,6 @@
 use Rattle.std.proofs.Common.{◌≡◌, ◌+◌, ◌-◌, ◌≤◌, ◌/◌, length, take, vec_capacity, vec_items}
 use Rattle.std.specs.List.{All}
-use Rattle.wasmi_interner.specs.RestBlocks.{IsFull, entries_in}
+use Rattle.wasmi_interner.specs.inner.RestBlocks.{IsFull, entries_in}
 use Rattle.wasmi_interner.proofs.rest.Rest.joined.Given as goal
 
 -- those before the next are joined by twos

@@ -1,6 +1,6 @@
 use Rattle.std.proofs.Common.{◌≡◌, ◌+◌, ◌∙◌, [], ◌∷◌, ◌++◌, ap, arith, length, subst, sym, vec_items}
 use Rattle.std.proofs.lemmas.List.{length-append}
-use Rattle.wasmi_interner.specs.RestBlocks.{AreFew, RestState}
+use Rattle.wasmi_interner.specs.inner.RestBlocks.{AreFew, RestState}
 use Rattle.wasmi_interner.proofs.RestBlocks.{opened, width_pos}
 use Rattle.wasmi_interner.proofs.rest.Rest.open.Goals as goal
 

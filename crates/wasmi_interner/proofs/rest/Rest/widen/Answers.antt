@@ -1,5 +1,5 @@
 use Rattle.std.proofs.Common.{◌≡◌, ◌%◌, ◌≤◌, ◌/◌, ◌∙◌, ap, arith, sym, inl, inr, length, vec_items}
-use Rattle.wasmi_interner.specs.RestBlocks.{RestState}
+use Rattle.wasmi_interner.specs.inner.RestBlocks.{RestState}
 use Rattle.wasmi_interner.proofs.RestBlocks.{all_full, even_many, few_joined, widened, width_pos}
 use Rattle.wasmi_interner.proofs.rest.Rest.widen.Goals as goal
 use Rattle.wasmi_interner.proofs.rest.Rest.widen.Goals.{else-len-width-via-then-len-width+else-width-ge-ALONE, then-len-ne1, else-len-ne1, else-len-width-via-else-len-width, then-len-eq1+in_ok-widen, else-len-eq1+in_ok-self-inside}

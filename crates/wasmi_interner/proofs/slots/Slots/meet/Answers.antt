@@ -1,5 +1,5 @@
 use Rattle.std.proofs.Common.{◌≡◌, ◌+◌, ◌/◌, ◌^◌, ◌<◌, ◌∙◌, ap, subst, sym, refl, arith, inl, inr, length}
-use Rattle.wasmi_interner.specs.Slots.{Table, IsGap, IsTaken, met_in, rest}
+use Rattle.wasmi_interner.specs.inner.Slots.{Table, IsGap, IsTaken, met_in, rest}
 use Rattle.wasmi_interner.proofs.Meeting.{past_end, none_met, is_gap, is_marked, is_taken}
 use Rattle.wasmi_interner.proofs.slots.Slots.meet.Goals as goal
 

@@ -1,5 +1,5 @@
 use Rattle.std.proofs.Common.{◌∙◌, refl, sym, arith}
-use Rattle.wasmi_interner.specs.Index.{order_with}
+use Rattle.wasmi_interner.specs.inner.Index.{order_with}
 use Rattle.wasmi_interner.specs.declared.entry.Entry.{Entry}
 use Rattle.wasmi_interner.proofs.BinaryDigits.{digits_least}
 use Rattle.wasmi_interner.proofs.Filing.{equal_of_text, one_found, one_searchable, text_of_equal}

@@ -1,6 +1,6 @@
 use Rattle.std.proofs.Common.{◌≡◌, ◌++◌, ◌∷◌, [], ap, arith, length, subst}
 use Rattle.std.proofs.lemmas.List.{length_push}
-use Rattle.wasmi_interner.specs.Index.{IsIndexOf}
+use Rattle.wasmi_interner.specs.inner.Index.{IsIndexOf}
 use Rattle.wasmi_interner.specs.declared.entry.Entry.{Entry}
 use Rattle.wasmi_interner.proofs.Filing.{inserted}
 use Rattle.wasmi_interner.proofs.string_interner.StringInterner.get_or_intern_with_hint.Goals as goal

@@ -29,7 +29,7 @@ use Rattle.core.proofs.mem.Param.{El, R, args}
 use Rattle.core.proofs.ptr.Rows.{times_below}
 use Rattle.std_alloc.proofs.RcSteps.{word, word-Good}
 use Rattle.std_alloc.proofs.VecSteps.Shapes.{after}
-use Rattle.wasmi_arena.specs.Block.{slots_lend}
+use Rattle.wasmi_arena.specs.inner.Block.{slots_lend}
 use Rattle.wasmi_arena.specs.contracts.raw.block.Slots.slice as F
 use Rattle.wasmi_arena.proofs.raw.block.Slots.slice.Statement.{statement}
 use Rattle.wasmi_arena.proofs.raw.block.Slots.slice.Code as code

@@ -23,8 +23,8 @@ use denote.Triple.Walked.{Stays, walk_of, stay_dropped, Goes-dropped, stay_ref, 
 use Rattle.core.proofs.mem.Param.{El, R, args, elτ, Good}
 use Rattle.std_alloc.proofs.RcSteps.{word, word-Good}
 use Rattle.std_alloc.proofs.VecSteps.Shapes.{after}
-use Rattle.wasmi_arena.specs.Block.{runs}
-use Rattle.wasmi_arena.specs.Slots.{without_last}
+use Rattle.wasmi_arena.specs.inner.Block.{runs}
+use Rattle.wasmi_arena.specs.inner.Slots.{without_last}
 use Rattle.wasmi_arena.proofs.SlotRuns.{cut_last, offset_fits, sz, Before, last_out, last_back}
 use Rattle.wasmi_arena.specs.contracts.raw.block.Slots.take_last as F
 use Rattle.wasmi_arena.proofs.raw.block.Slots.take_last.Statement.{statement}

@@ -25,8 +25,8 @@ use denote.Triple.Walked.{says, Stays, walk_of, stay_dropped, Goes-dropped, stay
 use Rattle.core.proofs.mem.Param.{El, R, args, elτ, one, lawful}
 use Rattle.std_alloc.proofs.RcSteps.{word, word-Good}
 use Rattle.std_alloc.proofs.VecSteps.Shapes.{after}
-use Rattle.wasmi_arena.specs.Block.{runs}
-use Rattle.wasmi_arena.specs.Slots.{with_last}
+use Rattle.wasmi_arena.specs.inner.Block.{runs}
+use Rattle.wasmi_arena.specs.inner.Slots.{with_last}
 use Rattle.wasmi_arena.proofs.SlotRuns.{offset_fits, sz, Before, fill_out, fill_in}
 use Rattle.wasmi_arena.specs.contracts.raw.block.Slots.write as F
 use Rattle.wasmi_arena.proofs.raw.block.Slots.write.Statement.{statement}

@@ -43,8 +43,8 @@ use Rattle.std_alloc.proofs.RcSteps.{word-Good, first_Good}
 use Rattle.std_alloc.proofs.ResultValues.{ok_of, err_of}
 use Rattle.std_alloc.proofs.RawLayout.{as_written}
 use Rattle.std_alloc.proofs.VecSteps.Shapes.{after, head, arm_body}
-use Rattle.wasmi_arena.specs.Block.{runs, takes_memory}
-use Rattle.wasmi_arena.specs.Slots.{IsNewBlock}
+use Rattle.wasmi_arena.specs.inner.Block.{runs, takes_memory}
+use Rattle.wasmi_arena.specs.inner.Slots.{IsNewBlock}
 use Rattle.wasmi_arena.specs.contracts.raw.block.memory.allocate as F
 use Rattle.wasmi_arena.proofs.raw.block.memory.allocate.Statement.{statement}
 use Rattle.wasmi_arena.proofs.raw.block.memory.allocate.Code as code

@@ -34,8 +34,8 @@ use Rattle.std_alloc.proofs.RcSteps.{word-Good}
 use Rattle.std_alloc.proofs.RawLayout.{as_raw}
 use Rattle.std_alloc.proofs.Flags.{T_true}
 use Rattle.std_alloc.proofs.VecSteps.Shapes.{after}
-use Rattle.wasmi_arena.specs.Block.{slots_own, right_owns, takes_memory}
-use Rattle.wasmi_arena.specs.Slots.{AreEmptied}
+use Rattle.wasmi_arena.specs.inner.Block.{slots_own, right_owns, takes_memory}
+use Rattle.wasmi_arena.specs.inner.Slots.{AreEmptied}
 use Rattle.wasmi_arena.specs.contracts.raw.block.memory.deallocate as F
 use Rattle.wasmi_arena.proofs.raw.block.memory.deallocate.Statement.{statement}
 use Rattle.wasmi_arena.proofs.raw.block.memory.deallocate.Code as code

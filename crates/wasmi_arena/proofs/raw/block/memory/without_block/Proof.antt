@@ -34,8 +34,8 @@ use Rattle.core.proofs.slots.Leases.{args, P}
 use Rattle.core.specs.contracts.option.Option as Opt
 use Rattle.std_alloc.proofs.RcSteps.{word-Good, some_Good, Some-of, none_of}
 use Rattle.std_alloc.proofs.VecSteps.Shapes.{after}
-use Rattle.wasmi_arena.specs.Block.{runs}
-use Rattle.wasmi_arena.specs.Slots.{IsNewBlock}
+use Rattle.wasmi_arena.specs.inner.Block.{runs}
+use Rattle.wasmi_arena.specs.inner.Slots.{IsNewBlock}
 use Rattle.wasmi_arena.specs.contracts.raw.block.memory.without_block as F
 use Rattle.wasmi_arena.proofs.raw.block.memory.without_block.Statement.{statement}
 use Rattle.wasmi_arena.proofs.raw.block.memory.without_block.Code as code

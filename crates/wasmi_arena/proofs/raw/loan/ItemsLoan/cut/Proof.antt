@@ -29,7 +29,7 @@ use Rattle.core.proofs.slots.Leases.{uncapped, P}
 use Rattle.std_alloc.proofs.VecSteps.Shapes.{after}
 use Rattle.core.specs.declared.option.Option.{Option}
 use Rattle.wasmi_arena.specs.Bucket.{Bucket}
-use Rattle.wasmi_arena.specs.Loan.{loan_owns}
+use Rattle.wasmi_arena.specs.inner.Loan.{loan_owns}
 use Rattle.wasmi_arena.specs.contracts.raw.loan.ItemsLoan.cut as F
 use Rattle.wasmi_arena.proofs.raw.loan.ItemsLoan.cut.Statement.{statement}
 use Rattle.wasmi_arena.proofs.raw.loan.ItemsLoan.cut.Code as code

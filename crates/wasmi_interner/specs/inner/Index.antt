@@ -5,11 +5,11 @@ use Rattle.std.specs.List.Sorted.{IsStrictlySortedBy}
 use Rattle.std.specs.Ordering.{nat_cmp, ordering_then}
 use Rattle.std.specs.declared.cmp.Ordering.{Ordering}
 use Rattle.std.specs.declared.cmp.Ordering.TheVariants.{Less, Greater}
-use Rattle.wasmi_interner.specs.Hash.{hash_of}
+use Rattle.wasmi_interner.specs.inner.Hash.{hash_of}
 use Rattle.wasmi_interner.specs.Interner.{AreDistinctTexts}
 use Rattle.wasmi_interner.specs.LenOrder.{len_cmp}
-use Rattle.wasmi_interner.specs.RestBlocks.{RestState}
-use Rattle.wasmi_interner.specs.Slots.{Table, IsGap, IsTaken, met_in, one, rest, is_empty_slot, is_marker, with_slot}
+use Rattle.wasmi_interner.specs.inner.RestBlocks.{RestState}
+use Rattle.wasmi_interner.specs.inner.Slots.{Table, IsGap, IsTaken, met_in, one, rest, is_empty_slot, is_marker, with_slot}
 use Rattle.wasmi_interner.specs.declared.entry.Entry.{Entry}
 use Rattle.wasmi_interner.specs.declared.index.Place.{Place}
 use Rattle.wasmi_interner.specs.declared.index.Place.TheVariants.{Gap, Beside, Rest}

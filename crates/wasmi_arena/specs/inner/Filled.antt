@@ -3,7 +3,7 @@ use Rattle.std.specs.Prelude.{◌≡◌, ℕ, ◌+◌, length}
 use Rattle.wasmi_arena.specs.declared.raw.block.BlockPtr.{BlockPtr}
 use Rattle.wasmi_arena.specs.declared.raw.block.Slots.{Slots}
 use Rattle.wasmi_arena.specs.declared.raw.block.DeallocRight.{DeallocRight}
-use Rattle.wasmi_arena.specs.Slots.{IsOneBlock}
+use Rattle.wasmi_arena.specs.inner.Slots.{IsOneBlock}
 
 -- one block of so many slots, of which the first `len` hold the items and the rest are free
 pub record IsFilledBlock {T A : Type 0} (ptr : BlockPtr T) (len capacity : ℕ) (slots : Slots T) (right : DeallocRight T A) (alloc : A) : Type 0 where

@@ -4,7 +4,7 @@ use Rattle.std.specs.Borrow.{Fml, RattleType, MutBor, Array, Lends}
 use Rattle.std.specs.List.{refill}
 use Rattle.wasmi_arena.specs.declared.raw.block.Slots.{Slots}
 use Rattle.wasmi_arena.specs.contracts.raw.block.Slots.{the_row}
-use Rattle.wasmi_arena.specs.Slots.{with_items}
+use Rattle.wasmi_arena.specs.inner.Slots.{with_items}
 
 -- their items are what was written last through the reference
 abbrev pub lends_items : (R : RattleType) → MutBor (Slots R.Denot) → MutBor (List R.Denot) → Fml

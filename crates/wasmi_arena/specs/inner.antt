@@ -1,0 +1,11 @@
+pub mod Block
+pub mod OptionLend
+pub mod Slots
+pub mod SlotsLend
+pub mod Filled
+pub mod BucketLend
+pub mod TableLend
+pub mod Loan
+pub mod LoanLend
+pub mod Ahead
+pub mod Apart
