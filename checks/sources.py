@@ -51,7 +51,7 @@ class Repository:
         for uses in re.findall(r'(?m)^\s*(?:pub(?:\(.*?\))? )?(?:ghost )?use [^;]*;', text):
             self.names.update(() if re.search(r'use (Rattle\.wasmi_|wasmi_|crate\b|super\b)', uses) else WORD.findall(uses))
             self.exported.update(WORD.findall(uses) if uses.strip().startswith('pub use') else ())
-            of = re.match(r'\s*ghost use Rattle\.(\w+)\.specs\.([A-Z]\w*)\.\{([^}]*)\}', uses)
+            of = re.match(r'\s*ghost use Rattle\.(\w+)\.specs\.((?:inner\.)?[A-Z]\w*)\.\{([^}]*)\}', uses)
             if of and of[1] in LIBRARIES:
                 from_crate = self.handed_on.get((of[1], of[2]), of[1])
                 self.imports.setdefault(path, {}).update({word.strip(): (from_crate, of[2]) for word in of[3].split(',')})

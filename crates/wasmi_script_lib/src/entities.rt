@@ -11,86 +11,92 @@ use crate::store::EntityStore;
 use std::alloc::Allocator;
 use wasmi_arena::{ArenaError, ArenaKey};
 
-/// `e NAME KIND`: adds an entity, and replies its key. Without a key it isn't added.
-pub(crate) fn add<A: Allocator + Copy, B: Allocator>(
-    store: &mut EntityStore<A>,
-    name: &str,
-    kind: &str,
-    replies: &mut String<B>,
-) -> Result<(), ArenaError>
-    ensures state { OnOk result (with_store store.new
-        ≡ state_after (with_store store.old) (request.AddEntity name.now kind.now)) }
-    ensures reply { OnOk result (AddsReply replies.old replies.new
-        (reply_to (with_store store.old) (request.AddEntity name.now kind.now))) }
-    ensures errors { IsOkUnless result ArenaError.OutOfSystemMemory }
-{
-    match store.add(name, kind) {
-        Ok(key) => Ok(writeln!(replies, "entity {}", key.into_usize())?),
-        Err(error) => reply_error(replies, error),
+impl<A: Allocator> EntityStore<A> {
+    /// `e NAME KIND`: adds an entity, and replies its key. Without a key it isn't added.
+    pub(crate) fn add_entity<B: Allocator>(
+        &mut self,
+        name: &str,
+        kind: &str,
+        replies: &mut String<B>,
+    ) -> Result<(), ArenaError>
+    where
+        A: Copy,
+        ensures state { OnOk result (with_store self.new
+            ≡ state_after (with_store self.old) (request.AddEntity name.now kind.now)) }
+        ensures reply { OnOk result (AddsReply replies.old replies.new
+            (reply_to (with_store self.old) (request.AddEntity name.now kind.now))) }
+        ensures errors { IsOkUnless result ArenaError.OutOfSystemMemory }
+    {
+        match self.add(name, kind) {
+            Ok(key) => Ok(writeln!(replies, "entity {}", key.into_usize())?),
+            Err(error) => reply_error(replies, error),
+        }
     }
-}
 
-/// `v N M`: gives an entity a property, and replies the one that it had.
-pub(crate) fn set<A: Allocator, B: Allocator>(
-    store: &mut EntityStore<A>,
-    key: usize,
-    property: usize,
-    replies: &mut String<B>,
-) -> Result<(), ArenaError>
-    ensures state { OnOk result (with_store store.new
-        ≡ state_after (with_store store.old) (request.SetProperty key property)) }
-    ensures reply { OnOk result (AddsReply replies.old replies.new
-        (reply_to (with_store store.old) (request.SetProperty key property))) }
-    ensures errors { IsOkUnless result ArenaError.OutOfSystemMemory }
-{
-    let Some(key) = store.key(key) else {
-        return reply_error(replies, ArenaError::KeyOutOfBounds);
-    };
-    match store.set(key, property as u64) {
-        Ok(Some(old)) => Ok(writeln!(replies, "was {old}")?),
-        Ok(None) => Ok(writeln!(replies, "was none")?),
-        Err(error) => reply_error(replies, error),
+    /// `v N M`: gives an entity a property, and replies the one that it had.
+    pub(crate) fn set_property<B: Allocator>(
+        &mut self,
+        key: usize,
+        property: usize,
+        replies: &mut String<B>,
+    ) -> Result<(), ArenaError>
+        ensures state { OnOk result (with_store self.new
+            ≡ state_after (with_store self.old) (request.SetProperty key property)) }
+        ensures reply { OnOk result (AddsReply replies.old replies.new
+            (reply_to (with_store self.old) (request.SetProperty key property))) }
+        ensures errors { IsOkUnless result ArenaError.OutOfSystemMemory }
+    {
+        let Some(key) = self.key(key) else {
+            return reply_error(replies, ArenaError::KeyOutOfBounds);
+        };
+        match self.set(key, property as u64) {
+            Ok(Some(old)) => Ok(writeln!(replies, "was {old}")?),
+            Ok(None) => Ok(writeln!(replies, "was none")?),
+            Err(error) => reply_error(replies, error),
+        }
     }
-}
 
-/// `k N KIND`: renames the kind of an entity.
-pub(crate) fn rename_kind<A: Allocator + Copy, B: Allocator>(
-    store: &mut EntityStore<A>,
-    key: usize,
-    kind: &str,
-    replies: &mut String<B>,
-) -> Result<(), ArenaError>
-    ensures state { OnOk result (with_store store.new
-        ≡ state_after (with_store store.old) (request.RenameKind key kind.now)) }
-    ensures reply { OnOk result (AddsReply replies.old replies.new
-        (reply_to (with_store store.old) (request.RenameKind key kind.now))) }
-    ensures errors { IsOkUnless result ArenaError.OutOfSystemMemory }
-{
-    let Some(key) = store.key(key) else {
-        return reply_error(replies, ArenaError::KeyOutOfBounds);
-    };
-    match store.rename_kind(key, kind) {
-        Ok(()) => Ok(writeln!(replies, "done")?),
-        Err(error) => reply_error(replies, error),
+    /// `k N KIND`: renames the kind of an entity.
+    pub(crate) fn rename_entity_kind<B: Allocator>(
+        &mut self,
+        key: usize,
+        kind: &str,
+        replies: &mut String<B>,
+    ) -> Result<(), ArenaError>
+    where
+        A: Copy,
+        ensures state { OnOk result (with_store self.new
+            ≡ state_after (with_store self.old) (request.RenameKind key kind.now)) }
+        ensures reply { OnOk result (AddsReply replies.old replies.new
+            (reply_to (with_store self.old) (request.RenameKind key kind.now))) }
+        ensures errors { IsOkUnless result ArenaError.OutOfSystemMemory }
+    {
+        let Some(key) = self.key(key) else {
+            return reply_error(replies, ArenaError::KeyOutOfBounds);
+        };
+        match self.rename_kind(key, kind) {
+            Ok(()) => Ok(writeln!(replies, "done")?),
+            Err(error) => reply_error(replies, error),
+        }
     }
-}
 
-/// `q N`: replies the property, the name and the kind of an entity.
-pub(crate) fn get<A: Allocator, B: Allocator>(
-    store: &EntityStore<A>,
-    key: usize,
-    replies: &mut String<B>,
-) -> Result<(), ArenaError>
-    ensures reply { OnOk result (AddsReply replies.old replies.new
-        (reply_to (with_store store.now) (request.GetEntity key))) }
-    ensures errors { IsOkUnless result ArenaError.OutOfSystemMemory }
-{
-    let Some(key) = store.key(key) else {
-        return reply_error(replies, ArenaError::KeyOutOfBounds);
-    };
-    match store.get(key) {
-        Ok((name, kind, Some(property))) => Ok(writeln!(replies, "is {property} {name} {kind}")?),
-        Ok((name, kind, None)) => Ok(writeln!(replies, "is none {name} {kind}")?),
-        Err(error) => reply_error(replies, error),
+    /// `q N`: replies the property, the name and the kind of an entity.
+    pub(crate) fn get_entity<B: Allocator>(
+        &self,
+        key: usize,
+        replies: &mut String<B>,
+    ) -> Result<(), ArenaError>
+        ensures reply { OnOk result (AddsReply replies.old replies.new
+            (reply_to (with_store self.now) (request.GetEntity key))) }
+        ensures errors { IsOkUnless result ArenaError.OutOfSystemMemory }
+    {
+        let Some(key) = self.key(key) else {
+            return reply_error(replies, ArenaError::KeyOutOfBounds);
+        };
+        match self.get(key) {
+            Ok((name, kind, Some(property))) => Ok(writeln!(replies, "is {property} {name} {kind}")?),
+            Ok((name, kind, None)) => Ok(writeln!(replies, "is none {name} {kind}")?),
+            Err(error) => reply_error(replies, error),
+        }
     }
 }

@@ -5,7 +5,6 @@ ghost use Rattle.wasmi_script_lib.specs.Requests.{request_of};
 ghost use Rattle.wasmi_script_lib.specs.Sessions.{state_of, AddsReply};
 ghost use Rattle.wasmi_script_lib.specs.States.{empty};
 
-use crate::entities;
 use crate::line::Line;
 use crate::store::EntityStore;
 use crate::texts::Texts;
@@ -28,7 +27,7 @@ pub fn answer<A: Allocator + Copy>(alloc: A, text: &str) -> Result<String<A>, Ar
     let mut store = EntityStore::new(heap);
     let mut replies = String::new(alloc);
     let answered = reply_all(&mut texts, &mut store, heap, text, &mut replies);
-    texts.close();
+    drop(texts);
     answered?;
     Ok(replies)
 }
@@ -77,10 +76,10 @@ fn serve<A: Allocator + Copy, B: Allocator>(
         Some(Line::Dedup(text)) => texts.dedup(alloc, text, replies)?,
         Some(Line::Intern(text)) => texts.intern(text, replies)?,
         Some(Line::Resolve(symbol)) => texts.resolve(symbol, replies)?,
-        Some(Line::AddEntity(name, kind)) => entities::add(store, name, kind, replies)?,
-        Some(Line::SetProperty(key, property)) => entities::set(store, key, property, replies)?,
-        Some(Line::RenameKind(key, kind)) => entities::rename_kind(store, key, kind, replies)?,
-        Some(Line::GetEntity(key)) => entities::get(store, key, replies)?,
+        Some(Line::AddEntity(name, kind)) => store.add_entity(name, kind, replies)?,
+        Some(Line::SetProperty(key, property)) => store.set_property(key, property, replies)?,
+        Some(Line::RenameKind(key, kind)) => store.rename_entity_kind(key, kind, replies)?,
+        Some(Line::GetEntity(key)) => store.get_entity(key, replies)?,
         None => writeln!(replies, "bad line {number}")?,
     }
     Ok(())

@@ -36,10 +36,6 @@ impl<A: Allocator> Texts<A> {
         }
     }
 
-    /// Drops all texts.
-    // proof: where the allocator is of any type.
-    pub(crate) fn close(self) {}
-
     /// `a TEXT`: keeps a text, and replies its key. Without a key the text isn't kept.
     pub(crate) fn alloc<B: Allocator>(
         &mut self,
