@@ -400,7 +400,6 @@ const ARENA_ALONE: Calls = &[("the port's `into_iter`", By(&["into_iter"]))];
 
 const COMPONENTS_ALONE: Calls = &[
     ("the port's `has`", By(&["has"])),
-    ("the port's `reserve`", By(&["reserve"])),
     ("the port's `clone`", By(&["clone"])),
     ("the port's `iter`", By(&["iter"])),
     ("the port's `iter_mut`", By(&["iter_mut"])),

@@ -16,7 +16,7 @@
 //! - `clone`, `clone_in` (of V S, the first K H M E T): into the other container
 //! - `partial_cmp`, `cmp`; `hash` (of V H; V): with the other container; by `DefaultHasher`
 //! - `push N`, `pop`, `last`; `first`; `last_mut NEW` (of V H, the third S; V; H)
-//! - `reserve C` (of A K M E): of A whether `room` is C at least
+//! - `reserve C` (of A M E): of A whether `room` is C at least
 //! - `alloc N`, `next_key` (of S A D): the key's number
 //! - `alloc_many C` (of S A): the first number and the one past the last
 //! - `key_of N`, `index_of N`, `replace I N` (of D): the key's number, the second by `index().get`; the old item
