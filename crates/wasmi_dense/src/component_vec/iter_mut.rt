@@ -3,7 +3,6 @@ ghost use Rattle.std.specs.Prelude.{◌≡◌, ◌+◌, ◌<◌, ◌≤◌, ◌^
 ghost use Rattle.std.specs.Iterator.{YieldsFirstBy, YieldsLastBy, item_count};
 ghost use Rattle.std.specs.Slice.Iter.{iter_mut_rest};
 ghost use Rattle.wasmi_dense.specs.ComponentEntries.{components_from, component_entries};
-ghost use Rattle.wasmi_dense.specs.ComponentLoan.{left_components, IsNumbered, loan_of};
 
 use std::marker::PhantomData;
 use std::slice;
@@ -22,6 +21,8 @@ pub struct ComponentVecIterMut<'a, Key: ArenaKey, T> {
 }
 
 impl<'a, Key: ArenaKey, T> ComponentVecIterMut<'a, Key, T> {
+    ghost use Rattle.wasmi_dense.specs.ComponentLoan.{left_components, IsNumbered, loan_of};
+
     // Over the places of a component vector.
     pub(super) fn new(slots: &'a mut [Option<T>]) -> Self
         requires { length slots.old < 2 ^ 64 }
@@ -87,6 +88,8 @@ fn last_of<'a, Key: ArenaKey, T>(
 }
 
 impl<'a, Key: ArenaKey, T> Iterator for ComponentVecIterMut<'a, Key, T> {
+    ghost use Rattle.wasmi_dense.specs.ComponentLoan.{left_components};
+
     type Item = (Key, &'a mut T);
 
     ghost next_gives = { YieldsFirstBy (λ entry. (entry.0, entry.1.now)) (left_components Key.keys) };
@@ -99,6 +102,8 @@ impl<'a, Key: ArenaKey, T> Iterator for ComponentVecIterMut<'a, Key, T> {
 }
 
 impl<'a, Key: ArenaKey, T> DoubleEndedIterator for ComponentVecIterMut<'a, Key, T> {
+    ghost use Rattle.wasmi_dense.specs.ComponentLoan.{left_components};
+
     ghost next_back_gives = { YieldsLastBy (λ entry. (entry.0, entry.1.now)) (left_components Key.keys) };
 
     fn next_back(&mut self) -> Option<(Key, &'a mut T)> {
