@@ -94,7 +94,10 @@ impl<A: Allocator> EntityStore<A> {
             return reply_error(replies, ArenaError::KeyOutOfBounds);
         };
         match self.get(key) {
-            Ok((name, kind, Some(property))) => Ok(writeln!(replies, "is {property} {name} {kind}")?),
+            Ok((name, kind, Some(property))) => Ok(writeln!(
+                replies,
+                "is {property} {name} {kind}"
+            )?),
             Ok((name, kind, None)) => Ok(writeln!(replies, "is none {name} {kind}")?),
             Err(error) => reply_error(replies, error),
         }
