@@ -27,6 +27,23 @@ pub trait Tables<'a> {
     fn export(&self, module: u32, name: u32) -> Option<u32>;
 }
 
+// What both do with their maps by numbers, which have the same methods.
+macro_rules! numbers {
+    () => {
+        fn module(&self, name: u32) -> Option<u32> {
+            self.modules.get(&name).copied()
+        }
+
+        fn add_export(&mut self, module: u32, name: u32, place: u32) {
+            self.exports.insert((module, name), place);
+        }
+
+        fn export(&self, module: u32, name: u32) -> Option<u32> {
+            self.exports.get(&(module, name)).copied()
+        }
+    };
+}
+
 /// The containers of the Rust crate.
 pub struct Theirs {
     names: StringInterner,
@@ -68,17 +85,7 @@ impl<'a> Tables<'a> for Theirs {
         }
     }
 
-    fn module(&self, name: u32) -> Option<u32> {
-        self.modules.get(&name).copied()
-    }
-
-    fn add_export(&mut self, module: u32, name: u32, place: u32) {
-        self.exports.insert((module, name), place);
-    }
-
-    fn export(&self, module: u32, name: u32) -> Option<u32> {
-        self.exports.get(&(module, name)).copied()
-    }
+    numbers!();
 }
 
 /// Rust's own maps.
@@ -117,17 +124,7 @@ impl<'a> Tables<'a> for Plain<'a> {
         self.modules.entry(name).or_insert(module);
     }
 
-    fn module(&self, name: u32) -> Option<u32> {
-        self.modules.get(&name).copied()
-    }
-
-    fn add_export(&mut self, module: u32, name: u32, place: u32) {
-        self.exports.insert((module, name), place);
-    }
-
-    fn export(&self, module: u32, name: u32) -> Option<u32> {
-        self.exports.get(&(module, name)).copied()
-    }
+    numbers!();
 }
 
 /// The report on modules of these names, and whether all imports are found.

@@ -71,7 +71,7 @@ fn read_all<'a>(
     if paths.is_empty() {
         return Err(Failure::NoFiles);
     }
-    let mut contents = Vec::new(rt.alloc());
+    let mut contents = Vec::with_capacity(rt.alloc(), paths.len()).map_err(|_| Failure::NoMemory)?;
     let mut buffer = [0u8; READ_LEN];
     for path in paths {
         match read(rt, path.as_str(), &mut buffer) {
@@ -106,7 +106,7 @@ fn run<'a>(
     paths: &'a [String],
     contents: &'a [Vec<u8>],
 ) -> Result<u8, Failure<'a>> {
-    let mut files = Vec::new(rt.alloc());
+    let mut files = Vec::with_capacity(rt.alloc(), paths.len()).map_err(|_| Failure::NoMemory)?;
     for (path, bytes) in paths.iter().zip(contents) {
         let file = File {
             path: path.as_str(),

@@ -1,23 +1,19 @@
 -- Types and names have keys, and to compare keys is to compare types.
-use Rattle.std.proofs.Common.{◌≡◌, ℕ, Bool, cond, ◌==◌, List, [], ◌∷◌, ◌++◌, map, get_or, Contains, flat_map, Option, Some, None, IsSome, is_some, position, bytes_eq, refl, sym, ap, ◌∙◌, inl, inr, eqb-true, eq-eqb, lit<, true≢false}
+use Rattle.std.proofs.Common.{◌≡◌, ℕ, Bool, cond, ◌==◌, List, [], ◌∷◌, ◌++◌, map, get_or, Contains, Option, Some, None, IsSome, is_some, position, refl, sym, ap, ◌∙◌, inl, inr, eqb-true, eq-eqb, true≢false}
 use Rattle.std.specs.Bool.{one_answer}
-use Rattle.std.specs.Cmp.Lexicographic.{nat_list_eq_equiv}
 use Rattle.std.specs.Option.{option_eq}
 use Rattle.std.proofs.lemmas.List.{map-append}
-use Rattle.std.proofs.lemmas.List.Elements.{Contains-get_or, Contains-append_left, Contains-append_right}
+use Rattle.std.proofs.lemmas.List.Elements.{Contains-get_or}
 use Rattle.std.proofs.lemmas.List.Quantifiers.{position-Some}
 use Rattle.std.proofs.lemmas.Option.{same_Some}
 use Rattle.wasmi_arena.specs.Keys.{Keys}
 use Rattle.wasmi_collections.specs.Dedup.{DedupState, AllocatesValue}
-use Rattle.wasmi_interner.specs.Interner.{symbol_of}
 use Rattle.wasmi_module.specs.Modules.{FuncType}
 use Rattle.wasmi_link_lib.specs.Lines.{ItemType, Func, Table, Memory, Global}
-use Rattle.wasmi_link_lib.specs.Linking.{Named, func_type_eq, matches, with_value, without_repetitions, all_types, all_names, import_names, names_of}
-use Rattle.wasmi_link_lib.specs.Tables.{key_of, HasKeys, HasImportNames, keyed, keyed_matches}
+use Rattle.wasmi_link_lib.specs.Linking.{Named, func_type_eq, matches, with_value, without_repetitions, all_types}
+use Rattle.wasmi_link_lib.specs.Tables.{key_of, HasKeys, keyed, keyed_matches}
 use Rattle.wasmi_link_lib.proofs.Lists.{position-map, without_repetitions_has, Contains-flat_map}
 use Rattle.wasmi_link_lib.proofs.Matches.{func_type_eq-Decides}
-
--- ---- what is among all names and types
 
 -- each of a module's types has a key
 pub has_keys : (types : List FuncType) (modules : List Named) (m : Named) → types ≡ without_repetitions func_type_eq (all_types modules) → Contains modules m → HasKeys types m.body
@@ -25,20 +21,6 @@ has_keys types modules m are there k d in' =
     let type = get_or m.body.types k d in
     ap (λ ts. is_some (key_of ts type)) are
     ∙ without_repetitions_has func_type_eq (λ t. (func_type_eq-Decides t t).1 refl) (all_types modules) type (Contains-flat_map (λ n. n.body.types) modules m type there (Contains-get_or m.body.types k d in'))
-
-name_known : (names : List (List ℕ)) (modules : List Named) (m : Named) (name : List ℕ) → names ≡ without_repetitions bytes_eq (all_names modules) → Contains modules m → Contains (names_of m) name → IsSome (symbol_of names name)
-name_known names modules m name are there is =
-    ap (λ ns. is_some (symbol_of ns name)) are
-    ∙ without_repetitions_has bytes_eq (λ x. nat_list_eq_equiv.refl x) (all_names modules) name (Contains-flat_map names_of modules m name there is)
-
--- the names of each of a module's imports have symbols
-pub has_import_names : (names : List (List ℕ)) (modules : List Named) (m : Named) → names ≡ without_repetitions bytes_eq (all_names modules) → Contains modules m → HasImportNames names m.body
-has_import_names names modules m are there k d in' =
-    let i = get_or m.body.imports k d in
-    let among : (name : List ℕ) → Contains (import_names i) name → Contains (names_of m) name =
-    λ name is. Contains-append_left (m.name ∷ [] ++ flat_map import_names m.body.imports) (map (λ e. e.name) m.body.exports) name
-    (Contains-append_right (m.name ∷ []) (flat_map import_names m.body.imports) name (Contains-flat_map import_names m.body.imports i name (Contains-get_or m.body.imports k d in') is)) in
-    (name_known names modules m i.asked are there (among i.asked (0, lit< tt, refl)), name_known names modules m i.field are there (among i.field (1, lit< tt, refl)))
 
 -- ---- the types that were taken
 

@@ -101,6 +101,11 @@ is_some-map f (Some x) = refl
 pub got : {X : Type 0} (xs : List X) (i : ℕ) (x : X) → i < length xs → x ≡ get_or xs i x → slice_get xs i ≡ Some x
 got xs i x in' is = slice_get_read xs (length xs) i x refl in' is
 
+pub got_at : {X : Type 0} (xs : List X) (i : ℕ) (d : X) → i < length xs → slice_get xs i ≡ Some (get_or xs i d)
+got_at [] i d in' = absurd (omega (arith, in'))
+got_at (x ∷ xs) zero d in' = refl
+got_at (x ∷ xs) (suc i) d in' = got_at xs i d (omega (arith, in'))
+
 -- what is read is there
 pub Contains-got : {X : Type 0} (xs : List X) (i : ℕ) (x : X) → slice_get xs i ≡ Some x → Contains xs x
 Contains-got xs i x is = (i, slice_get_within xs i x is, get_or_from_slice_get xs i x x is)
@@ -180,6 +185,16 @@ or_last None x = refl
 or_last (Some y) x = refl
 
 module _ {X : Type 0} (eq : X → X → Bool) where
+  -- what is found stays where it is
+  with_value_same : (p : X → Bool) (seen : List X) (y : X) (k : ℕ) → position p seen ≡ Some k → position p (with_value eq seen y) ≡ Some k
+  with_value_same p seen y k is =
+      cond_both (is_some (position (eq y) seen)) seen (seen ++ y ∷ []) (λ l. position p l ≡ Some k) (λ _. is)
+      (λ _. position_push p seen y ∙ ap (λ o. option_or o (cond (p y) (Some (length seen)) None)) is)
+
+  pub fold_same : (p : X → Bool) (seen ys : List X) (k : ℕ) → position p seen ≡ Some k → position p (fold (with_value eq) seen ys) ≡ Some k
+  fold_same p seen [] k is = is
+  fold_same p seen (y ∷ ys) k is = fold_same p (with_value eq seen y) ys k (with_value_same p seen y k is)
+
   -- what is found is found among one more
   with_value_keeps : (p : X → Bool) (seen : List X) (y : X) → IsSome (position p seen) → IsSome (position p (with_value eq seen y))
   with_value_keeps p seen y is =

@@ -99,11 +99,15 @@ exports_all f names exports xs n all has = subst (HasExports names exports) (ap 
 
 -- ---- the first module of a name
 
-pub read_first : {X : Type 0} (f : X → Named) (xs : List X) (name : List ℕ) (id i : ℕ) (x : X) → Some id ≡ first_of (map f xs) name → i ≡ id → x ≡ get_or xs i x → slice_get (map f xs) id ≡ Some (f x)
-read_first f xs name id i x first same is =
+pub first_within : {X : Type 0} (f : X → Named) (xs : List X) (name : List ℕ) (id i : ℕ) → Some id ≡ first_of (map f xs) name → i ≡ id → i < length xs
+first_within f xs name id i first same =
     let in' : id < length (map f xs) = position_within (λ m. bytes_eq name m.name) (map f xs) id (sym first) in
     let as_many = length-map xs f in
-    let in_xs : i < length xs = omega (arith, in', as_many, same) in
+    omega (arith, in', as_many, same)
+
+pub read_first : {X : Type 0} (f : X → Named) (xs : List X) (name : List ℕ) (id i : ℕ) (x : X) → Some id ≡ first_of (map f xs) name → i ≡ id → x ≡ get_or xs i x → slice_get (map f xs) id ≡ Some (f x)
+read_first f xs name id i x first same is =
+    let in_xs : i < length xs = first_within f xs name id i first same in
     slice_get_map f xs id (Some x) (ap (slice_get xs) (sym same) ∙ got xs i x in_xs is)
 
 pub the_module : (modules : List Named) (name : List ℕ) (id : ℕ) (m : Named) → Some id ≡ first_of modules name → slice_get modules id ≡ Some m → module_named modules name ≡ Some m

@@ -36,6 +36,16 @@ module _ (old new : List ((ℕ × ℕ) × Place)) (id noted : ℕ) (slot : Optio
   place_stays other symbol apart =
       changes (other, symbol) ∙ ap (λ b. cond (b && (noted == symbol)) slot (place_in old other symbol)) (ne_eqb id other (λ e. apart (sym e)))
 
+-- an entry that is put where there is none
+pub place_tried : (old new : List ((ℕ × ℕ) × Place)) (id noted : ℕ) (slot : Option Place) → (IsSome (place_in old id noted) → new ≡ old)
+    → (place_in old id noted ≡ None → (q : ℕ × ℕ) → value_at export_key_eq new q ≡ cond (export_key_eq (id, noted) q) slot (value_at export_key_eq old q))
+    → (other symbol : ℕ) → other ≢ id → place_in new other symbol ≡ place_in old other symbol
+place_tried old new id noted slot there absent other symbol apart = step (place_in old id noted) refl
+  where
+    step : (o : Option Place) → place_in old id noted ≡ o → place_in new other symbol ≡ place_in old other symbol
+    step None is = place_stays old new id noted slot (absent is) other symbol apart
+    step (Some p) is = ap (λ es. place_in es other symbol) (there (ap is_some is))
+
 -- a symbol reads its text
 symbol_reads : (names : List (List ℕ)) (text : List ℕ) (symbol : ℕ) → symbol_of names text ≡ Some symbol → text ≡ get_or names symbol []
 symbol_reads names text symbol is = (bytes_eq-Decides text _).0 (position-Some (bytes_eq text) names symbol [] is).1
@@ -71,6 +81,14 @@ module _ (names : List (List ℕ)) (name : List ℕ) (noted : ℕ) (is_noted : s
       step None true is_o is_b =
           let here : noted ≡ symbol = eqb-true noted symbol (sym (same_symbol text symbol is) ∙ is_b) in
           absurd (true≢false (sym there ∙ ap is_some (ap old here ∙ is_o)))
+
+  -- a name that is noted where it has nothing
+  pub notes_tried : {V : Type 0} (old new : ℕ → Option V) (value : V) → (IsSome (old noted) → (q : ℕ) → new q ≡ old q) → (old noted ≡ None → (q : ℕ) → new q ≡ cond (noted == q) (Some value) (old q)) → Notes names old name value new
+  notes_tried {V} old new value there absent = step (old noted) refl
+    where
+      step : (o : Option V) → old noted ≡ o → Notes names old name value new
+      step None is = notes_new old new value is (absent is)
+      step (Some v) is = λ text symbol has. there (ap is_some is) symbol ∙ notes_there old value (ap is_some is) text symbol has
 
 -- a name without a symbol
 pub notes_unknown : {V : Type 0} (names : List (List ℕ)) (old : ℕ → Option V) (name : List ℕ) (value : V) → symbol_of names name ≡ None → Notes names old name value old

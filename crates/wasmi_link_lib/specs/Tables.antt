@@ -1,12 +1,12 @@
 -- What a linker keeps of modules, in tables by numbers and symbols.
 use Rattle.std.specs.Prelude.{◌≡◌, ℕ, ◌==◌, Bool, false, ◌&&◌, if◌then◌else◌, List, map, filter, position, Option, Some, None, IsSome, option_map, option_and_then, slice_get}
-use Rattle.std.specs.List.{All}
+use Rattle.std.specs.List.{All, AllZip}
 use Rattle.std.specs.Option.{option_eq, option_or}
 use Rattle.std.specs.Str.{bytes_eq}
 use Rattle.wasmi_interner.specs.Interner.{symbol_of}
 use Rattle.wasmi_dense.specs.Components.{component_at}
 use Rattle.wasmi_map_specs.specs.Maps.{value_at}
-use Rattle.wasmi_module.specs.Modules.{FuncType, Export, Module}
+use Rattle.wasmi_module.specs.Modules.{FuncType, Import, Export, Module}
 use Rattle.wasmi_module.specs.Valid.{is_of}
 use Rattle.wasmi_module.specs.Views.{func_type_of}
 use Rattle.wasmi_module.specs.declared.module.ImportType.{ImportType}
@@ -19,6 +19,7 @@ use Rattle.wasmi_link_lib.specs.declared.imported.Imported as rust_imported
 use Rattle.wasmi_link_lib.specs.declared.item.Item as rust_item
 use Rattle.wasmi_link_lib.specs.declared.item.Item.TheVariants as item
 use Rattle.wasmi_link_lib.specs.declared.linker.Linker as rust_linker
+use Rattle.wasmi_link_lib.specs.declared.names.ImportSymbols.{ImportSymbols}
 use Rattle.wasmi_link_lib.specs.declared.types.Signature as rust_signature
 
 -- ---- types of functions
@@ -133,16 +134,22 @@ HasExports names exports modules =
     (id symbol : ℕ) (text : List ℕ) → symbol_of names text ≡ Some symbol
     → place_in exports id symbol ≡ place_at modules id text
 
--- the names of each import have symbols
-abbrev pub HasImportNames : List (List ℕ) → Module → Type 0
-HasImportNames names m = All (λ i. IsSome (symbol_of names i.asked) × IsSome (symbol_of names i.field)) m.imports
+-- the names of an import have these symbols,
+abbrev pub AreSymbolsOf : List (List ℕ) → Import → ImportSymbols → Type 0
+AreSymbolsOf names i symbols = (symbol_of names i.asked ≡ Some symbols.asked) × (symbol_of names i.field ≡ Some symbols.field)
+
+-- and those of a module's imports
+abbrev pub HasSymbols : List (List ℕ) → Named → List ImportSymbols → Type 0
+HasSymbols names m symbols = AllZip (AreSymbolsOf names) m.body.imports symbols
 
 -- ---- all of them
 
 -- the tables of these modules
 pub record IsLinker (modules : List Named) (names : List (List ℕ)) (types : List FuncType)
-    (firsts : List (Option ℕ)) (exports : List ((ℕ × ℕ) × Place)) (imported : List ImportedItems) : Type 0 where
+    (symbols : List (List ImportSymbols)) (firsts : List (Option ℕ)) (exports : List ((ℕ × ℕ) × Place))
+    (imported : List ImportedItems) : Type 0 where
   pub has_names : names ≡ without_repetitions bytes_eq (all_names modules)
+  pub has_symbols : AllZip (HasSymbols names) modules symbols
   pub has_types : types ≡ without_repetitions func_type_eq (all_types modules)
   pub has_firsts : HasFirsts names firsts modules
   pub has_exports : HasExports names exports modules
@@ -150,4 +157,4 @@ pub record IsLinker (modules : List Named) (names : List (List ℕ)) (types : Li
 
 abbrev pub IsLinkerOf : {A : Type 0} → List Named → rust_linker.Linker A → Type 0
 IsLinkerOf modules l =
-    IsLinker modules l.names (map signature_of l.types.handed) l.firsts l.exports.entries (map imported_view l.imported.items)
+    IsLinker modules l.names (map signature_of l.types.handed) (map (λ s. s.items) l.symbols.items) l.firsts l.exports.entries (map imported_view l.imported.items)

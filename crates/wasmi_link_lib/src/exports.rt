@@ -76,14 +76,12 @@ fn note_export<A: Allocator + Copy>(
     ensures errors { IsOkUnless result ArenaError.OutOfSystemMemory }
 {
     if let Some(symbol) = names.get(export.name) {
-        let key = (id, symbol);
-        if !exports.contains_key(&key) {
-            let place = Place {
-                kind: export.kind,
-                index: export.index,
-            };
-            exports.insert(key, place)?;
-        }
+        let place = Place {
+            kind: export.kind,
+            index: export.index,
+        };
+        // An export of its name that is there stays.
+        let _ = exports.try_insert((id, symbol), place)?;
     }
     Ok(())
 }

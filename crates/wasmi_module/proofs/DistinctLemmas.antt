@@ -48,6 +48,10 @@ has_one_more names x q old new was is =
     is ∙ ap (λ (b : Bool). cond b true old) (is_eq-slice_cmp x q ∙ bytes_eq-sym x q) ∙ cond_or (bytes_eq q x) old
     ∙ ap (λ (o : Bool). o || (bytes_eq q x || false)) was ∙ sym (list_any-append (bytes_eq q) names (x ∷ []))
 
+pub list_any-map : {A B : Type 0} (p : B → Bool) (f : A → B) (xs : List A) → list_any p (map f xs) ≡ list_any (λ x. p (f x)) xs
+list_any-map p f [] = refl
+list_any-map p f (x ∷ xs) = ap (λ b. p (f x) || b) (list_any-map p f xs)
+
 not_true : (b : Bool) → not b ≡ true → b ≡ false
 not_true true e = absurd cc
 not_true false e = refl
@@ -70,9 +74,10 @@ HasNames-more exports i d old new lt has updates q =
     let one = has_one_more (names (take i exports)) (get_or exports i d).name.now q _ _ (has q) (updates.0 (record { ref_ptr = (0, 0); now = q })) in
     one ∙ ap (list_any (bytes_eq q)) (sym (names_more exports i d lt))
 
+pub distinct_step : (exports : List Export) (i : ℕ) (d : Export) → i < length exports → AreDistinct (names (take i exports)) → list_any (bytes_eq (get_or exports i d).name.now) (names (take i exports)) ≡ false → AreDistinct (names (take (i + 1) exports))
+distinct_step exports i d lt distinct none = subst AreDistinct (sym (names_more exports i d lt)) (distinct_push (names (take i exports)) (get_or exports i d).name.now distinct none)
+
 pub distinct-more : (exports : List Export) (i : ℕ) (d : Export) (old : BTreeSet (Bor (List ℕ))) (added : Bool) → i < length exports → HasNames old (names (take i exports)) → AreDistinct (names (take i exports))
     → added ≡ not (contains (λ x y. slice_cmp nat_cmp x.now y.now) old (get_or exports i d).name) → added ≡ true → AreDistinct (names (take (i + 1) exports))
 distinct-more exports i d old added lt has distinct is new =
-    let name = (get_or exports i d).name.now in
-    let none : list_any (bytes_eq name) (names (take i exports)) ≡ false = sym (has name) ∙ not_true _ (sym is ∙ new) in
-    subst AreDistinct (sym (names_more exports i d lt)) (distinct_push (names (take i exports)) name distinct none)
+    distinct_step exports i d lt distinct (sym (has (get_or exports i d).name.now) ∙ not_true _ (sym is ∙ new))

@@ -1,6 +1,7 @@
 //! What is checked of a whole list.
 ghost use Rattle.std.specs.Prelude.{◌≡◌, ◌≤◌, IfOk, IsTrue, All, length, map};
-ghost use Rattle.std.specs.List.{count_by};
+ghost use Rattle.std.specs.List.{count_by, list_any};
+ghost use Rattle.std.specs.Str.{bytes_eq};
 ghost use Rattle.wasmi_module.specs.Valid.{is_of, IsImportWithin, IsInitWithin, AreDistinct};
 ghost use Rattle.wasmi_module.specs.Views.{init_of};
 
@@ -64,6 +65,9 @@ fn is_init_within(init: &Init<'_>, counts: &Counts) -> bool
     }
 }
 
+// So many names are compared each with each, which costs less than a set of them.
+const FEW: usize = 16;
+
 /// Whether no two exports have one name.
 pub(crate) fn are_distinct<A: Allocator + Copy>(
     alloc: A,
@@ -71,6 +75,9 @@ pub(crate) fn are_distinct<A: Allocator + Copy>(
 ) -> Result<bool, AllocError>
     ensures { IfOk result (λ distinct. IsTrue distinct → AreDistinct (map (λ export. export.name.now) exports.now)) }
 {
+    if exports.len() <= FEW {
+        return Ok(are_few_distinct(exports));
+    }
     let mut names = BTreeSet::new(alloc);
     for export in exports {
         if !names.insert(export.name)? {
@@ -78,4 +85,23 @@ pub(crate) fn are_distinct<A: Allocator + Copy>(
         }
     }
     Ok(true)
+}
+
+// The same of few exports, without memory.
+fn are_few_distinct(exports: &[Export<'_>]) -> bool
+    ensures { IsTrue result → AreDistinct (map (λ export. export.name.now) exports.now) }
+{
+    for (place, export) in exports.iter().enumerate() {
+        if is_among(&exports[..place], export.name) {
+            return false;
+        }
+    }
+    true
+}
+
+// Whether one of these exports has this name.
+fn is_among(exports: &[Export<'_>], name: &str) -> bool
+    ensures { result ≡ list_any (bytes_eq name.now) (map (λ export. export.name.now) exports.now) }
+{
+    exports.iter().any(|export| name == export.name)
 }

@@ -50,7 +50,9 @@ impl<'a> Reader<'a> {
         ensures each { IfOk result (λ items. Reads (Each T.writes items.items) self.old self.new) }
         ensures valid { IfOk result (λ items. All (T.valid counts.now) items.items) }
     {
-        let mut items = Vec::new(alloc);
+        // Each item takes a byte at least.
+        let room = (count as usize).min(self.left());
+        let mut items = Vec::with_capacity(alloc, room)?;
         for _ in 0..count {
             items.push(T::read(self, alloc, counts)?)?;
         }

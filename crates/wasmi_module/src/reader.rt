@@ -40,6 +40,11 @@ impl<'a> Reader<'a> {
         self.end - self.rest.len()
     }
 
+    /// How many bytes are left.
+    pub(crate) fn left(&self) -> usize {
+        self.rest.len()
+    }
+
     /// The next byte.
     pub(crate) fn byte(&mut self) -> Result<u8, DecodeError>
         ensures { IfOk result (λ byte. self.old ≡ byte ∷ self.new) }

@@ -4,5 +4,5 @@ use Rattle.wasmi_link_lib.specs.Lines.{line_of}
 use Rattle.wasmi_link_lib.specs.Linking.{line_for, named_of}
 use Rattle.wasmi_link_lib.proofs.linker.Linker.lines.Given as goal
 
-abbrev pub invariant-loop-asker : goal.invariant-loop-asker
-invariant-loop-asker g l = map line_of l.lines.items ≡ flat_map (λ asker. map (line_for (map named_of l.modules) asker) asker.body.imports) (map named_of (take l.asker-index l.modules))
+abbrev pub invariant-loop-number : goal.invariant-loop-number
+invariant-loop-number g l = map line_of l.lines.items ≡ flat_map (λ asker. map (line_for (map named_of l.modules) asker) asker.body.imports) (map named_of (take l.number l.modules))

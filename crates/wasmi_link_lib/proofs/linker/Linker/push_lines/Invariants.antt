@@ -4,5 +4,5 @@ use Rattle.wasmi_link_lib.specs.Lines.{line_of}
 use Rattle.wasmi_link_lib.specs.Linking.{line_for, named_of}
 use Rattle.wasmi_link_lib.proofs.linker.Linker.push_lines.Given as goal
 
-abbrev pub invariant-loop-import : goal.invariant-loop-import
-invariant-loop-import g l = map line_of l.lines.items ≡ map line_of l.fn.lines.items ++ map (line_for (map named_of l.modules) (named_of l.asker)) (map import_of (take l.import-index l.import-items))
+abbrev pub invariant-loop-place : goal.invariant-loop-place
+invariant-loop-place g l = map line_of l.lines.items ≡ map line_of l.fn.lines.items ++ map (line_for (map named_of l.modules) (named_of l.asker)) (map import_of (take l.place l.import-items))

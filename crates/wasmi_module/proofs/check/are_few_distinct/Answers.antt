@@ -1,0 +1,10 @@
+use Rattle.std.proofs.Common.{sym, subst, take_all, ◌∙◌}
+use Rattle.wasmi_module.specs.Valid.{AreDistinct}
+use Rattle.wasmi_module.proofs.DistinctLemmas.{distinct_step, names}
+use Rattle.wasmi_module.proofs.check.are_few_distinct.Goals as goal
+
+pub loop-place-preserved : goal.loop-place-preserved
+loop-place-preserved c = distinct_step c.args.exports.now c.loop-place.place _ c.loop-place-test.true c.loop-place.invariant (sym c.is_among.ensures ∙ c.if-is_among.false)
+
+pub returns : goal.returns
+returns c = λ _. subst (λ es. AreDistinct (names es)) (take_all c.loop-place.place c.args.exports.now c.loop-place-test.false) c.loop-place.invariant
