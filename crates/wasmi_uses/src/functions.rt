@@ -1,0 +1,101 @@
+//! A table of functions by name: an interner, a hashed map and an arena behind one contract.
+ghost use Rattle.std.specs.Prelude.{◌≡◌, ℕ, [], false, IfOk, IfSome, IfNone, OnErr, Ok, Some, option_copied, option_map, slice_get};
+ghost use Rattle.wasmi_uses.specs.Functions.{IsFree, Defines};
+
+use std::alloc::Global;
+use std::marker::Model;
+use wasmi_arena::{ArenaError, TypedKey};
+use wasmi_collections::hashed::Map;
+use wasmi_collections::string_interner::Sym;
+use wasmi_collections::{Arena, StringInterner};
+
+/// The key of a function in its table. A contract sees the number that it holds.
+pub type FunctionKey = TypedKey<Function>;
+
+/// What a table keeps of a function: the symbol of its name, and its value.
+#[derive(Drop)]
+pub struct Function {
+    name: Sym,
+    value: u64,
+}
+
+/// Functions under the keys 0, 1, 2 and so on, no two of one name. A contract sees the list of their names
+/// and values.
+#[derive(Drop)]
+pub struct Functions {
+    names: StringInterner,
+    by_name: Map<Sym, FunctionKey>,
+    functions: Arena<FunctionKey, Function>,
+}
+
+impl Model for Functions {
+    ghost use Rattle.std.specs.Prelude.{ℕ, List, map};
+    ghost use Rattle.wasmi_uses.specs.Functions.{shown, symbols_of, IsSound};
+
+    ghost Value = { List (List ℕ × ℕ) };
+
+    ghost view = { λ table. map (shown table.names) table.functions.items };
+
+    ghost invariant = { λ table. IsSound ⟦<Sym as PartialEq>⟧.eq table.names table.by_name.entries
+        (symbols_of table.functions.items) };
+}
+
+impl Functions {
+    /// A table without functions, which asks `alloc` for memory when one comes.
+    pub fn new(alloc: Global) -> Self
+        ensures { result ≡ [] }
+    {
+        Functions {
+            names: StringInterner::new(alloc),
+            by_name: Map::new(alloc),
+            functions: Arena::new(alloc),
+        }
+    }
+
+    /// Defines a function, and returns its key and `true`. A name that is there keeps its function, whose
+    /// key comes with `false`; that never fails. After an error the functions are as before.
+    pub fn define(&mut self, name: &str, value: u64) -> Result<(FunctionKey, bool), ArenaError>
+        ensures ok { IfOk result (λ defined. Defines self.old name.now value defined self.new) }
+        ensures there { (key known : ℕ) → slice_get self.old key ≡ Some (name.now, known)
+            → result ≡ Ok (key, false) }
+        ensures err { OnErr result (self.new ≡ self.old) }
+    {
+        if let Some((key, _)) = self.find(name) {
+            return Ok((key, false));
+        }
+        self.functions.reserve(1)?;
+        let key = self.functions.next_key()?;
+        let symbol = self.names.get_or_intern(name)?;
+        self.by_name.insert(symbol, key)?;
+        self.functions.alloc(Function { name: symbol, value })?;
+        Ok((key, true))
+    }
+
+    /// The key and the value of the function of this name, if there is one.
+    #[tactic(auto, using(crate::proofs::FunctionLemmas::seen))]
+    pub fn find(&self, name: &str) -> Option<(FunctionKey, u64)>
+        ensures found { IfSome result (λ found. slice_get self.now found.0 ≡ Some (name.now, found.1)) }
+        ensures absent { IfNone result (IsFree self.now name.now) }
+        ensures alone { (key value : ℕ) → slice_get self.now key ≡ Some (name.now, value)
+            → result ≡ Some (key, value) }
+    {
+        let symbol = self.names.get(name)?;
+        let key = *self.by_name.get(&symbol)?;
+        Some((key, self.get(key)?))
+    }
+
+    /// The name of the function under a key, if there is one.
+    #[tactic(auto, using(crate::proofs::FunctionLemmas::seen))]
+    pub fn name_of(&self, key: FunctionKey) -> Option<&str>
+        ensures { option_copied result ≡ option_map (λ function. function.0) (slice_get self.now key) }
+    {
+        self.names.resolve(self.functions.get(key).ok()?.name)
+    }
+
+    /// The value of the function under a key, if there is one.
+    pub fn get(&self, key: FunctionKey) -> Option<u64>
+        ensures { result ≡ option_map (λ function. function.1) (slice_get self.now key) }
+    {
+        Some(self.functions.get(key).ok()?.value)
+    }
+}
