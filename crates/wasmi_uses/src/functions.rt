@@ -1,13 +1,12 @@
 //! A table of functions by name: an interner, a hashed map and an arena behind one contract.
 ghost use Rattle.std.specs.Prelude.{◌≡◌, ℕ, [], false, IfOk, IfSome, IfNone, OnErr, Ok, Some, option_copied, option_map, slice_get};
-ghost use Rattle.wasmi_uses.specs.Functions.{IsFree, Defines};
+ghost use Rattle.wasmi_uses.specs.Functions.{name_at, IsFree, Defines};
 
 use std::alloc::Global;
 use std::marker::Model;
 use wasmi_arena::{ArenaError, TypedKey};
-use wasmi_collections::hashed::Map;
 use wasmi_collections::string_interner::Sym;
-use wasmi_collections::{Arena, StringInterner};
+use wasmi_collections::{Arena, StringInterner, hashed};
 
 /// The key of a function in its table. A contract sees the number that it holds.
 pub type FunctionKey = TypedKey<Function>;
@@ -15,16 +14,15 @@ pub type FunctionKey = TypedKey<Function>;
 /// What a table keeps of a function: the symbol of its name, and its value.
 #[derive(Drop)]
 pub struct Function {
-    name: Sym,
+    symbol: Sym,
     value: u64,
 }
 
-/// Functions under the keys 0, 1, 2 and so on, no two of one name. A contract sees the list of their names
-/// and values.
+/// Functions under keys 0, 1, 2 and so on, no two of one name. A contract sees a list of names and values.
 #[derive(Drop)]
 pub struct Functions {
     names: StringInterner,
-    by_name: Map<Sym, FunctionKey>,
+    by_name: hashed::Map<Sym, FunctionKey>,
     functions: Arena<FunctionKey, Function>,
 }
 
@@ -40,6 +38,7 @@ impl Model for Functions {
         (symbols_of table.functions.items) };
 }
 
+#[tactic(auto, using(crate::proofs::FunctionLemmas::seen))]
 impl Functions {
     /// A table without functions, which asks `alloc` for memory when one comes.
     pub fn new(alloc: Global) -> Self
@@ -47,7 +46,7 @@ impl Functions {
     {
         Functions {
             names: StringInterner::new(alloc),
-            by_name: Map::new(alloc),
+            by_name: hashed::Map::new(alloc),
             functions: Arena::new(alloc),
         }
     }
@@ -56,8 +55,7 @@ impl Functions {
     /// key comes with `false`; that never fails. After an error the functions are as before.
     pub fn define(&mut self, name: &str, value: u64) -> Result<(FunctionKey, bool), ArenaError>
         ensures ok { IfOk result (λ defined. Defines self.old name.now value defined self.new) }
-        ensures there { (key known : ℕ) → slice_get self.old key ≡ Some (name.now, known)
-            → result ≡ Ok (key, false) }
+        ensures there { (key : ℕ) → name_at self.old key ≡ Some name.now → result ≡ Ok (key, false) }
         ensures err { OnErr result (self.new ≡ self.old) }
     {
         if let Some((key, _)) = self.find(name) {
@@ -67,17 +65,16 @@ impl Functions {
         let key = self.functions.next_key()?;
         let symbol = self.names.get_or_intern(name)?;
         self.by_name.insert(symbol, key)?;
-        self.functions.alloc(Function { name: symbol, value })?;
+        self.functions.alloc(Function { symbol, value })?;
         Ok((key, true))
     }
 
-    /// The key and the value of the function of this name, if there is one.
-    #[tactic(auto, using(crate::proofs::FunctionLemmas::seen))]
+    /// The key and the value of the function of a name, if there is one.
     pub fn find(&self, name: &str) -> Option<(FunctionKey, u64)>
         ensures found { IfSome result (λ found. slice_get self.now found.0 ≡ Some (name.now, found.1)) }
         ensures absent { IfNone result (IsFree self.now name.now) }
-        ensures alone { (key value : ℕ) → slice_get self.now key ≡ Some (name.now, value)
-            → result ≡ Some (key, value) }
+        ensures alone { (key : ℕ) → name_at self.now key ≡ Some name.now
+            → IfSome result (λ found. found.0 ≡ key) }
     {
         let symbol = self.names.get(name)?;
         let key = *self.by_name.get(&symbol)?;
@@ -85,11 +82,10 @@ impl Functions {
     }
 
     /// The name of the function under a key, if there is one.
-    #[tactic(auto, using(crate::proofs::FunctionLemmas::seen))]
     pub fn name_of(&self, key: FunctionKey) -> Option<&str>
-        ensures { option_copied result ≡ option_map (λ function. function.0) (slice_get self.now key) }
+        ensures { option_copied result ≡ name_at self.now key }
     {
-        self.names.resolve(self.functions.get(key).ok()?.name)
+        self.names.resolve(self.functions.get(key).ok()?.symbol)
     }
 
     /// The value of the function under a key, if there is one.
