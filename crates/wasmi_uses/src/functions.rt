@@ -1,5 +1,5 @@
 //! A table of functions by name: an interner, a hashed map and an arena behind one contract.
-ghost use Rattle.std.specs.Prelude.{◌≡◌, ℕ, [], false, IfOk, IfSome, IfNone, OnErr, Ok, Some, option_copied, option_map, slice_get};
+ghost use Rattle.std.specs.Prelude.{◌≡◌, ◌⊎◌, ℕ, [], false, IfOk, IfErr, IfSome, IfNone, OnErr, Ok, Some, option_copied, option_map, slice_get};
 ghost use Rattle.wasmi_uses.specs.Functions.{name_at, IsFree, Defines};
 
 use std::alloc::Global;
@@ -57,6 +57,8 @@ impl Functions {
         ensures ok { IfOk result (λ defined. Defines self.old name.now value defined self.new) }
         ensures there { (key : ℕ) → name_at self.old key ≡ Some name.now → result ≡ Ok (key, false) }
         ensures err { OnErr result (self.new ≡ self.old) }
+        ensures errors { IfErr result (λ error. (error ≡ ArenaError.NotEnoughKeys)
+            ⊎ (error ≡ ArenaError.OutOfSystemMemory)) }
     {
         if let Some((key, _)) = self.find(name) {
             return Ok((key, false));
