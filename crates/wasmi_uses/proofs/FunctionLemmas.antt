@@ -1,5 +1,5 @@
 -- What a table of functions shows, and under which symbols its keys stand.
-use Rattle.std.proofs.Common.{◌≡◌, ◌<◌, ℕ, suc, nat_eq, List, [], ◌∷◌, ◌++◌, length, map, Some, slice_get, slice_index_or, option_map, refl, ap, ◌∙◌, arith}
+use Rattle.std.proofs.Common.{◌≡◌, ◌<◌, ℕ, suc, nat_eq, List, [], ◌∷◌, ◌++◌, length, map, Some, slice_get, slice_index_or, option_map, refl, ◌∙◌, arith}
 use Rattle.std.proofs.lemmas.Bool.Decides.{nat_tests}
 use Rattle.std.proofs.lemmas.List.{length-map, map_push}
 use Rattle.std.proofs.lemmas.Option.{slice_get-map, slice_get-get_or, slice_get_cases, slice_get_within, get_or_from_slice_get}
