@@ -284,7 +284,11 @@ fn tables_of_a_module(rt: HostRuntime) {
 #[test]
 fn functions_by_name(rt: HostRuntime) {
     let mut functions = Functions::new(rt.alloc());
-    for (name, value, number, is_new) in [("start", 7, 0, true), ("stop", 9, 1, true), ("start", 8, 0, false)] {
+    for (name, value, number, is_new) in [
+        ("start", 7, 0, true),
+        ("stop", 9, 1, true),
+        ("start", 8, 0, false),
+    ] {
         let key = FunctionKey::from_u32(number);
         assert_equal!(rt; functions.define(name, value).or_abort(&rt), (key, is_new), "of {name}");
     }
