@@ -63,6 +63,7 @@ impl Functions {
         if let Some((key, _)) = self.find(name) {
             return Ok((key, false));
         }
+        // First, so that `alloc` can't fail once the map has the key.
         self.functions.reserve(1)?;
         let key = self.functions.next_key()?;
         let symbol = self.names.get_or_intern(name)?;
