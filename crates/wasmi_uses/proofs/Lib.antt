@@ -1,2 +1,2 @@
 pub mod NameLemmas
-pub mod EntityLemmas
+pub mod FunctionLemmas

@@ -12,12 +12,12 @@ use Rattle.std.proofs.lemmas.Option.{none-some, same_Some, slice_get-map, slice_
 use Rattle.std.proofs.lemmas.Slice.Eq.{bytes_eq-Decides}
 use Rattle.wasmi_uses.specs.Names.{AreDistinct}
 
--- what is read after a push: what was there, or the new name
-pub slice_get-push : (names : List (List ℕ)) (name read : List ℕ) (i : ℕ) → slice_get (names ++ name ∷ []) i ≡ Some read → (slice_get names i ≡ Some read) ⊎ ((i ≡ length names) × (name ≡ read))
-slice_get-push [] name read zero e = inr (refl, same_Some name read e)
-slice_get-push [] name read (suc i) e = absurd (none-some read e)
-slice_get-push (x ∷ xs) name read zero e = inl e
-slice_get-push (x ∷ xs) name read (suc i) e = elim (slice_get-push xs name read i e) [ inl before ↦ inl before | inr last ↦ inr (ap suc last.0, last.1) ]
+-- what is read after a push: what was there, or the new item
+pub slice_get-push : {X : Type 0} (xs : List X) (y read : X) (i : ℕ) → slice_get (xs ++ y ∷ []) i ≡ Some read → (slice_get xs i ≡ Some read) ⊎ ((i ≡ length xs) × (y ≡ read))
+slice_get-push [] y read zero e = inr (refl, same_Some y read e)
+slice_get-push [] y read (suc i) e = absurd (none-some read e)
+slice_get-push (x ∷ xs) y read zero e = inl e
+slice_get-push (x ∷ xs) y read (suc i) e = elim (slice_get-push xs y read i e) [ inl before ↦ inl before | inr last ↦ inr (ap suc last.0, last.1) ]
 
 -- a name that isn't there yet may be added
 pub distinct_push : (names : List (List ℕ)) (name : List ℕ) → AreDistinct names → ((i : ℕ) → slice_get names i ≢ Some name) → AreDistinct (names ++ name ∷ [])
@@ -34,10 +34,15 @@ distinct_push names name distinct absent i j read at_i at_j =
     ]
 
 -- what is there is read after a push too
-pub slice_get-push_kept : (names : List (List ℕ)) (name known : List ℕ) (i : ℕ) → slice_get names i ≡ Some known → slice_get (names ++ name ∷ []) i ≡ Some known
-slice_get-push_kept [] name known i e = absurd (none-some known e)
-slice_get-push_kept (x ∷ xs) name known zero e = e
-slice_get-push_kept (x ∷ xs) name known (suc i) e = slice_get-push_kept xs name known i e
+pub slice_get-push_kept : {X : Type 0} (xs : List X) (y known : X) (i : ℕ) → slice_get xs i ≡ Some known → slice_get (xs ++ y ∷ []) i ≡ Some known
+slice_get-push_kept [] y known i e = absurd (none-some known e)
+slice_get-push_kept (x ∷ xs) y known zero e = e
+slice_get-push_kept (x ∷ xs) y known (suc i) e = slice_get-push_kept xs y known i e
+
+-- and so is the new item, at the end
+pub slice_get-push_last : {X : Type 0} (xs : List X) (y : X) → slice_get (xs ++ y ∷ []) (length xs) ≡ Some y
+slice_get-push_last [] y = refl
+slice_get-push_last (x ∷ xs) y = slice_get-push_last xs y
 
 module _ {Z : Type 0} (name : List ℕ) where
   -- does this text have the name's bytes?

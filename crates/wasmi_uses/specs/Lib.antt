@@ -1,2 +1,2 @@
 pub mod Names
-pub mod Entities
+pub mod Functions

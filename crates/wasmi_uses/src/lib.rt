@@ -4,9 +4,9 @@
 pub mod compiler;
 pub mod constants;
 pub mod define;
-pub mod entities;
 pub mod exports;
 pub mod frames;
+pub mod functions;
 pub mod imports;
 pub mod linker;
 pub mod lookup;

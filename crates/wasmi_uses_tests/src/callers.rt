@@ -10,9 +10,9 @@ use wasmi_script_lib::EntityStore;
 use wasmi_uses::compiler::Tables;
 use wasmi_uses::constants::{fold, in_its_slot, share_a_slot, slot_again, slot_of_text};
 use wasmi_uses::define::define;
-use wasmi_uses::entities::Entities;
 use wasmi_uses::exports::{note, noted_of};
 use wasmi_uses::frames::tail_call;
+use wasmi_uses::functions::{FunctionKey, Functions};
 use wasmi_uses::imports::{take_offered, take_offered_hashed};
 use wasmi_uses::linker::{export, import, symbol_again, symbol_and_text, symbol_of_new};
 use wasmi_uses::lookup::{any_differs, first_above, read};
@@ -282,16 +282,21 @@ fn tables_of_a_module(rt: HostRuntime) {
 }
 
 #[test]
-fn entities_with_properties(rt: HostRuntime) {
-    let mut entities = Entities::new(rt.alloc());
-    for (name, key) in [("ann", 0), ("bob", 1), ("ann", 2)] {
-        assert_equal!(rt; entities.add(name).or_abort(&rt), key);
+fn functions_by_name(rt: HostRuntime) {
+    let mut functions = Functions::new(rt.alloc());
+    for (name, value, number, is_new) in [
+        ("start", 7, 0, true),
+        ("stop", 9, 1, true),
+        ("start", 8, 0, false),
+    ] {
+        let key = FunctionKey::from_u32(number);
+        assert_equal!(rt; functions.define(name, value).or_abort(&rt), (key, is_new), "of {name}");
     }
-    entities.set(1, 42).or_abort(&rt);
-    assert_equal!(rt; entities.get(1), Some(("bob", Some(42))));
-    assert_equal!(rt; entities.get(2), Some(("ann", None)));
-    assert_equal!(rt; entities.get(3), None);
-    assert!(rt; entities.set(3, 1).is_err());
+    let stop = FunctionKey::from_u32(1);
+    assert_equal!(rt; functions.find("stop"), Some((stop, 9)));
+    assert_equal!(rt; functions.find("step"), None);
+    assert_equal!(rt; (functions.name_of(stop), functions.get(stop)), (Some("stop"), Some(9)));
+    assert_equal!(rt; functions.get(FunctionKey::from_u32(2)), None);
 }
 
 #[test]
