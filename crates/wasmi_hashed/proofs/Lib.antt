@@ -1,6 +1,7 @@
 mod Same
 mod NewEntry
 mod Places
+mod Rows
 mod Values
 mod Gone
 mod Drains

@@ -5,5 +5,6 @@ mod LentTree
 mod MapMemory
 mod NewEntry
 mod Renamed
+mod Rows
 mod SameInOrder
 mod Values
