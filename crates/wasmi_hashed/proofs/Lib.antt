@@ -3,7 +3,6 @@ mod NewEntry
 mod Places
 mod Rows
 mod Values
-mod Gone
 mod Drains
 mod Ended
 mod HeldMemory

@@ -1,5 +1,5 @@
 -- A call on what another call makes of its first parameter: `self.into_inner().call(..)`. Assumes `Logic`.
---     PlaceRow      a place's row and laws
+--     PlaceRow      a place's row and laws.        spent      nothing is left of it
 --     hands      the walk where the second call's answer is the function's.        answers, takes      how it ends, and where the place is used up
 --     lends, lends_with, lends_bare      the walk where it is a reference, put into `Ok`;  with a second parameter, which the second call takes;  with no `Ok`
 --     calls_on, also      a call;  a clause that holds by itself
@@ -12,15 +12,19 @@ use Rattle.wasmi_arena.proofs.Frame.{let_go, gone}
 use Prim.Native.Nat.{ℕ}
 use base.Fml.{Fml, GName, Lft, ftrue, fsep}
 use base.Logic.{SProp, ent, sep, ex, emp, emp∗, id⊢, via, guard, guard_i, snd∗, mono_l, mono_r}
-use contract.Monad.{fact, fact_i, fact_use}
+use contract.Lifetimes.{Lfts}
+use contract.Monad.{fact, fact_i, fact_use, top}
+use denote.Exit.{no, Last, left}
 use denote.Follow.{follows, follows_if}
 use denote.Laws.{Is, shows}
 use denote.Param.{layout}
 use denote.Param.Laws.{Laws}
 use denote.RattleType.{RattleType}
 use denote.Ref.{MutRef, NamedLft, mut_Tells}
+use denote.Signature.{plain}
 use denote.Steps.{nothing, heard, peeks, only}
 use denote.Triple.Call.{calls_from}
+use denote.Triple.Walked.{Goes, stay_dropped}
 use mathlib.Core.List.{List, [], ◌∷◌}
 use mathlib.Core.Option.{some as name}
 use mir.Syntax.{Ty, Callee, Home, Body, Opd, local, seq, assign, call, return, Place, place, copy, Rv, rv_opd, aggregate, int, w8, named}
@@ -37,12 +41,13 @@ use types.Run.{Opds, of_opd, and_then, no_more, lit, returns}
 use Rattle.wasmi_map_specs.proofs.Handed.{ok_of, lent_there}
 use Rattle.wasmi_map_specs.proofs.Words.{Good, Within, typed_of, facts, apart}
 
--- The place of a key: this crate's row and the standard library's, the one made of the other, and what the map is that it lies in.
+-- The place of a key: a row, of which nothing is left once it is used up, the standard library's row, the one made of the other, and what the map is that it lies in.
 pub record PlaceRow : Type 2 where
   pub Here : NamedLft → RattleType
   pub There : NamedLft → RattleType
   pub here_laws : (ℓ : NamedLft) → Laws (Here ℓ)
   pub there_laws : (ℓ : NamedLft) → Laws (There ℓ)
+  pub leaves_none : (M : Type 1) (𝓤 : Ura M) (𝓛 : Logic 𝓤) (ℓ : NamedLft) (x : (Here ℓ).Denot) (f : Last ((Here ℓ).exit no) x) → ent 𝓤 (emp 𝓤) (sem 𝓛 (left ((Here ℓ).exit no) x f))
   pub inner : (ℓ : NamedLft) → (Here ℓ).Denot → (There ℓ).Denot
   pub Map : RattleType
   pub Value : RattleType
@@ -70,6 +75,9 @@ also {𝓤 = 𝓤} t {φ} {P} x = step (λ s. record { prf = via 𝓤 P s.prf (v
 
 module _ {M : Type 1} {𝓤 : Ura M} (𝓛 : Logic 𝓤) where
   open 𝓛 use {H}
+
+  pub spent : (P : PlaceRow) (n : ℕ) (at : Lfts n → NamedLft) → Goes 𝓛 n (plain (λ κs. P.Here (at κs))) no (stay_dropped (plain (λ κs. P.Here (at κs))) no)
+  spent P n at κs x f vs fit = let none = left ((P.Here (at κs)).exit no) x f in via 𝓤 (emp 𝓤) (top 𝓤 _) (via 𝓤 (sem 𝓛 none) (P.leaves_none M 𝓤 𝓛 (at κs) x f) (𝓛.laws.⇛_intro (sem 𝓛 none)))
 
   module _ (alive : SProp 𝓤) (R : RattleType) where
     -- the tokens, what the first parameter and the others own, and the facts
@@ -106,13 +114,13 @@ module _ {M : Type 1} {𝓤 : Ura M} (𝓛 : Logic 𝓤) where
         move ! (3 ∷ 0 ∷ 1 ∷ 2 ∷ []) $ group ! 4 $ use1 𝓛 (raw P) (leave r) $ use0 𝓛 (raw (fact 𝓤 φ)) (fact_i 𝓤 φ (emp 𝓤) (typed r is)) $ now ! $ done !)))
 
     -- of a call that uses the place up: its last value says Q of the map
-    pub takes : (R : RattleType) {W : Type 0} (left : W → Fml) (φs : R.Denot → List (Type 0)) (φ : R.Denot → Type 0) (ψ : W → Type 0) (Q : Fml) → ((ws : W) → ψ ws → ent 𝓤 (sem 𝓛 (left ws)) (sem 𝓛 Q))
+    pub takes : (R : RattleType) {W : Type 0} (said : W → Fml) (φs : R.Denot → List (Type 0)) (φ : R.Denot → Type 0) (ψ : W → Type 0) (Q : Fml) → ((ws : W) → ψ ws → ent 𝓤 (sem 𝓛 (said ws)) (sem 𝓛 Q))
         → (u : Val) {χ : Type 0} → ((r : R.Denot) → Is R r (u ∷ []) → χ) → {P : SProp 𝓤}
         → ((r : R.Denot) → ent 𝓤 (sep 𝓤 alive (sep 𝓤 (sem 𝓛 (let_go n)) (sep 𝓤 (sem 𝓛 (R.own_val r (u ∷ []))) (sep 𝓤 (sem 𝓛 Q) (facts 𝓤 (φs r) (fact 𝓤 (φ r))))))) P)
-        → ent 𝓤 (Answered alive R (λ r ws. sep 𝓤 (sem 𝓛 (fsep (left ws) ftrue)) (facts 𝓤 (φs r) (sep 𝓤 (fact 𝓤 (φ r)) (fact 𝓤 (ψ ws))))) u) (H.⇛ (sep 𝓤 (fact 𝓤 χ) P))
-    takes R left φs φ ψ Q go u typed leave =
-        answers R (λ r ws. sep 𝓤 (sem 𝓛 (fsep (left ws) ftrue)) (facts 𝓤 (φs r) (sep 𝓤 (fact 𝓤 (φ r)) (fact 𝓤 (ψ ws))))) (λ r. sep 𝓤 (sem 𝓛 Q) (facts 𝓤 (φs r) (fact 𝓤 (φ r)))) (λ r ws.
-        qed 𝓛 (‵ (fsep (left ws) ftrue) ∷ raw (facts 𝓤 (φs r) (sep 𝓤 (fact 𝓤 (φ r)) (fact 𝓤 (ψ ws)))) ∷ []) ∵ fsplit ! $ move ! (2 ∷ []) $ use1 𝓛 (raw (facts 𝓤 (φs r) (fact 𝓤 (φ r))) ⊛ raw (fact 𝓤 (ψ ws))) (apart 𝓤 (φs r) (fact 𝓤 (φ r)) (fact 𝓤 (ψ ws))) $
+        → ent 𝓤 (Answered alive R (λ r ws. sep 𝓤 (sem 𝓛 (fsep (said ws) ftrue)) (facts 𝓤 (φs r) (sep 𝓤 (fact 𝓤 (φ r)) (fact 𝓤 (ψ ws))))) u) (H.⇛ (sep 𝓤 (fact 𝓤 χ) P))
+    takes R said φs φ ψ Q go u typed leave =
+        answers R (λ r ws. sep 𝓤 (sem 𝓛 (fsep (said ws) ftrue)) (facts 𝓤 (φs r) (sep 𝓤 (fact 𝓤 (φ r)) (fact 𝓤 (ψ ws))))) (λ r. sep 𝓤 (sem 𝓛 Q) (facts 𝓤 (φs r) (fact 𝓤 (φ r)))) (λ r ws.
+        qed 𝓛 (‵ (fsep (said ws) ftrue) ∷ raw (facts 𝓤 (φs r) (sep 𝓤 (fact 𝓤 (φ r)) (fact 𝓤 (ψ ws)))) ∷ []) ∵ fsplit ! $ move ! (2 ∷ []) $ use1 𝓛 (raw (facts 𝓤 (φs r) (fact 𝓤 (φ r))) ⊛ raw (fact 𝓤 (ψ ws))) (apart 𝓤 (φs r) (fact 𝓤 (φ r)) (fact 𝓤 (ψ ws))) $
         split ! $ move ! (1 ∷ []) $ heard ! _ (λ is. move ! (1 ∷ []) $ use1 𝓛 (‵ Q) (go ws is) $ keep ! (0 ∷ 1 ∷ []) $ done !)) u typed leave
 
     module _ (Inner V : RattleType) (κ : Lft) (γ : GName) (F : V.Denot → Inner.Denot) (last : Inner.Denot) (φ : MutBor V.Denot → Type 0) where

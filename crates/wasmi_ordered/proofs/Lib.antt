@@ -1,4 +1,3 @@
-mod Gone
 mod Ended
 mod HeldMemory
 mod LentTree

@@ -1,38 +1,22 @@
 -- `entry` hands on what the inner map's lends. Assumes `Logic`.
-use Rattle.std.proofs.Common.{◌∙◌, ap, subst}
-use Rattle.std.specs.Prelude.{IfOk, OnErr}
-use Rattle.std.specs.Borrow.{name_if_ok}
 use Rattle.std.specs.Ordering.{eq_by_cmp}
-use Rattle.std.specs.BTreeMap.Entry.{entry_map_ref}
 use Rattle.std.specs.contracts.alloc.AllocFailed as FailedType
 use Rattle.std.specs.contracts.result.Result as ResultType
 use Rattle.std.proofs.alloc.AllocFailed.TheLaws as FailedLaws
 use Rattle.std.proofs.result.Result.TheLaws as ResultLaws
-use denote.Follow.{follows, follows_if}
-use denote.Ref.{MutRef, mut_vals, mut_Tells}
-use denote.Steps.{nothing, heard, only}
-use denote.Triple.Walked.{Goes-spent_ref}
-use contract.Monad.{fact_i}
-use mir.Syntax.{named}
-use mir.Val.{Val, vptr}
-use types.ByLocal.{alloc_all, pass_all, free_all, look_at, get, through, sets, lands_as}
-use types.Kit.{‵, ◌⊛◌, by, move, keep, drop, split, fjoin, frame, use0, use2, suffices, rewrite}
-use types.Run.{addr, stop, of_opd, and_then, no_more, returns}
 use Rattle.wasmi_arena.specs.declared.error.ArenaError.TheVariants.{OutOfSystemMemory}
 use Rattle.wasmi_arena.specs.contracts.error.ArenaError as ErrorType
 use Rattle.wasmi_arena.proofs.error.ArenaError.TheLaws as ErrorLaws
-use Rattle.wasmi_arena.proofs.Frame.{let_go, gone}
 use Rattle.wasmi_map_specs.specs.Maps.{value_at}
 use Rattle.wasmi_map_specs.proofs.Handed.{lent_on, each_ok}
 use Rattle.wasmi_map_specs.proofs.Made.{of_place, of_absence, of_failure, of_names}
-use Rattle.wasmi_map_specs.proofs.Walk.{◌≡◌, [], ◌∷◌, refl, None, leaves, fsep, ftrue, emp, fact, tables, toks, no, bounded, param, param_laws, plain, named_lft, lasts, Lasts, framed, Stays, walk_of, stay_dropped, Goes-dropped, inst_fn, Args, a_type, dcons, dnil, raw, ◌$◌, ◌∵◌, !, qed, enter, proved_by, typed_of, one_of, ref_of, facts, twice, calls_on, also}
-use Rattle.wasmi_ordered.specs.MapEntry.{place, IsPlaceOf, IsOfInner, inner_rests}
+use Rattle.wasmi_map_specs.proofs.Walk.{◌≡◌, ◌∙◌, [], ◌∷◌, None, refl, ap, subst, leaves, name_if_ok, IfOk, OnErr, fsep, ftrue, emp, toks, fact, fact_i, tables, no, follows, follows_if, bounded, param, param_laws, MutRef, mut_vals, mut_Tells, plain, named_lft, nothing, heard, only, lasts, Lasts, framed, Stays, walk_of, stay_dropped, Goes-dropped, Goes-spent_ref, inst_fn, Args, a_type, dcons, dnil, named, Val, vptr, alloc_all, pass_all, free_all, look_at, get, through, sets, lands_as, ‵, raw, ◌⊛◌, ◌$◌, ◌∵◌, !, qed, by, move, keep, drop, split, fjoin, frame, use0, use2, suffices, rewrite, enter, addr, stop, of_opd, and_then, no_more, returns, let_go, gone, also, calls_on, proved_by, typed_of, one_of, ref_of, facts, twice}
 use Rattle.wasmi_ordered.specs.contracts.map.Map.{the_row as MapRow}
 use Rattle.wasmi_ordered.specs.contracts.map.Map.entry as F
 use Rattle.wasmi_ordered.specs.contracts.map.Map.inner_mut as Lends
 use Rattle.wasmi_ordered.specs.contracts.map.entry.place_in as Asks
 use Rattle.wasmi_ordered.specs.contracts.map.entry.of_inner as Makes
-use Rattle.wasmi_ordered.proofs.Rows.{entry, alive_in}
+use Rattle.wasmi_ordered.proofs.Rows.{entry_map_ref, place, IsPlaceOf, IsOfInner, inner_rests, entry, alive_in}
 use Rattle.wasmi_ordered.proofs.map.Map.inner_mut.Met as Lent
 use Rattle.wasmi_ordered.proofs.map.entry.place_in.Met as Asked
 use Rattle.wasmi_ordered.proofs.map.entry.of_inner.Met as Made

@@ -1,15 +1,10 @@
 -- `or_insert_with_key` hands on what the inner place lends. Assumes `Logic`.
-use Rattle.std.specs.Borrow.{Bor}
-use Rattle.std.specs.Fn.{FnOnceReturnsAt}
-use Rattle.std.specs.Option.{UnwrapsOrElse}
-use Rattle.std.specs.HashMap.Entry.{entry_key, entry_value}
 use Rattle.std.specs.contracts.collections.hash_map.Entry.or_insert_with_key as Puts
 use Rattle.std.proofs.collections.hash_map.Entry.or_insert_with_key.Met as Put
-use Rattle.wasmi_map_specs.proofs.Walk.{◌≡◌, [], ◌∷◌, Ok, refl, lit<, None, leaves, fsep, ftrue, sep, ◌⊑◌, fact, tables, no, rest, bounded, param, param_laws, plain, named_lft, lasts, framed, Stays, walk_of, stay_dropped, Goes-dropped, inst_fn, Args, a_type, dcons, dnil, raw, ◌$◌, ◌∵◌, !, qed, enter, proved_by, one_of, but_last, front, shares, lends_with, ok_val}
+use Rattle.wasmi_map_specs.proofs.Walk.{◌≡◌, [], ◌∷◌, Ok, None, refl, lit<, leaves, Bor, FnOnceReturnsAt, UnwrapsOrElse, fsep, ftrue, sep, ◌⊑◌, fact, tables, no, rest, bounded, param, param_laws, plain, named_lft, lasts, framed, Stays, walk_of, stay_dropped, Goes-dropped, inst_fn, Args, a_type, dcons, dnil, raw, ◌$◌, ◌∵◌, !, qed, enter, lends_with, spent, ok_val, proved_by, one_of, but_last, front, shares}
 use Rattle.wasmi_hashed.specs.contracts.map.entry.Entry.into_inner as Opens
 use Rattle.wasmi_hashed.specs.contracts.map.entry.Entry.or_insert_with_key as F
-use Rattle.wasmi_hashed.proofs.Gone.{entry_goes}
-use Rattle.wasmi_hashed.proofs.Rows.{entry, alive_in}
+use Rattle.wasmi_hashed.proofs.Rows.{entry_key, entry_value, entry, alive_in}
 use Rattle.wasmi_hashed.proofs.map.entry.Entry.into_inner.Met as Opened
 use Rattle.wasmi_hashed.proofs.map.entry.Entry.or_insert_with_key.Code as code
 use Rattle.wasmi_hashed.proofs.map.entry.Entry.or_insert_with_key.Statement.{statement}
@@ -20,7 +15,7 @@ or_insert_with_key_spec 𝓤 𝓛 𝓜 𝓡 wired X Y S Z N U LX LY LS LZ LN LU 
     let call = F.ended X Y S Z N U e de p dp h dh s ds n dn g dg dd dm f df du in let c = F.clauses X Y S Z N U e de p dp h dh s ds n dn g dg dd dm f df du 𝓛 𝓜.mem 𝓡.returns in
     let opens = Opens.ended X Y S Z N e de p dp h dh s ds n dn g dg dd dm in let puts = Puts.ended X Y S Z N U e de p dp h dh s ds n dn g dg dd dm f df du in
     let stayed : Stays call.signature.params call.kept = (stay_dropped _ no, (stay_dropped _ no, tt)) in let W = walk_of 𝓛 call stayed c in let 𝓣 = tables 𝓤 𝓛.H 𝓜 𝓡 𝓡.env in let P = entry X Y S Z N p h s n g LX LY LS LZ LN in
-    proved_by 𝓛 call stayed c 𝓜 𝓡 (entry_goes 𝓛 X Y S Z N p h s n g 7 (named_lft 7 0 tt), (Goes-dropped 𝓛 7 (plain (λ _. param 5 U)) no (λ κs x us. refl), tt))
+    proved_by 𝓛 call stayed c 𝓜 𝓡 (spent 𝓛 P 7 (named_lft 7 0 tt), (Goes-dropped 𝓛 7 (plain (λ _. param 5 U)) no (λ κs x us. refl), tt))
     (F.Key.name args) (inst_fn args code.function) (code.unfolded 𝓤 𝓛.H 𝓜 𝓡 wired (X, (Y, (S, (Z, (N, (U, tt)))))) de dp dh ds dn dg dd dm df du)
     (λ κs. (one_of 𝓛 (P.here_laws (named_lft 7 0 tt κs)), (one_of 𝓛 (param_laws 5 U LU), tt))) (λ κs qs bounds a _ us good.
     let y : W.Ghost = ((κs, qs, bounds, a, (us.0 ∷ [], (us.1.0 ∷ [], tt))), tt) in let ℓ = named_lft 7 0 tt κs in let there = P.inner ℓ a.0 in let κs₁ = front 6 κs in

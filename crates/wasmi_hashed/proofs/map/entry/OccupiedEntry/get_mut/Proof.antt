@@ -1,29 +1,10 @@
 -- `get_mut` lends the inner place to the standard library's call. Assumes `Logic`.
-use Rattle.std.proofs.Common.{MutBor}
-use Rattle.std.specs.HashMap.Entry.{entry_value, with_entry_value, IsWritten}
-use Rattle.std.specs.Prelude.{Some}
 use Rattle.std.specs.contracts.collections.hash_map.OccupiedEntry.get_mut as Lends
 use Rattle.std.proofs.collections.hash_map.OccupiedEntry.get_mut.Met as Lent
-use Rattle.std.specs.declared.collections.hash_map.Entry.TheVariants.{Occupied}
-use base.Fml.{GName, flft}
-use base.Logic.{id⊢}
-use denote.Follow.{follows, follows_then, lends_Part}
-use denote.Memory.{mem}
-use denote.Ref.{MutRef, mut_vals}
-use denote.Steps.{nothing}
-use denote.Triple.Walked.{Goes-spent_ref}
-use mir.Syntax.{named}
-use mir.Val.{Val, vptr}
-use types.ByLocal.{alloc_all, pass_all, free_all, look_at, get, through, sets, lands_as}
-use types.Kit.{‵, ◌⊛◌, some, later, done, move, drop, split, split3, fsplit3, keep, use0, use1, use2, pick, await, group, suffices, rewrite}
-use types.Mut.{open_ref}
-use types.Run.{addr, fld, stop, and_then, no_more, returns}
-use Rattle.wasmi_arena.proofs.Frame.{let_go, gone}
-use Rattle.wasmi_map_specs.proofs.Walk.{◌≡◌, [], ◌∷◌, refl, leaves, ftrue, emp, fact, tables, toks, no, bounded, param, plain, named_lft, lasts, Lasts, framed, Stays, walk_of, stay_dropped, inst_fn, Args, a_type, dcons, dnil, raw, ◌$◌, ◌∵◌, !, qed, enter, proved_by, ref_of, facts, twice, calls_on, told}
-use Rattle.wasmi_hashed.specs.MapEntry.{with_value}
+use Rattle.wasmi_map_specs.proofs.Walk.{◌≡◌, [], ◌∷◌, MutBor, refl, leaves, Some, GName, ftrue, flft, emp, id⊢, toks, fact, tables, no, follows, follows_then, lends_Part, mem, bounded, param, MutRef, mut_vals, plain, named_lft, nothing, lasts, Lasts, framed, Stays, walk_of, stay_dropped, Goes-spent_ref, inst_fn, Args, a_type, dcons, dnil, named, Val, vptr, alloc_all, pass_all, free_all, look_at, get, through, sets, lands_as, ‵, raw, ◌⊛◌, some, later, ◌$◌, ◌∵◌, !, qed, done, move, keep, drop, split, split3, fsplit3, group, pick, await, use0, use1, use2, suffices, rewrite, open_ref, enter, addr, fld, stop, and_then, no_more, returns, let_go, gone, calls_on, told, proved_by, ref_of, facts, twice}
 use Rattle.wasmi_hashed.specs.contracts.map.entry.OccupiedEntry.get_mut as F
 use Rattle.wasmi_hashed.proofs.HeldMemory.{Held, Place, place_at, bare, place_out, place_back}
-use Rattle.wasmi_hashed.proofs.Rows.{alive_in}
+use Rattle.wasmi_hashed.proofs.Rows.{entry_value, with_entry_value, IsWritten, Occupied, with_value, alive_in}
 use Rattle.wasmi_hashed.proofs.map.entry.OccupiedEntry.get_mut.Code as code
 use Rattle.wasmi_hashed.proofs.map.entry.OccupiedEntry.get_mut.Statement.{statement}
 

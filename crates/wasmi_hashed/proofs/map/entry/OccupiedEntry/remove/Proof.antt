@@ -1,18 +1,10 @@
 -- `remove` leaves the inner map without the key. Assumes `Logic`.
-use Rattle.std.specs.HashMap.Entry.{entry_value, map_without_entry}
-use Rattle.std.specs.HashMap.{IsUnchanged}
-use Rattle.std.specs.Prelude.{Some}
-use Rattle.std.specs.declared.collections.hash_map.Entry.TheVariants.{Occupied}
 use Rattle.std.specs.contracts.collections.hash_map.OccupiedEntry.remove as Puts
 use Rattle.std.proofs.collections.hash_map.OccupiedEntry.remove.Met as Put
-use denote.Exit.{yes, see, left}
-use Rattle.wasmi_map_specs.proofs.Walk.{◌≡◌, [], ◌∷◌, leaves, ftrue, tables, toks, no, rest, bounded, param, param_laws, named_lft, lasts, Lasts, framed, Stays, walk_of, stay_dropped, inst_fn, Args, a_type, dcons, dnil, raw, ◌$◌, ◌∵◌, !, qed, enter, proved_by, one_of, all_of, hands, takes, Good, typed_of, layout}
-use Rattle.wasmi_hashed.specs.MapEntry.{inner_without}
+use Rattle.wasmi_map_specs.proofs.Walk.{◌≡◌, [], ◌∷◌, leaves, Some, ftrue, toks, tables, yes, no, rest, see, left, bounded, layout, param, param_laws, named_lft, lasts, Lasts, framed, Stays, walk_of, stay_dropped, inst_fn, Args, a_type, dcons, dnil, raw, ◌$◌, ◌∵◌, !, qed, enter, hands, takes, spent, Good, proved_by, typed_of, one_of, all_of}
 use Rattle.wasmi_hashed.specs.contracts.map.entry.OccupiedEntry.into_inner as Opens
 use Rattle.wasmi_hashed.specs.contracts.map.entry.OccupiedEntry.remove as F
-use Rattle.wasmi_hashed.proofs.Ended.{goes_without}
-use Rattle.wasmi_hashed.proofs.Gone.{occupied_goes}
-use Rattle.wasmi_hashed.proofs.Rows.{occupied, alive_in}
+use Rattle.wasmi_hashed.proofs.Rows.{IsUnchanged, entry_value, map_without_entry, Occupied, inner_without, goes_without, occupied, alive_in}
 use Rattle.wasmi_hashed.proofs.map.entry.OccupiedEntry.into_inner.Met as Opened
 use Rattle.wasmi_hashed.proofs.map.entry.OccupiedEntry.remove.Code as code
 use Rattle.wasmi_hashed.proofs.map.entry.OccupiedEntry.remove.Statement.{statement}
@@ -23,7 +15,7 @@ remove_spec 𝓤 𝓛 𝓜 𝓡 wired X Y S Z N LX LY LS LZ LN e de p dp h dh s 
     let call = F.ended X Y S Z N e de p dp h dh s ds n dn g dg dd dm dk in let c = F.clauses X Y S Z N e de p dp h dh s ds n dn g dg dd dm dk 𝓛 𝓜.mem 𝓡.returns in
     let opens = Opens.ended X Y S Z N e de p dp h dh s ds n dn g dg dd dm in let puts = Puts.ended X Y S Z N e de p dp h dh s ds n dn g dg dd dm dk in
     let stayed : Stays call.signature.params call.kept = (stay_dropped _ no, tt) in let W = walk_of 𝓛 call stayed c in let 𝓣 = tables 𝓤 𝓛.H 𝓜 𝓡 𝓡.env in let P = occupied X Y S Z N p h s n g LX LY LS LZ LN in
-    proved_by 𝓛 call stayed c 𝓜 𝓡 (occupied_goes 𝓛 X Y S Z N p h s n g 6 (named_lft 6 0 tt), tt)
+    proved_by 𝓛 call stayed c 𝓜 𝓡 (spent 𝓛 P 6 (named_lft 6 0 tt), tt)
     (F.Key.name args) (inst_fn args code.function) (code.unfolded 𝓤 𝓛.H 𝓜 𝓡 wired (X, (Y, (S, (Z, (N, tt))))) de dp dh ds dn dg dd dm dk)
     (λ κs. (one_of 𝓛 (P.here_laws (named_lft 6 0 tt κs)), tt)) (λ κs qs bounds a _ us good.
     let y : W.Ghost = ((κs, qs, bounds, a, (us.0 ∷ [], tt)), tt) in let ℓ = named_lft 6 0 tt κs in let there = P.inner ℓ a.0 in

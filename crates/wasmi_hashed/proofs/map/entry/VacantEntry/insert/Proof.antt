@@ -1,10 +1,9 @@
 -- `insert` hands on what the inner place lends. Assumes `Logic`.
 use Rattle.std.specs.contracts.collections.hash_map.VacantEntry.insert as Puts
 use Rattle.std.proofs.collections.hash_map.VacantEntry.insert.Met as Put
-use Rattle.wasmi_map_specs.proofs.Walk.{◌≡◌, [], ◌∷◌, Ok, refl, lit<, leaves, fsep, ftrue, tables, toks, no, rest, bounded, param, param_laws, plain, named_lft, lasts, framed, Stays, walk_of, stay_dropped, Goes-dropped, inst_fn, Args, a_type, dcons, dnil, raw, ◌$◌, ◌∵◌, !, qed, enter, proved_by, one_of, all_of, lends_with, ok_val}
+use Rattle.wasmi_map_specs.proofs.Walk.{◌≡◌, [], ◌∷◌, Ok, refl, lit<, leaves, fsep, ftrue, toks, tables, no, rest, bounded, param, param_laws, plain, named_lft, lasts, framed, Stays, walk_of, stay_dropped, Goes-dropped, inst_fn, Args, a_type, dcons, dnil, raw, ◌$◌, ◌∵◌, !, qed, enter, lends_with, spent, ok_val, proved_by, one_of, all_of}
 use Rattle.wasmi_hashed.specs.contracts.map.entry.VacantEntry.into_inner as Opens
 use Rattle.wasmi_hashed.specs.contracts.map.entry.VacantEntry.insert as F
-use Rattle.wasmi_hashed.proofs.Gone.{vacant_goes}
 use Rattle.wasmi_hashed.proofs.Rows.{vacant, alive_in}
 use Rattle.wasmi_hashed.proofs.map.entry.VacantEntry.into_inner.Met as Opened
 use Rattle.wasmi_hashed.proofs.map.entry.VacantEntry.insert.Code as code
@@ -16,7 +15,7 @@ insert_spec 𝓤 𝓛 𝓜 𝓡 wired X Y S Z N LX LY LS LZ LN e de p dp h dh s 
     let call = F.ended X Y S Z N e de p dp h dh s ds n dn g dg dd dm in let c = F.clauses X Y S Z N e de p dp h dh s ds n dn g dg dd dm 𝓛 𝓜.mem 𝓡.returns in
     let opens = Opens.ended X Y S Z N e de p dp h dh s ds n dn g dg dd dm in let puts = Puts.ended X Y S Z N e de p dp h dh s ds n dn g dg dd dm in
     let stayed : Stays call.signature.params call.kept = (stay_dropped _ no, (stay_dropped _ no, tt)) in let W = walk_of 𝓛 call stayed c in let 𝓣 = tables 𝓤 𝓛.H 𝓜 𝓡 𝓡.env in let P = vacant X Y S Z N p h s n g LX LY LS LZ LN in
-    proved_by 𝓛 call stayed c 𝓜 𝓡 (vacant_goes 𝓛 X Y S Z N p h s n g 6 (named_lft 6 0 tt), (Goes-dropped 𝓛 6 (plain (λ _. param 1 Y)) no (λ κs x us. refl), tt))
+    proved_by 𝓛 call stayed c 𝓜 𝓡 (spent 𝓛 P 6 (named_lft 6 0 tt), (Goes-dropped 𝓛 6 (plain (λ _. param 1 Y)) no (λ κs x us. refl), tt))
     (F.Key.name args) (inst_fn args code.function) (code.unfolded 𝓤 𝓛.H 𝓜 𝓡 wired (X, (Y, (S, (Z, (N, tt))))) de dp dh ds dn dg dd dm)
     (λ κs. (one_of 𝓛 (P.here_laws (named_lft 6 0 tt κs)), (one_of 𝓛 (param_laws 1 Y LY), tt))) (λ κs qs bounds a _ us good.
     let y : W.Ghost = ((κs, qs, bounds, a, (us.0 ∷ [], (us.1.0 ∷ [], tt))), tt) in let ℓ = named_lft 6 0 tt κs in let there = P.inner ℓ a.0 in

@@ -1,13 +1,10 @@
 -- `or_insert` hands on what the inner place lends. Assumes `Logic`.
-use Rattle.std.specs.Prelude.{unwrap_or}
-use Rattle.std.specs.BTreeMap.Entry.{entry_value}
 use Rattle.std.specs.contracts.collections.btree_map.Entry.or_insert as Puts
 use Rattle.std.proofs.collections.btree_map.Entry.or_insert.Met as Put
-use Rattle.wasmi_map_specs.proofs.Walk.{◌≡◌, [], ◌∷◌, Ok, refl, lit<, leaves, fsep, ftrue, tables, toks, no, rest, bounded, param, param_laws, plain, named_lft, lasts, framed, Stays, walk_of, stay_dropped, Goes-dropped, inst_fn, Args, a_type, dcons, dnil, raw, ◌$◌, ◌∵◌, !, qed, enter, proved_by, one_of, all_of, lends_with, ok_val}
+use Rattle.wasmi_map_specs.proofs.Walk.{◌≡◌, [], ◌∷◌, Ok, refl, lit<, leaves, unwrap_or, fsep, ftrue, toks, tables, no, rest, bounded, param, param_laws, plain, named_lft, lasts, framed, Stays, walk_of, stay_dropped, Goes-dropped, inst_fn, Args, a_type, dcons, dnil, raw, ◌$◌, ◌∵◌, !, qed, enter, lends_with, spent, ok_val, proved_by, one_of, all_of}
 use Rattle.wasmi_ordered.specs.contracts.map.entry.Entry.into_inner as Opens
 use Rattle.wasmi_ordered.specs.contracts.map.entry.Entry.or_insert as F
-use Rattle.wasmi_ordered.proofs.Gone.{entry_goes}
-use Rattle.wasmi_ordered.proofs.Rows.{entry, alive_in}
+use Rattle.wasmi_ordered.proofs.Rows.{entry_value, entry, alive_in}
 use Rattle.wasmi_ordered.proofs.map.entry.Entry.into_inner.Met as Opened
 use Rattle.wasmi_ordered.proofs.map.entry.Entry.or_insert.Code as code
 use Rattle.wasmi_ordered.proofs.map.entry.Entry.or_insert.Statement.{statement}
@@ -18,7 +15,7 @@ or_insert_spec 𝓤 𝓛 𝓜 𝓡 wired X Y Z LX LY LZ h dh e de p dp o dt q dq
     let call = F.ended X Y Z h dh e de p dp o dt q dq g dg dd dv in let c = F.clauses X Y Z h dh e de p dp o dt q dq g dg dd dv 𝓛 𝓜.mem 𝓡.returns in
     let opens = Opens.ended X Y Z h dh e de p dp o dt q dq g dg dd in let puts = Puts.ended X Y Z o dt e de p dp q dq g dg dd dv in
     let stayed : Stays call.signature.params call.kept = (stay_dropped _ no, (stay_dropped _ no, tt)) in let W = walk_of 𝓛 call stayed c in let 𝓣 = tables 𝓤 𝓛.H 𝓜 𝓡 𝓡.env in let P = entry X Y Z p o q g LX LY LZ in
-    proved_by 𝓛 call stayed c 𝓜 𝓡 (entry_goes 𝓛 X Y Z p o q g 4 (named_lft 4 0 tt), (Goes-dropped 𝓛 4 (plain (λ _. param 1 Y)) no (λ κs x us. refl), tt))
+    proved_by 𝓛 call stayed c 𝓜 𝓡 (spent 𝓛 P 4 (named_lft 4 0 tt), (Goes-dropped 𝓛 4 (plain (λ _. param 1 Y)) no (λ κs x us. refl), tt))
     (F.Key.name args) (inst_fn args code.function) (code.unfolded 𝓤 𝓛.H 𝓜 𝓡 wired (X, (Y, (Z, tt))) dh de dp dt dq dg dd dv)
     (λ κs. (one_of 𝓛 (P.here_laws (named_lft 4 0 tt κs)), (one_of 𝓛 (param_laws 1 Y LY), tt))) (λ κs qs bounds a _ us good.
     let y : W.Ghost = ((κs, qs, bounds, a, (us.0 ∷ [], (us.1.0 ∷ [], tt))), tt) in let ℓ = named_lft 4 0 tt κs in let there = P.inner ℓ a.0 in

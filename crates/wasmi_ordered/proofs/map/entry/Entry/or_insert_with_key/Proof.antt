@@ -1,15 +1,10 @@
 -- `or_insert_with_key` hands on what the inner place lends. Assumes `Logic`.
-use Rattle.std.specs.Borrow.{Bor}
-use Rattle.std.specs.Fn.{FnOnceReturnsAt}
-use Rattle.std.specs.Option.{UnwrapsOrElse}
-use Rattle.std.specs.BTreeMap.Entry.{entry_key, entry_value}
 use Rattle.std.specs.contracts.collections.btree_map.Entry.or_insert_with_key as Puts
 use Rattle.std.proofs.collections.btree_map.Entry.or_insert_with_key.Met as Put
-use Rattle.wasmi_map_specs.proofs.Walk.{◌≡◌, [], ◌∷◌, Ok, refl, lit<, None, leaves, fsep, ftrue, sep, ◌⊑◌, fact, tables, no, rest, bounded, param, param_laws, plain, named_lft, lasts, framed, Stays, walk_of, stay_dropped, Goes-dropped, inst_fn, Args, a_type, dcons, dnil, raw, ◌$◌, ◌∵◌, !, qed, enter, proved_by, one_of, but_last, front, shares, lends_with, ok_val}
+use Rattle.wasmi_map_specs.proofs.Walk.{◌≡◌, [], ◌∷◌, Ok, None, refl, lit<, leaves, Bor, FnOnceReturnsAt, UnwrapsOrElse, fsep, ftrue, sep, ◌⊑◌, fact, tables, no, rest, bounded, param, param_laws, plain, named_lft, lasts, framed, Stays, walk_of, stay_dropped, Goes-dropped, inst_fn, Args, a_type, dcons, dnil, raw, ◌$◌, ◌∵◌, !, qed, enter, lends_with, spent, ok_val, proved_by, one_of, but_last, front, shares}
 use Rattle.wasmi_ordered.specs.contracts.map.entry.Entry.into_inner as Opens
 use Rattle.wasmi_ordered.specs.contracts.map.entry.Entry.or_insert_with_key as F
-use Rattle.wasmi_ordered.proofs.Gone.{entry_goes}
-use Rattle.wasmi_ordered.proofs.Rows.{entry, alive_in}
+use Rattle.wasmi_ordered.proofs.Rows.{entry_key, entry_value, entry, alive_in}
 use Rattle.wasmi_ordered.proofs.map.entry.Entry.into_inner.Met as Opened
 use Rattle.wasmi_ordered.proofs.map.entry.Entry.or_insert_with_key.Code as code
 use Rattle.wasmi_ordered.proofs.map.entry.Entry.or_insert_with_key.Statement.{statement}
@@ -20,7 +15,7 @@ or_insert_with_key_spec 𝓤 𝓛 𝓜 𝓡 wired X Y Z U LX LY LZ LU h dh e de 
     let call = F.ended X Y Z U h dh e de p dp o dt q dq g dg dd f df du in let c = F.clauses X Y Z U h dh e de p dp o dt q dq g dg dd f df du 𝓛 𝓜.mem 𝓡.returns in
     let opens = Opens.ended X Y Z h dh e de p dp o dt q dq g dg dd in let puts = Puts.ended X Y Z U o dt e de p dp q dq g dg dd f df du in
     let stayed : Stays call.signature.params call.kept = (stay_dropped _ no, (stay_dropped _ no, tt)) in let W = walk_of 𝓛 call stayed c in let 𝓣 = tables 𝓤 𝓛.H 𝓜 𝓡 𝓡.env in let P = entry X Y Z p o q g LX LY LZ in
-    proved_by 𝓛 call stayed c 𝓜 𝓡 (entry_goes 𝓛 X Y Z p o q g 5 (named_lft 5 0 tt), (Goes-dropped 𝓛 5 (plain (λ _. param 3 U)) no (λ κs x us. refl), tt))
+    proved_by 𝓛 call stayed c 𝓜 𝓡 (spent 𝓛 P 5 (named_lft 5 0 tt), (Goes-dropped 𝓛 5 (plain (λ _. param 3 U)) no (λ κs x us. refl), tt))
     (F.Key.name args) (inst_fn args code.function) (code.unfolded 𝓤 𝓛.H 𝓜 𝓡 wired (X, (Y, (Z, (U, tt)))) dh de dp dt dq dg dd df du)
     (λ κs. (one_of 𝓛 (P.here_laws (named_lft 5 0 tt κs)), (one_of 𝓛 (param_laws 3 U LU), tt))) (λ κs qs bounds a _ us good.
     let y : W.Ghost = ((κs, qs, bounds, a, (us.0 ∷ [], (us.1.0 ∷ [], tt))), tt) in let ℓ = named_lft 5 0 tt κs in let there = P.inner ℓ a.0 in let κs₁ = front 4 κs in

@@ -1,14 +1,10 @@
 -- `into_mut` hands on what the inner place lends. Assumes `Logic`.
-use Rattle.std.specs.BTreeMap.Entry.{entry_value}
-use Rattle.std.specs.Prelude.{Some}
-use Rattle.std.specs.declared.collections.btree_map.Entry.TheVariants.{Occupied}
 use Rattle.std.specs.contracts.collections.btree_map.OccupiedEntry.into_mut as Puts
 use Rattle.std.proofs.collections.btree_map.OccupiedEntry.into_mut.Met as Put
-use Rattle.wasmi_map_specs.proofs.Walk.{◌≡◌, [], ◌∷◌, leaves, ftrue, tables, toks, no, rest, bounded, named_lft, lasts, framed, Stays, walk_of, stay_dropped, inst_fn, Args, a_type, dcons, dnil, raw, ◌$◌, ◌∵◌, !, qed, enter, proved_by, one_of, all_of, lends_bare}
+use Rattle.wasmi_map_specs.proofs.Walk.{◌≡◌, [], ◌∷◌, leaves, Some, ftrue, toks, tables, no, rest, bounded, named_lft, lasts, framed, Stays, walk_of, stay_dropped, inst_fn, Args, a_type, dcons, dnil, raw, ◌$◌, ◌∵◌, !, qed, enter, lends_bare, spent, proved_by, one_of, all_of}
 use Rattle.wasmi_ordered.specs.contracts.map.entry.OccupiedEntry.into_inner as Opens
 use Rattle.wasmi_ordered.specs.contracts.map.entry.OccupiedEntry.into_mut as F
-use Rattle.wasmi_ordered.proofs.Gone.{occupied_goes}
-use Rattle.wasmi_ordered.proofs.Rows.{occupied, alive_in}
+use Rattle.wasmi_ordered.proofs.Rows.{entry_value, Occupied, occupied, alive_in}
 use Rattle.wasmi_ordered.proofs.map.entry.OccupiedEntry.into_inner.Met as Opened
 use Rattle.wasmi_ordered.proofs.map.entry.OccupiedEntry.into_mut.Code as code
 use Rattle.wasmi_ordered.proofs.map.entry.OccupiedEntry.into_mut.Statement.{statement}
@@ -19,7 +15,7 @@ into_mut_spec 𝓤 𝓛 𝓜 𝓡 wired X Y Z LX LY LZ h dh e de p dp o dt q dq 
     let call = F.ended X Y Z h dh e de p dp o dt q dq g dg dd in let c = F.clauses X Y Z h dh e de p dp o dt q dq g dg dd 𝓛 𝓜.mem 𝓡.returns in
     let opens = Opens.ended X Y Z h dh e de p dp o dt q dq g dg dd in let puts = Puts.ended X Y Z o dt e de p dp q dq g dg dd in
     let stayed : Stays call.signature.params call.kept = (stay_dropped _ no, tt) in let W = walk_of 𝓛 call stayed c in let 𝓣 = tables 𝓤 𝓛.H 𝓜 𝓡 𝓡.env in let P = occupied X Y Z p o q g LX LY LZ in
-    proved_by 𝓛 call stayed c 𝓜 𝓡 (occupied_goes 𝓛 X Y Z p o q g 4 (named_lft 4 0 tt), tt)
+    proved_by 𝓛 call stayed c 𝓜 𝓡 (spent 𝓛 P 4 (named_lft 4 0 tt), tt)
     (F.Key.name args) (inst_fn args code.function) (code.unfolded 𝓤 𝓛.H 𝓜 𝓡 wired (X, (Y, (Z, tt))) dh de dp dt dq dg dd)
     (λ κs. (one_of 𝓛 (P.here_laws (named_lft 4 0 tt κs)), tt)) (λ κs qs bounds a _ us good.
     let y : W.Ghost = ((κs, qs, bounds, a, (us.0 ∷ [], tt)), tt) in let ℓ = named_lft 4 0 tt κs in let there = P.inner ℓ a.0 in

@@ -1,19 +1,10 @@
 -- `remove_entry` leaves the inner map without the key. Assumes `Logic`.
-use Rattle.std.specs.BTreeMap.Entry.{entry_key, entry_value, map_without_entry}
-use Rattle.std.specs.BTreeMap.{IsUnchanged}
-use Rattle.std.specs.Prelude.{Some}
-use Rattle.std.specs.declared.collections.btree_map.Entry.TheVariants.{Occupied}
 use Rattle.std.specs.contracts.collections.btree_map.OccupiedEntry.remove_entry as Puts
 use Rattle.std.proofs.collections.btree_map.OccupiedEntry.remove_entry.Met as Put
-use denote.Exit.{yes, see, left}
-use denote.Struct.Tuple.{Tuple, tuple_laws}
-use Rattle.wasmi_map_specs.proofs.Walk.{◌≡◌, [], ◌∷◌, leaves, ftrue, tables, toks, no, rest, bounded, param, param_laws, named_lft, lasts, Lasts, framed, Stays, walk_of, stay_dropped, inst_fn, Args, a_type, dcons, dnil, raw, ◌$◌, ◌∵◌, !, qed, enter, proved_by, one_of, all_of, hands, takes, Good, typed_of, layout}
-use Rattle.wasmi_ordered.specs.MapEntry.{inner_without}
+use Rattle.wasmi_map_specs.proofs.Walk.{◌≡◌, [], ◌∷◌, leaves, Some, ftrue, toks, tables, yes, no, rest, see, left, bounded, layout, param, param_laws, named_lft, Tuple, tuple_laws, lasts, Lasts, framed, Stays, walk_of, stay_dropped, inst_fn, Args, a_type, dcons, dnil, raw, ◌$◌, ◌∵◌, !, qed, enter, hands, takes, spent, Good, proved_by, typed_of, one_of, all_of}
 use Rattle.wasmi_ordered.specs.contracts.map.entry.OccupiedEntry.into_inner as Opens
 use Rattle.wasmi_ordered.specs.contracts.map.entry.OccupiedEntry.remove_entry as F
-use Rattle.wasmi_ordered.proofs.Ended.{goes_without}
-use Rattle.wasmi_ordered.proofs.Gone.{occupied_goes}
-use Rattle.wasmi_ordered.proofs.Rows.{occupied, alive_in}
+use Rattle.wasmi_ordered.proofs.Rows.{IsUnchanged, entry_key, entry_value, map_without_entry, Occupied, inner_without, goes_without, occupied, alive_in}
 use Rattle.wasmi_ordered.proofs.map.entry.OccupiedEntry.into_inner.Met as Opened
 use Rattle.wasmi_ordered.proofs.map.entry.OccupiedEntry.remove_entry.Code as code
 use Rattle.wasmi_ordered.proofs.map.entry.OccupiedEntry.remove_entry.Statement.{statement}
@@ -24,7 +15,7 @@ remove_entry_spec 𝓤 𝓛 𝓜 𝓡 wired X Y Z LX LY LZ h dh e de p dp o dt q
     let call = F.ended X Y Z h dh e de p dp o dt q dq g dg dd in let c = F.clauses X Y Z h dh e de p dp o dt q dq g dg dd 𝓛 𝓜.mem 𝓡.returns in
     let opens = Opens.ended X Y Z h dh e de p dp o dt q dq g dg dd in let puts = Puts.ended X Y Z o dt e de p dp q dq g dg dd in
     let stayed : Stays call.signature.params call.kept = (stay_dropped _ no, tt) in let W = walk_of 𝓛 call stayed c in let 𝓣 = tables 𝓤 𝓛.H 𝓜 𝓡 𝓡.env in let P = occupied X Y Z p o q g LX LY LZ in
-    proved_by 𝓛 call stayed c 𝓜 𝓡 (occupied_goes 𝓛 X Y Z p o q g 4 (named_lft 4 0 tt), tt)
+    proved_by 𝓛 call stayed c 𝓜 𝓡 (spent 𝓛 P 4 (named_lft 4 0 tt), tt)
     (F.Key.name args) (inst_fn args code.function) (code.unfolded 𝓤 𝓛.H 𝓜 𝓡 wired (X, (Y, (Z, tt))) dh de dp dt dq dg dd)
     (λ κs. (one_of 𝓛 (P.here_laws (named_lft 4 0 tt κs)), tt)) (λ κs qs bounds a _ us good.
     let y : W.Ghost = ((κs, qs, bounds, a, (us.0 ∷ [], tt)), tt) in let ℓ = named_lft 4 0 tt κs in let there = P.inner ℓ a.0 in
