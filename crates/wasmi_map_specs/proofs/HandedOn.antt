@@ -81,8 +81,8 @@ module _ {M : Type 1} {𝓤 : Ura M} (𝓛 : Logic 𝓤) where
 
   module _ (alive : SProp 𝓤) (R : RattleType) where
     -- the tokens, what the first parameter and the others own, and the facts
-    abbrev pub Entered : SProp 𝓤 → Fml → R.Denot → Val → SProp 𝓤
-    Entered req others x v = sep 𝓤 (sep 𝓤 alive (sem 𝓛 (fsep (R.own_val x (v ∷ [])) others))) req
+    abbrev pub Entered : SProp 𝓤 → Fml → R.Denot → List Val → SProp 𝓤
+    Entered req others x us = sep 𝓤 (sep 𝓤 alive (sem 𝓛 (fsep (R.own_val x us) others))) req
 
     -- a call's answer, with what is said of it
     abbrev pub Answered : {W : Type 0} → (R.Denot → W → SProp 𝓤) → Val → SProp 𝓤
@@ -91,12 +91,11 @@ module _ {M : Type 1} {𝓤 : Ura M} (𝓛 : Logic 𝓤) where
   -- the call rule where the caller keeps the facts, and has the answer with what is said of it
   module _ {K : Type 0} {Γ : List (Item 𝓤)} {C : Calls 𝓤 H} {Λ : Loops 𝓤 H} {env : Env 𝓤 H} {d : Place} {more : Body} {q : Post 𝓤 H} {f : Callee} {xs : List Opd} where
     pub calls_on : K → FmC 𝓤 H 𝓛.laws C → {alive req : SProp 𝓤} → ent 𝓤 req (sep 𝓤 req req) → (R R' : RattleType) (others : Fml) (x : R.Denot) (us vs : List Val) {W : Type 0} (E : R'.Denot → W → Item 𝓤)
-        → ent 𝓤 (sep 𝓤 (sep 𝓤 alive (sem 𝓛 (fsep (R.own_val x us) others))) req) (C f vs (Answered alive R' (λ r ws. mean 𝓛 (E r ws))))
-        → Opds K 𝓛 (raw (sep 𝓤 (sep 𝓤 alive (sem 𝓛 (fsep (R.own_val x us) others))) req) ∷ raw req ∷ Γ) env xs vs
+        → ent 𝓤 (Entered alive R req others x us) (C f vs (Answered alive R' (λ r ws. mean 𝓛 (E r ws)))) → Opds K 𝓛 (raw (Entered alive R req others x us) ∷ raw req ∷ Γ) env xs vs
         → ((v : Val) (r : R'.Denot) (ws : W) → Is R' r (v ∷ []) → Seq K 𝓛 (E r ws ∷ ‵ (R'.own_val r (v ∷ [])) ∷ raw alive ∷ raw req ∷ Γ) (lands C Λ env d v more q))
         → Seq K 𝓛 (raw alive ∷ ‵ (R.own_val x us) ∷ ‵ others ∷ raw req ∷ Γ) (runs C Λ env (seq (call f xs d) more) q)
     calls_on t fm {alive} {req} twice R R' others x us vs {W} E met reads then =
-        let P : SProp 𝓤 = sep 𝓤 (sep 𝓤 alive (sem 𝓛 (fsep (R.own_val x us) others))) req in
+        let P = Entered alive R req others x us in
         move t (1 ∷ 2 ∷ []) $ fjoin t $ move t (1 ∷ 0 ∷ []) $ join t $ move t (1 ∷ []) $ use1 𝓛 (raw req ⊛ raw req) twice $ split t $ move t (2 ∷ 0 ∷ []) $ use2 𝓛 (raw P) (id⊢ 𝓤 P) $
         calls_from t fm (raw P) vs (Answered alive R' (λ r ws. mean 𝓛 (E r ws))) met reads (λ v.
         use1 𝓛 (later (some (λ (r : R'.Denot). (raw alive ⊛ ‵ (R'.own_val r (v ∷ []))) ⊛ some (λ (ws : W). E r ws)))) (id⊢ 𝓤 _) $ await t tt $ pick t (λ r. split t $ split t $
@@ -123,24 +122,6 @@ module _ {M : Type 1} {𝓤 : Ura M} (𝓛 : Logic 𝓤) where
         qed 𝓛 (‵ (fsep (said ws) ftrue) ∷ raw (facts 𝓤 (φs r) (sep 𝓤 (fact 𝓤 (φ r)) (fact 𝓤 (ψ ws)))) ∷ []) ∵ fsplit ! $ move ! (2 ∷ []) $ use1 𝓛 (raw (facts 𝓤 (φs r) (fact 𝓤 (φ r))) ⊛ raw (fact 𝓤 (ψ ws))) (apart 𝓤 (φs r) (fact 𝓤 (φ r)) (fact 𝓤 (ψ ws))) $
         split ! $ move ! (1 ∷ []) $ heard ! _ (λ is. move ! (1 ∷ []) $ use1 𝓛 (‵ Q) (go ws is) $ keep ! (0 ∷ 1 ∷ []) $ done !)) u typed leave
 
-    module _ (Inner V : RattleType) (κ : Lft) (γ : GName) (F : V.Denot → Inner.Denot) (last : Inner.Denot) (φ : MutBor V.Denot → Type 0) where
-      abbrev Lent : RattleType
-      Lent = MutRef (named 0) κ V
-
-      -- the loan goes on, in an `Ok`
-      abbrev Says : MutBor V.Denot → SProp 𝓤
-      Says t = sep 𝓤 (sem 𝓛 (follows_if Inner V γ (name t.ghost_name) F last)) (sep 𝓤 (fact 𝓤 (φ t)) (fact 𝓤 (IsOk {E = ArenaError} (Ok t))))
-
-      lends_ok : {W : Type 0} (L : W → Fml) (u : Val) {P : SProp 𝓤}
-          → ((t : MutBor V.Denot) → ent 𝓤 (sep 𝓤 alive (sep 𝓤 (sem 𝓛 (let_go n)) (sep 𝓤 (sem 𝓛 ((ResultType.the_row Lent ErrorType.the_row).own_val (Ok t) (ok_val u ∷ []))) (Says t)))) P)
-          → ent 𝓤 (Answered alive Lent {W = W} (λ t ws. sep 𝓤 (sem 𝓛 (L ws)) (sep 𝓤 (sem 𝓛 (follows Inner V γ t.ghost_name F)) (fact 𝓤 (φ t)))) u) (H.⇛ (sep 𝓤 (fact 𝓤 (IsPtr u)) P))
-      lends_ok L u leave = answers Lent (λ t ws. sep 𝓤 (sem 𝓛 (L ws)) (sep 𝓤 (sem 𝓛 (follows Inner V γ t.ghost_name F)) (fact 𝓤 (φ t)))) Says
-          (λ t ws. qed 𝓛 ((‵ (L ws) ⊛ ‵ (follows Inner V γ t.ghost_name F) ⊛ raw (fact 𝓤 (φ t))) ∷ []) ∵ split ! $ drop ! $ split ! $
-          use1 𝓛 (‵ (follows_if Inner V γ (name t.ghost_name) F last)) (lent_there 𝓛 Inner V γ t.ghost_name F last) $
-          use0 𝓛 (raw (fact 𝓤 (IsOk {E = ArenaError} (Ok t)))) (fact_i 𝓤 _ (emp 𝓤) refl) $ move ! (1 ∷ 2 ∷ 0 ∷ []) $ done !)
-          u (λ t is. told κ V t u is)
-          (λ t. via 𝓤 _ (mono_r 𝓤 alive (mono_r 𝓤 (sem 𝓛 (let_go n)) (mono_l 𝓤 (Says t) (ok_of 𝓛 Lent ErrorType.the_row t u)))) (leave t))
-
   module _ (C : Calls 𝓤 H) (fm : FmC 𝓤 H 𝓛.laws C) (Λ : Loops 𝓤 H) (P : PlaceRow) (ℓ : NamedLft) (x : (P.Here ℓ).Denot) (b : Val) where
     abbrev Here : RattleType
     Here = P.Here ℓ
@@ -153,12 +134,12 @@ module _ {M : Type 1} {𝓤 : Ura M} (𝓛 : Logic 𝓤) where
 
     -- the first call makes of x what the standard library has of it
     module _ {f : Callee} {alive alive₁ req req₁ : SProp 𝓤} (within : Within 𝓤 alive alive₁ req req₁) {W₁ : Type 0} (L₁ : W₁ → Fml)
-        (makes : ent 𝓤 (Entered alive₁ Here req₁ ftrue x b) (C f (b ∷ []) (Answered alive₁ There {W = W₁} (λ r ws. sep 𝓤 (sem 𝓛 (L₁ ws)) (fact 𝓤 (r ≡ y)))))) (others : Fml) where
+        (makes : ent 𝓤 (Entered alive₁ Here req₁ ftrue x (b ∷ [])) (C f (b ∷ []) (Answered alive₁ There {W = W₁} (λ r ws. sep 𝓤 (sem 𝓛 (L₁ ws)) (fact 𝓤 (r ≡ y)))))) (others : Fml) where
       abbrev Before : SProp 𝓤
-      Before = Entered alive Here req others x b
+      Before = Entered alive Here req others x (b ∷ [])
 
       abbrev After : Val → SProp 𝓤
-      After = Entered alive There req others y
+      After v = Entered alive There req others y (v ∷ [])
 
       abbrev Made : Val → SProp 𝓤
       Made = Answered alive₁ There {W = W₁} (λ r ws. sep 𝓤 (sem 𝓛 (L₁ ws)) (fact 𝓤 (r ≡ y)))
@@ -210,19 +191,29 @@ module _ {M : Type 1} {𝓤 : Ura M} (𝓛 : Logic 𝓤) where
         abbrev Value : RattleType
         Value = MutRef (named 0) κ P.Value
 
-        -- what the second call lends, and what is left to show of the function
+        -- what the second call lends
         abbrev Goes_on : MutBor P.Value.Denot → SProp 𝓤
         Goes_on t = sep 𝓤 (sem 𝓛 (follows P.Map P.Value (P.name_of ℓ y) t.ghost_name (P.map_with ℓ y))) (fact 𝓤 (φ t))
 
         abbrev Lends : Val → SProp 𝓤
         Lends = Answered alive Value {W = W} (λ t ws. sep 𝓤 (sem 𝓛 (L ws)) (Goes_on t))
 
+        -- the same in an `Ok`
+        abbrev Goes_out : MutBor P.Value.Denot → SProp 𝓤
+        Goes_out t = sep 𝓤 (sem 𝓛 (follows_if P.Map P.Value (P.name_of ℓ y) (name t.ghost_name) (P.map_with ℓ y) (P.map_of ℓ y))) (sep 𝓤 (fact 𝓤 (φ t)) (fact 𝓤 (IsOk {E = ArenaError} (Ok t))))
+
+        goes_out : (t : MutBor P.Value.Denot) (ws : W) → ent 𝓤 (sep 𝓤 (sem 𝓛 (L ws)) (Goes_on t)) (Goes_out t)
+        goes_out t ws =
+            qed 𝓛 ((‵ (L ws) ⊛ ‵ (follows P.Map P.Value (P.name_of ℓ y) t.ghost_name (P.map_with ℓ y)) ⊛ raw (fact 𝓤 (φ t))) ∷ []) ∵ split ! $ drop ! $ split ! $
+            use1 𝓛 (‵ (follows_if P.Map P.Value (P.name_of ℓ y) (name t.ghost_name) (P.map_with ℓ y) (P.map_of ℓ y))) (lent_there 𝓛 P.Map P.Value (P.name_of ℓ y) t.ghost_name (P.map_with ℓ y) (P.map_of ℓ y)) $
+            use0 𝓛 (raw (fact 𝓤 (IsOk {E = ArenaError} (Ok t)))) (fact_i 𝓤 _ (emp 𝓤) refl) $ move ! (1 ∷ 2 ∷ 0 ∷ []) $ done !
+
         abbrev Leaves : (Val → SProp 𝓤) → Type 1
-        Leaves Kf = (u : Val) (t : MutBor P.Value.Denot) → ent 𝓤 (sep 𝓤 alive (sep 𝓤 (sem 𝓛 (let_go n)) (sep 𝓤 (sem 𝓛 ((ResultType.the_row Value ErrorType.the_row).own_val (Ok t) (ok_val u ∷ [])))
-            (sep 𝓤 (sem 𝓛 (follows_if P.Map P.Value (P.name_of ℓ y) (name t.ghost_name) (P.map_with ℓ y) (P.map_of ℓ y))) (sep 𝓤 (fact 𝓤 (φ t)) (fact 𝓤 (IsOk {E = ArenaError} (Ok t)))))))) (Kf (ok_val u))
+        Leaves Kf = (u : Val) (t : MutBor P.Value.Denot) → ent 𝓤 (sep 𝓤 alive (sep 𝓤 (sem 𝓛 (let_go n)) (sep 𝓤 (sem 𝓛 ((ResultType.the_row Value ErrorType.the_row).own_val (Ok t) (ok_val u ∷ []))) (Goes_out t)))) (Kf (ok_val u))
 
         ends_so : (Kf : Val → SProp 𝓤) → Leaves Kf → (u : Val) → ent 𝓤 (Lends u) (H.⇛ (sep 𝓤 (fact 𝓤 (IsPtr u)) (Kf (ok_val u))))
-        ends_so Kf leave u = lends_ok alive n P.Map P.Value κ (P.name_of ℓ y) (P.map_with ℓ y) (P.map_of ℓ y) φ L u (leave u)
+        ends_so Kf leave u = answers alive n Value (λ t ws. sep 𝓤 (sem 𝓛 (L ws)) (Goes_on t)) Goes_out goes_out u (λ t is. told κ P.Value t u is)
+            (λ t. via 𝓤 _ (mono_r 𝓤 alive (mono_r 𝓤 (sem 𝓛 (let_go n)) (mono_l 𝓤 (Goes_out t) (ok_of 𝓛 Value ErrorType.the_row t u)))) (leave u t))
 
         module _ {K : Type 0} {g : Callee} {τ₀ τ₁ τ₂ τ₃ : Ty} {h₀ h₁ h₂ h₃ : Home} {Kf : Val → SProp 𝓤} where
           -- of one parameter, with no `Ok`

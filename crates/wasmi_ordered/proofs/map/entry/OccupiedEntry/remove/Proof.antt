@@ -1,6 +1,6 @@
 -- `remove` leaves the inner map without the key. Assumes `Logic`.
-use Rattle.std.specs.contracts.collections.btree_map.OccupiedEntry.remove as Puts
-use Rattle.std.proofs.collections.btree_map.OccupiedEntry.remove.Met as Put
+use Rattle.std.specs.contracts.collections.btree_map.OccupiedEntry.remove as Calls
+use Rattle.std.proofs.collections.btree_map.OccupiedEntry.remove.Met as Called
 use Rattle.wasmi_map_specs.proofs.Walk.{◌≡◌, [], ◌∷◌, leaves, Some, ftrue, toks, tables, yes, no, rest, see, left, bounded, layout, param, param_laws, named_lft, lasts, Lasts, framed, Stays, walk_of, stay_dropped, inst_fn, Args, a_type, dcons, dnil, raw, ◌$◌, ◌∵◌, !, qed, enter, hands, takes, spent, Good, proved_by, typed_of, one_of, all_of}
 use Rattle.wasmi_ordered.specs.contracts.map.entry.OccupiedEntry.into_inner as Opens
 use Rattle.wasmi_ordered.specs.contracts.map.entry.OccupiedEntry.remove as F
@@ -13,7 +13,7 @@ pub remove_spec : {M : Type 1} → statement M
 remove_spec 𝓤 𝓛 𝓜 𝓡 wired X Y Z LX LY LZ h dh e de p dp o dt q dq g dg dd dk mh me mp mo mq mg md mk =
     let args : Args = bounded (a_type ∷ a_type ∷ a_type ∷ []) (X, (Y, (Z, tt))) (dcons dh (dcons de (dcons dp (dcons dt (dcons dq (dcons dg (dcons dd (dcons dk dnil)))))))) in
     let call = F.ended X Y Z h dh e de p dp o dt q dq g dg dd dk in let c = F.clauses X Y Z h dh e de p dp o dt q dq g dg dd dk 𝓛 𝓜.mem 𝓡.returns in
-    let opens = Opens.ended X Y Z h dh e de p dp o dt q dq g dg dd in let puts = Puts.ended X Y Z o dt e de p dp q dq g dg dd dk in
+    let opens = Opens.ended X Y Z h dh e de p dp o dt q dq g dg dd in let calls = Calls.ended X Y Z o dt e de p dp q dq g dg dd dk in
     let stayed : Stays call.signature.params call.kept = (stay_dropped _ no, tt) in let W = walk_of 𝓛 call stayed c in let 𝓣 = tables 𝓤 𝓛.H 𝓜 𝓡 𝓡.env in let P = occupied X Y Z p o q g LX LY LZ in
     proved_by 𝓛 call stayed c 𝓜 𝓡 (spent 𝓛 P 4 (named_lft 4 0 tt), tt)
     (F.Key.name args) (inst_fn args code.function) (code.unfolded 𝓤 𝓛.H 𝓜 𝓡 wired (X, (Y, (Z, tt))) dh de dp dt dq dg dd dk)
@@ -24,7 +24,7 @@ remove_spec 𝓤 𝓛 𝓜 𝓡 wired X Y Z LX LY LZ h dh e de p dp o dt q dq g 
     (all_of 𝓤 (toks 𝓛 4 κs qs) (alive_in X Y Z κs))
     (lasts opens κs (a.0, tt)) (Opened.met 𝓤 𝓛 𝓜 𝓡 (code.calls-wasmi_ordered::map::entry::OccupiedEntry::into_inner 𝓡.env wired) X Y Z LX LY LZ h dh e de p dp o dt q dq g dg dd mh me mp mo mq mg md ((κs, qs, bounds, (a.0, tt), (us.0 ∷ [], tt)), tt))
     ftrue ! good.0 good.0 (λ v ok. ok)
-    (λ v. Put.met 𝓤 𝓛 𝓜 𝓡 (code.calls-std::collections::btree_map::OccupiedEntry::remove 𝓡.env wired) X Y Z LX LY LZ o dt e de p dp q dq g dg dd dk mo me mp mq mg md mk ((κs, qs, bounds, (there, a.1), (v ∷ [], tt)), tt))
+    (λ v. Called.met 𝓤 𝓛 𝓜 𝓡 (code.calls-std::collections::btree_map::OccupiedEntry::remove 𝓡.env wired) X Y Z LX LY LZ o dt e de p dp q dq g dg dd dk mo me mp mq mg md mk ((κs, qs, bounds, (there, a.1), (v ∷ [], tt)), tt))
     (Good (layout (param 1 Y))) (λ u ok. ok)
-    (λ v u. takes 𝓛 (toks 𝓛 4 κs qs) 1 (param 1 Y) {W = Lasts puts κs (there, tt)} (λ ws. left ((P.There ℓ).exit yes) there ws.0) (λ r. []) (λ r. entry_value (Occupied there) ≡ Some r) (λ ws. IsUnchanged (map_without_entry (Occupied there)) ((see ((P.There ℓ).exit yes) there ws.0).0.now))
+    (λ v u. takes 𝓛 (toks 𝓛 4 κs qs) 1 (param 1 Y) {W = Lasts calls κs (there, tt)} (λ ws. left ((P.There ℓ).exit yes) there ws.0) (λ r. []) (λ r. entry_value (Occupied there) ≡ Some r) (λ ws. IsUnchanged (map_without_entry (Occupied there)) ((see ((P.There ℓ).exit yes) there ws.0).0.now))
     (inner_without (param 0 X) (param 1 Y) (param 2 Z) g (Occupied there)) (λ ws. goes_without 𝓛 (param 0 X) (param 1 Y) (param 2 Z) o p q g ℓ there ws.0) u (λ r is. (typed_of 𝓛 (param_laws 1 Y LY) r (u ∷ []) is).0) (λ r. leaves 𝓛 call stayed c y u r (rest ((P.Here ℓ).exit no) a.0, tt) (tt, tt))))
