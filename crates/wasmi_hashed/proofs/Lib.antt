@@ -4,5 +4,4 @@ mod Places
 mod Rows
 mod Values
 mod Drains
-mod Ended
 mod HeldMemory

@@ -1,9 +1,8 @@
--- Places, as `HandedOn.antt` takes them, and the names that walks on them cite. Assumes `Logic`.
-pub use Rattle.std.specs.HashMap.{IsUnchanged}
+-- Places, as `HandedOn.antt` takes them, what one leaves that is used up, and the names that walks on them cite. Assumes `Logic`.
+pub use Rattle.std.specs.HashMap.{HashMap, IsUnchanged}
 pub use Rattle.std.specs.HashMap.Entry.{entry_key, entry_map_ref, entry_value, map_with_value, map_without_entry, with_entry_value, IsWritten}
 pub use Rattle.std.specs.declared.collections.hash_map.Entry.TheVariants.{Occupied, Vacant}
 pub use Rattle.wasmi_hashed.specs.MapEntry.{place, with_value, IsPlaceOf, IsOfInner, map_of, inner_rests, inner_without, inner_stays}
-pub use Rattle.wasmi_hashed.proofs.Ended.{goes_without, comes_back}
 use Rattle.std.specs.declared.alloc.Allocator as alloc
 use Rattle.std.specs.declared.cmp.PartialEq as eq
 use Rattle.std.specs.declared.hash.Hash as hash
@@ -25,15 +24,19 @@ use Rattle.wasmi_hashed.proofs.map.entry.Entry.TheLaws as EntryLaws
 use Rattle.wasmi_hashed.proofs.map.entry.OccupiedEntry.TheLaws as HeldLaws
 use Rattle.wasmi_hashed.proofs.map.entry.VacantEntry.TheLaws as FreeLaws
 use Rattle.wasmi_map_specs.proofs.HandedOn.{PlaceRow}
-use Rattle.wasmi_map_specs.proofs.Walk.{‵, ◌$◌, ◌∵◌, ◌∷◌, [], !, ◌⊑◌, done, emp, fjoin, gone, left, let_go, move, no, nothing, param, param_laws, qed, use0}
+use Rattle.wasmi_map_specs.proofs.Walk.{‵, ◌$◌, ◌∵◌, ◌∷◌, [], !, ◌⊑◌, done, emp, fjoin, gone, left, let_go, move, no, nothing, param, param_laws, qed, use0, ◌≡◌, keep, named, see, yes, at, refl, rewrite}
+use base.Fml.{fres}
 use base.Logic.{ent}
 use contract.Lifetimes.{Lfts}
 use denote.Exit.{Last}
+use denote.Follow.{follows_by, such_by}
 use denote.Param.Laws.{Laws}
 use denote.RattleType.{RattleType}
 use denote.Ref.{NamedLft}
 use mathlib.Core.List.{List}
+use mathlib.Core.Option.{none}
 use seplogic.Ra.Ura.{Ura}
+use types.Kit.{fpack, fsplit}
 use types.Logic.{Logic, sem}
 
 module _ (X Y S Z N : RattleType) (p : eq.Ghosts X.Denot) (h : hash.Ghosts X.Denot) (s : builder.Ghosts S.Denot N.Denot) (n : hasher.Ghosts N.Denot) (g : alloc.Ghosts Z.Denot)
@@ -87,3 +90,33 @@ module _ (X Y S Z N : RattleType) (p : eq.Ghosts X.Denot) (h : hash.Ghosts X.Den
 -- the lifetimes after the first are those of the type arguments
 abbrev pub alive_in : (X Y S Z N : RattleType) → Lfts 6 → List (Type 0)
 alive_in X Y S Z N κs = (κs.1.0 ⊑ X.lives) ∷ (κs.1.1.0 ⊑ Y.lives) ∷ (κs.1.1.1.0 ⊑ S.lives) ∷ (κs.1.1.1.1.0 ⊑ Z.lives) ∷ (κs.1.1.1.1.1.0 ⊑ N.lives) ∷ []
+
+-- what a place leaves that is used up
+module _ {M : Type 1} {𝓤 : Ura M} (𝓛 : Logic 𝓤) (K V S A H : RattleType)
+    (p : eq.Ghosts K.Denot) (h : hash.Ghosts K.Denot) (s : builder.Ghosts S.Denot H.Denot) (n : hasher.Ghosts H.Denot) (g : alloc.Ghosts A.Denot) where
+  abbrev Unused : NamedLft → RattleType
+  Unused ℓ = TableFree.the_row ℓ K V S A H p h s n g
+
+  -- the table comes back as it is where the place is gone
+  pub comes_back : (ℓ : NamedLft) → let T = Unused (record { mir = named 0; lft = ℓ.lft }) in (x : T.Denot) (w : Last (T.exit (at (0 ∷ []))) x)
+      → (see (T.exit (at (0 ∷ []))) x w).0.now ≡ (entry_map_ref (Vacant x)).now
+      → ent 𝓤 (sem 𝓛 (left (T.exit (at (0 ∷ []))) x w)) (sem 𝓛 (inner_stays K V S A H g (Vacant x)))
+  unfolding follows_by
+  comes_back ℓ x w same =
+      let T = Unused (record { mir = named 0; lft = ℓ.lft }) in let Inner = MapRow K V S A H p h s n g in
+      qed 𝓛 (‵ (left (T.exit (at (0 ∷ []))) x w) ∷ []) ∵ fsplit ! $ fsplit ! $ keep ! (0 ∷ []) $
+      rewrite ! 0 (λ (now : HashMap K.Denot V.Denot S.Denot). ‵ (fres (entry_map_ref (Vacant x)).ghost_name (Inner.coded.code now))) same refl $ done !
+
+  abbrev Used : NamedLft → RattleType
+  Used ℓ = TableHeld.the_row ℓ K V S A H p h s n g
+
+  -- the table comes back without the key
+  pub goes_without : (ℓ : NamedLft) → let T = Used (record { mir = named 0; lft = ℓ.lft }) in (x : T.Denot) (w : Last (T.exit yes) x)
+      → IsUnchanged (map_without_entry (Occupied x)) (see (T.exit yes) x w).0.now
+      → ent 𝓤 (sem 𝓛 (left (T.exit yes) x w)) (sem 𝓛 (inner_without K V S A H g (Occupied x)))
+  unfolding such_by follows_by
+  goes_without ℓ x w without =
+      let T = Used (record { mir = named 0; lft = ℓ.lft }) in let Inner = MapRow K V S A H p h s n g in let last = (see (T.exit yes) x w).0.now in
+      qed 𝓛 (‵ (left (T.exit yes) x w) ∷ []) ∵ fsplit ! $ fsplit ! $ keep ! (0 ∷ []) $
+      fpack ! ((f : (V.Denot → HashMap K.Denot V.Denot S.Denot) × HashMap K.Denot V.Denot S.Denot) × (V.Denot → Unit {0}) × IsUnchanged (map_without_entry (Occupied x)) f.1)
+      (λ f. follows_by Inner.Denot V.Denot Inner.coded.code V.coded.code (entry_map_ref (Occupied x)).ghost_name none f.0.0 f.0.1) (((λ _. last), last), (λ _. tt), without) $ done !

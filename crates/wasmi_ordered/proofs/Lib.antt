@@ -1,4 +1,3 @@
-mod Ended
 mod HeldMemory
 mod LentTree
 mod MapMemory

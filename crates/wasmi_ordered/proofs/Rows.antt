@@ -1,9 +1,8 @@
--- Places, as `HandedOn.antt` takes them, and the names that walks on them cite. Assumes `Logic`.
-pub use Rattle.std.specs.BTreeMap.{IsUnchanged}
+-- Places, as `HandedOn.antt` takes them, what one leaves that is used up, and the names that walks on them cite. Assumes `Logic`.
+pub use Rattle.std.specs.BTreeMap.{BTreeMap, IsUnchanged}
 pub use Rattle.std.specs.BTreeMap.Entry.{entry_key, entry_map_ref, entry_value, map_with_value, map_without_entry, with_entry_value, IsWritten}
 pub use Rattle.std.specs.declared.collections.btree_map.Entry.TheVariants.{Occupied, Vacant}
 pub use Rattle.wasmi_ordered.specs.MapEntry.{place, with_value, IsPlaceOf, IsOfInner, inner_rests, inner_without}
-pub use Rattle.wasmi_ordered.proofs.Ended.{goes_without}
 use Rattle.std.specs.declared.alloc.Allocator as alloc
 use Rattle.std.specs.declared.cmp.Ord as ord
 use Rattle.std.specs.declared.cmp.PartialEq as eq
@@ -24,15 +23,18 @@ use Rattle.wasmi_ordered.proofs.map.entry.Entry.TheLaws as EntryLaws
 use Rattle.wasmi_ordered.proofs.map.entry.OccupiedEntry.TheLaws as HeldLaws
 use Rattle.wasmi_ordered.proofs.map.entry.VacantEntry.TheLaws as FreeLaws
 use Rattle.wasmi_map_specs.proofs.HandedOn.{PlaceRow}
-use Rattle.wasmi_map_specs.proofs.Walk.{‵, ◌$◌, ◌∵◌, ◌∷◌, [], !, ◌⊑◌, done, emp, fjoin, gone, left, let_go, move, no, nothing, param, param_laws, qed, use0}
+use Rattle.wasmi_map_specs.proofs.Walk.{‵, ◌$◌, ◌∵◌, ◌∷◌, [], !, ◌⊑◌, done, emp, fjoin, gone, left, let_go, move, no, nothing, param, param_laws, qed, use0, keep, named, see, yes}
 use base.Logic.{ent}
 use contract.Lifetimes.{Lfts}
 use denote.Exit.{Last}
+use denote.Follow.{follows_by, such_by}
 use denote.Param.Laws.{Laws}
 use denote.RattleType.{RattleType}
 use denote.Ref.{NamedLft}
 use mathlib.Core.List.{List}
+use mathlib.Core.Option.{none}
 use seplogic.Ra.Ura.{Ura}
+use types.Kit.{fpack, fsplit}
 use types.Logic.{Logic, sem}
 
 module _ (X Y Z : RattleType) (p : eq.Ghosts X.Denot) (o : ord.Ghosts X.Denot) (q : partial.Ghosts X.Denot) (g : alloc.Ghosts Z.Denot) (LX : Laws X) (LY : Laws Y) (LZ : Laws Z) where
@@ -85,3 +87,20 @@ module _ (X Y Z : RattleType) (p : eq.Ghosts X.Denot) (o : ord.Ghosts X.Denot) (
 -- the lifetimes after the first are those of the type arguments
 abbrev pub alive_in : (X Y Z : RattleType) → Lfts 4 → List (Type 0)
 alive_in X Y Z κs = (κs.1.0 ⊑ X.lives) ∷ (κs.1.1.0 ⊑ Y.lives) ∷ (κs.1.1.1.0 ⊑ Z.lives) ∷ []
+
+-- what a place leaves that is used up
+module _ {M : Type 1} {𝓤 : Ura M} (𝓛 : Logic 𝓤) (K V A : RattleType)
+    (o : ord.Ghosts K.Denot) (p : eq.Ghosts K.Denot) (q : partial.Ghosts K.Denot) (g : alloc.Ghosts A.Denot) where
+  abbrev Used : NamedLft → RattleType
+  Used ℓ = TreeHeld.the_row ℓ K V A o p q g
+
+  -- the tree comes back without the key
+  pub goes_without : (ℓ : NamedLft) → let T = Used (record { mir = named 0; lft = ℓ.lft }) in (x : T.Denot) (w : Last (T.exit yes) x)
+      → IsUnchanged (map_without_entry (Occupied x)) (see (T.exit yes) x w).0.now
+      → ent 𝓤 (sem 𝓛 (left (T.exit yes) x w)) (sem 𝓛 (inner_without K V A g (Occupied x)))
+  unfolding such_by follows_by
+  goes_without ℓ x w without =
+      let T = Used (record { mir = named 0; lft = ℓ.lft }) in let Inner = MapRow K V A o p q g in let last = (see (T.exit yes) x w).0.now in
+      qed 𝓛 (‵ (left (T.exit yes) x w) ∷ []) ∵ fsplit ! $ fsplit ! $ keep ! (0 ∷ []) $
+      fpack ! ((f : (V.Denot → BTreeMap K.Denot V.Denot) × BTreeMap K.Denot V.Denot) × (V.Denot → Unit {0}) × IsUnchanged (map_without_entry (Occupied x)) f.1)
+      (λ f. follows_by Inner.Denot V.Denot Inner.coded.code V.coded.code (entry_map_ref (Occupied x)).ghost_name none f.0.0 f.0.1) (((λ _. last), last), (λ _. tt), without) $ done !
