@@ -23,8 +23,8 @@ use Rattle.wasmi_hashed.specs.contracts.map.entry.VacantEntry as FreeType
 use Rattle.wasmi_hashed.proofs.map.entry.Entry.TheLaws as EntryLaws
 use Rattle.wasmi_hashed.proofs.map.entry.OccupiedEntry.TheLaws as HeldLaws
 use Rattle.wasmi_hashed.proofs.map.entry.VacantEntry.TheLaws as FreeLaws
-use Rattle.wasmi_map_specs.proofs.HandedOn.{PlaceRow}
-use Rattle.wasmi_map_specs.proofs.Walk.{‵, ◌$◌, ◌∵◌, ◌∷◌, [], !, ◌⊑◌, done, emp, fjoin, gone, left, let_go, move, no, nothing, param, param_laws, qed, use0, ◌≡◌, keep, named, see, yes, at, refl, rewrite}
+use Rattle.wasmi_map_specs.proofs.HandedOn.{PlaceRow, LeavesNone}
+use Rattle.wasmi_map_specs.proofs.Walk.{‵, ◌$◌, ◌∵◌, ◌∷◌, [], !, ◌⊑◌, done, fjoin, gone, left, let_go, move, nothing, param, param_laws, qed, use0, ◌≡◌, keep, named, see, yes, at, refl, rewrite}
 use base.Fml.{fres}
 use base.Logic.{ent}
 use contract.Lifetimes.{Lfts}
@@ -42,22 +42,18 @@ use types.Logic.{Logic, sem}
 module _ (X Y S Z N : RattleType) (p : eq.Ghosts X.Denot) (h : hash.Ghosts X.Denot) (s : builder.Ghosts S.Denot N.Denot) (n : hasher.Ghosts N.Denot) (g : alloc.Ghosts Z.Denot)
     (LX : Laws X) (LY : Laws Y) (LS : Laws S) (LZ : Laws Z) (LN : Laws N) where
   -- nothing is left of a place that is handed on
-  pub entry_none : (M : Type 1) (𝓤 : Ura M) (𝓛 : Logic 𝓤) (ℓ : NamedLft) (x : (EntryType.the_row ℓ (param 0 X) (param 1 Y) (param 2 S) (param 3 Z) (param 4 N) p h s n g).Denot) (f : Last ((EntryType.the_row ℓ (param 0 X) (param 1 Y) (param 2 S) (param 3 Z) (param 4 N) p h s n g).exit no) x)
-      → ent 𝓤 (emp 𝓤) (sem 𝓛 (left ((EntryType.the_row ℓ (param 0 X) (param 1 Y) (param 2 S) (param 3 Z) (param 4 N) p h s n g).exit no) x f))
+  pub entry_none : LeavesNone (λ ℓ. EntryType.the_row ℓ (param 0 X) (param 1 Y) (param 2 S) (param 3 Z) (param 4 N) p h s n g)
   entry_none M 𝓤 𝓛 ℓ (Held x) f = qed 𝓛 [] ∵ nothing ! $ nothing ! $ nothing ! $ nothing ! $ fjoin ! $ fjoin ! $ fjoin ! $ done !
   entry_none M 𝓤 𝓛 ℓ (Free x) f = qed 𝓛 [] ∵ use0 𝓛 (‵ (let_go 4)) (gone 𝓛 4) $ nothing ! $ move ! (1 ∷ 0 ∷ []) $ fjoin ! $ nothing ! $ move ! (1 ∷ 0 ∷ []) $ fjoin ! $ done !
 
-  pub occupied_none : (M : Type 1) (𝓤 : Ura M) (𝓛 : Logic 𝓤) (ℓ : NamedLft) (x : (HeldType.the_row ℓ (param 0 X) (param 1 Y) (param 2 S) (param 3 Z) (param 4 N) p h s n g).Denot) (f : Last ((HeldType.the_row ℓ (param 0 X) (param 1 Y) (param 2 S) (param 3 Z) (param 4 N) p h s n g).exit no) x)
-      → ent 𝓤 (emp 𝓤) (sem 𝓛 (left ((HeldType.the_row ℓ (param 0 X) (param 1 Y) (param 2 S) (param 3 Z) (param 4 N) p h s n g).exit no) x f))
+  pub occupied_none : LeavesNone (λ ℓ. HeldType.the_row ℓ (param 0 X) (param 1 Y) (param 2 S) (param 3 Z) (param 4 N) p h s n g)
   occupied_none M 𝓤 𝓛 ℓ x f = qed 𝓛 [] ∵ nothing ! $ nothing ! $ nothing ! $ fjoin ! $ fjoin ! $ done !
 
-  pub vacant_none : (M : Type 1) (𝓤 : Ura M) (𝓛 : Logic 𝓤) (ℓ : NamedLft) (x : (FreeType.the_row ℓ (param 0 X) (param 1 Y) (param 2 S) (param 3 Z) (param 4 N) p h s n g).Denot) (f : Last ((FreeType.the_row ℓ (param 0 X) (param 1 Y) (param 2 S) (param 3 Z) (param 4 N) p h s n g).exit no) x)
-      → ent 𝓤 (emp 𝓤) (sem 𝓛 (left ((FreeType.the_row ℓ (param 0 X) (param 1 Y) (param 2 S) (param 3 Z) (param 4 N) p h s n g).exit no) x f))
+  pub vacant_none : LeavesNone (λ ℓ. FreeType.the_row ℓ (param 0 X) (param 1 Y) (param 2 S) (param 3 Z) (param 4 N) p h s n g)
   vacant_none M 𝓤 𝓛 ℓ x f = qed 𝓛 [] ∵ use0 𝓛 (‵ (let_go 4)) (gone 𝓛 4) $ nothing ! $ move ! (1 ∷ 0 ∷ []) $ fjoin ! $ done !
 
   abbrev made : (Here There : NamedLft → RattleType) → ((ℓ : NamedLft) → Laws (Here ℓ)) → ((ℓ : NamedLft) → Laws (There ℓ))
-      → ((M : Type 1) (𝓤 : Ura M) (𝓛 : Logic 𝓤) (ℓ : NamedLft) (x : (Here ℓ).Denot) (f : Last ((Here ℓ).exit no) x) → ent 𝓤 (emp 𝓤) (sem 𝓛 (left ((Here ℓ).exit no) x f)))
-      → ((ℓ : NamedLft) → (Here ℓ).Denot → (There ℓ).Denot) → ((ℓ : NamedLft) → (There ℓ).Denot → Place X.Denot Y.Denot S.Denot Z.Denot N.Denot p h s n) → PlaceRow
+      → LeavesNone Here → ((ℓ : NamedLft) → (Here ℓ).Denot → (There ℓ).Denot) → ((ℓ : NamedLft) → (There ℓ).Denot → Place X.Denot Y.Denot S.Denot Z.Denot N.Denot p h s n) → PlaceRow
   made Here There here_laws there_laws leaves_none inner as_entry = record {
     Here = Here;
     There = There;

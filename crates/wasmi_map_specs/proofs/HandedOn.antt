@@ -41,13 +41,17 @@ use types.Run.{Opds, of_opd, and_then, no_more, lit, returns}
 use Rattle.wasmi_map_specs.proofs.Handed.{ok_of, lent_there}
 use Rattle.wasmi_map_specs.proofs.Words.{Good, Within, typed_of, facts, apart}
 
+-- nothing is left of a value that is handed on
+abbrev pub LeavesNone : (NamedLft → RattleType) → Type 2
+LeavesNone Row = (M : Type 1) (𝓤 : Ura M) (𝓛 : Logic 𝓤) (ℓ : NamedLft) (x : (Row ℓ).Denot) (f : Last ((Row ℓ).exit no) x) → ent 𝓤 (emp 𝓤) (sem 𝓛 (left ((Row ℓ).exit no) x f))
+
 -- The place of a key: a row, of which nothing is left once it is used up, the standard library's row, the one made of the other, and what the map is that it lies in.
 pub record PlaceRow : Type 2 where
   pub Here : NamedLft → RattleType
   pub There : NamedLft → RattleType
   pub here_laws : (ℓ : NamedLft) → Laws (Here ℓ)
   pub there_laws : (ℓ : NamedLft) → Laws (There ℓ)
-  pub leaves_none : (M : Type 1) (𝓤 : Ura M) (𝓛 : Logic 𝓤) (ℓ : NamedLft) (x : (Here ℓ).Denot) (f : Last ((Here ℓ).exit no) x) → ent 𝓤 (emp 𝓤) (sem 𝓛 (left ((Here ℓ).exit no) x f))
+  pub leaves_none : LeavesNone Here
   pub inner : (ℓ : NamedLft) → (Here ℓ).Denot → (There ℓ).Denot
   pub Map : RattleType
   pub Value : RattleType
