@@ -1,8 +1,7 @@
 mod Same
 mod NewEntry
 mod Places
+mod Rows
 mod Values
-mod Gone
 mod Drains
-mod Ended
 mod HeldMemory

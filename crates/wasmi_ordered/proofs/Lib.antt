@@ -1,9 +1,8 @@
-mod Gone
-mod Ended
 mod HeldMemory
 mod LentTree
 mod MapMemory
 mod NewEntry
 mod Renamed
+mod Rows
 mod SameInOrder
 mod Values

@@ -1,5 +1,5 @@
 -- An entry whose key is new goes in among the others.
-use Rattle.std.proofs.Common.{◌≡◌, arith, length, cond, true≢false, List, [], ◌∷◌, Option, Some, None, is_some, Result, Ok, Err, OnOk, ap, sym, subst, Ordering, Less, Equal, Greater}
+use Rattle.std.proofs.Common.{◌≡◌, arith, length, cond, true≢false, List, [], ◌∷◌, Some, None, is_some, Result, Ok, Err, OnOk, ap, sym, subst, Ordering, Less, Equal, Greater}
 use Rattle.std.specs.BTreeMap.{insert_entry}
 use Rattle.std.specs.List.Sorted.{IsPermutation}
 use Rattle.std.specs.Map.{lookup}

@@ -1,5 +1,4 @@
-use Rattle.std.proofs.Common.{◌≡◌, sym, ap, ◌∙◌}
-use Rattle.std.proofs.lemmas.Map.Steps.{set_value_same}
+use Rattle.std.proofs.Common.{sym, ◌∙◌}
 use Rattle.wasmi_hashed.proofs.NewEntry.{written_again}
 use Rattle.wasmi_hashed.proofs.map.try_insert.put_new.Goals as goal
 

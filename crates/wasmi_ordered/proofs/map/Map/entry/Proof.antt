@@ -1,160 +1,73 @@
--- `entry` lends the inner map, and hands on what the inner map lends. Assumes `Logic`.
-use Rattle.std.proofs.Common.{◌≡◌, List, [], ◌∷◌, refl, sym, ap, ◌∙◌, subst, MutBor, None, Some}
-use Rattle.std.proofs.raw_atomic.Walks.{proved_at}
-use Rattle.std.specs.Prelude.{IfOk, IsSome, OnErr, IsOkUnless}
+-- `entry` hands on what the inner map's lends. Assumes `Logic`.
 use Rattle.std.specs.Ordering.{eq_by_cmp}
-use Rattle.std.specs.BTreeMap.{insert_entry}
-use Rattle.std.specs.BTreeMap.Entry.{entry_key, entry_map_ref, entry_value, map_with_value, map_without_entry, MatchEntry}
-use Rattle.std.specs.Map.{lookup_key, remove_entry}
-use Rattle.std.specs.declared.cmp.Ordering.TheVariants.{Equal}
-use Rattle.std.specs.contracts.collections.BTreeMap.{the_row as InnerRow}
-use Rattle.std.specs.contracts.collections.btree_map.Entry as PlaceType
 use Rattle.std.specs.contracts.alloc.AllocFailed as FailedType
-use Rattle.std.proofs.collections.btree_map.Entry.TheLaws as PlaceLaws
+use Rattle.std.specs.contracts.result.Result as ResultType
 use Rattle.std.proofs.alloc.AllocFailed.TheLaws as FailedLaws
 use Rattle.std.proofs.result.Result.TheLaws as ResultLaws
-use Rattle.std.specs.contracts.result.Result as ResultType
-use Rattle.std.proofs.mem.Param.{El, lawful, one}
-use Rattle.wasmi_map_specs.specs.Maps.{value_at}
-use base.Logic.{ent, id⊢, emp}
-use base.Fml.{ftrue, flft}
-use contract.BorrowLft.{◌⊑◌}
-use contract.Fact.{fact_i}
-use contract.Monad.{fact}
-use contract.Running.{tables}
-use mir.Syntax.{named, Args, a_type, dcons, dnil}
-use mir.MapTy.{inst_fn}
-use mir.Val.{Val, vptr}
-use prog.Wp.{WpFn}
-use types.ByLocal.{alloc_all, pass_all, free_all, look_at, get, through, sets, lands_as}
-use types.Kit.{‵, raw, ◌⊛◌, some, later, ◌$◌, ◌∵◌, !, qed, done, move, drop, join, split, use0, use1, use2, pick, await, group, suffices, rewrite}
-use types.Run.{enter, addr, stop, of_opd, and_then, no_more, returns}
-use denote.Exit.{no}
-use denote.Param.{bounded, param}
-use denote.Param.Laws.{param_laws}
-use denote.Ref.{MutRef, NamedLft, mut_vals, mut_Tells}
-use denote.Signature.{plain}
-use denote.Laws.{shows}
-use denote.Follow.{follows, follows_if}
-use Rattle.std.specs.Borrow.{name_if_ok}
-use denote.Steps.{nothing, heard, peeks, only}
-use denote.Triple.Call.{calls_at}
-use denote.Triple.Clauses.{lasts, Lasts}
-use denote.Triple.Spec.{triple_of}
-use denote.Triple.Table.{framed}
-use denote.Triple.Walked.{Stays, walk_of, stay_dropped, Goes-spent_ref, Goes-dropped, ends_at}
-use Rattle.wasmi_ordered.specs.MapEntry.{place, IsPlaceOf, IsOfInner, inner_rests}
 use Rattle.wasmi_arena.specs.declared.error.ArenaError.TheVariants.{OutOfSystemMemory}
 use Rattle.wasmi_arena.specs.contracts.error.ArenaError as ErrorType
 use Rattle.wasmi_arena.proofs.error.ArenaError.TheLaws as ErrorLaws
-use Rattle.wasmi_ordered.specs.contracts.map.entry.Entry as EntryType
-use Rattle.wasmi_ordered.proofs.map.entry.Entry.TheLaws as EntryLaws
+use Rattle.wasmi_map_specs.specs.Maps.{value_at}
+use Rattle.wasmi_map_specs.proofs.Handed.{lent_on, each_ok}
+use Rattle.wasmi_map_specs.proofs.Made.{of_place, of_absence, of_failure, of_names}
+use Rattle.wasmi_map_specs.proofs.Walk.{◌≡◌, ◌∙◌, [], ◌∷◌, None, refl, ap, subst, leaves, name_if_ok, IfOk, OnErr, fsep, ftrue, emp, toks, fact, fact_i, tables, no, follows, follows_if, bounded, param, param_laws, MutRef, mut_vals, mut_Tells, plain, named_lft, nothing, heard, only, lasts, Lasts, framed, Stays, walk_of, stay_dropped, Goes-dropped, Goes-spent_ref, inst_fn, Args, a_type, dcons, dnil, named, Val, vptr, alloc_all, pass_all, free_all, look_at, get, through, sets, lands_as, ‵, raw, ◌⊛◌, ◌$◌, ◌∵◌, !, qed, by, move, keep, drop, split, fjoin, frame, use0, use2, suffices, rewrite, enter, addr, stop, of_opd, and_then, no_more, returns, let_go, gone, also, calls_on, proved_by, typed_of, one_of, ref_of, facts, twice}
 use Rattle.wasmi_ordered.specs.contracts.map.Map.{the_row as MapRow}
 use Rattle.wasmi_ordered.specs.contracts.map.Map.entry as F
 use Rattle.wasmi_ordered.specs.contracts.map.Map.inner_mut as Lends
 use Rattle.wasmi_ordered.specs.contracts.map.entry.place_in as Asks
 use Rattle.wasmi_ordered.specs.contracts.map.entry.of_inner as Makes
+use Rattle.wasmi_ordered.proofs.Rows.{entry_map_ref, place, IsPlaceOf, IsOfInner, inner_rests, entry, alive_in}
 use Rattle.wasmi_ordered.proofs.map.Map.inner_mut.Met as Lent
 use Rattle.wasmi_ordered.proofs.map.entry.place_in.Met as Asked
 use Rattle.wasmi_ordered.proofs.map.entry.of_inner.Met as Made
-use Rattle.wasmi_ordered.proofs.map.Map.entry.Statement.{statement}
 use Rattle.wasmi_ordered.proofs.map.Map.entry.Code as code
-use Rattle.wasmi_arena.proofs.Frame.{let_go, gone}
-use Rattle.wasmi_map_specs.proofs.Handed.{lent_on, each_ok}
-use Rattle.wasmi_map_specs.proofs.Made.{of_place, of_absence, of_failure, of_names}
+use Rattle.wasmi_ordered.proofs.map.Map.entry.Statement.{statement}
 
 pub entry_spec : {M : Type 1} → statement M
 entry_spec 𝓤 𝓛 𝓜 𝓡 wired X Y Z LX LY LZ h dh e de p dp o dt q dq g dg dd cl dcl dk mh me mp mo mq mg md mcl mk =
-    let K = param 0 X in let V = param 1 Y in let A = param 2 Z in let key_row : El = record { row = X; laws = LX } in
     let args : Args = bounded (a_type ∷ a_type ∷ a_type ∷ []) (X, (Y, (Z, tt))) (dcons dh (dcons de (dcons dp (dcons dt (dcons dq (dcons dg (dcons dd (dcons dcl (dcons dk dnil))))))))) in
     let call = F.ended X Y Z h dh e de p dp o dt q dq g dg dd cl dcl dk in let c = F.clauses X Y Z h dh e de p dp o dt q dq g dg dd cl dcl dk 𝓛 𝓜.mem 𝓡.returns in
-    let Self = MapRow K V A h p o q g in let Inner = InnerRow K V A o p q g in let function = inst_fn args code.function in
-    let stayed : Stays call.signature.params call.kept = (stay_dropped _ no, (stay_dropped _ no, tt)) in
-    let W = walk_of 𝓛 call stayed c in let 𝓣 = tables 𝓤 𝓛.H 𝓜 𝓡 𝓡.env in
-    proved_at 𝓛 call stayed c 𝓜 𝓡 (Goes-spent_ref 𝓛 4 (0 ∷ []) tt (plain (λ _. Self)), (Goes-dropped 𝓛 4 (plain (λ _. K)) no (λ κs x w. refl), tt))
-    (F.Key.name args) function (code.unfolded 𝓤 𝓛.H 𝓜 𝓡 wired (X, (Y, (Z, tt))) dh de dp dt dq dg dd dcl dk)
-    (λ given are.
-    let κs = given.0.0 in let qs = given.0.1 in let bounds = given.0.2 in let a = given.0.3 in
-    let map = a.0 in let key = a.1.0 in let κ = κs.0 in let γ = map.ghost_name in
-    let held = one key_row given.0.4.1.0 ((lawful key_row 𝓛).typed key given.0.4.1.0 are.1.0) in let k = held.0 in let good = held.2 in
-    let vals : List Val × (List Val × Unit {0}) = (mut_vals map, (k ∷ [], tt)) in
-    let known : given.0.4 ≡ vals = λ j. (mut_Tells (named 0) κ Self map given.0.4.0 are.0 j, (held.1 j, tt)) in
-    subst (λ (us : List Val × (List Val × Unit {0})). ent 𝓤 (W.pre ((κs, qs, bounds, a, us), tt)) (WpFn 𝓤 𝓛.H 𝓣.C 𝓣.Λ function (W.args ((κs, qs, bounds, a, us), tt)) (W.post ((κs, qs, bounds, a, us), tt)))) (sym known) (
-    let y : W.Ghost = ((κs, qs, bounds, a, vals), tt) in let ℓ : NamedLft = record { mir = named 0; lft = κ } in
-    let alive = ‵ (flft κ qs.0) ⊛ ‵ (flft κs.1.0 qs.1.0) ⊛ ‵ (flft κs.1.1.0 qs.1.1.0) ⊛ ‵ (flft κs.1.1.1.0 qs.1.1.1.0) ⊛ ‵ ftrue in
-    let bound = raw (fact 𝓤 (κs.1.0 ⊑ X.lives)) ⊛ raw (fact 𝓤 (κs.1.1.0 ⊑ Y.lives)) ⊛ raw (fact 𝓤 (κs.1.1.1.0 ⊑ Z.lives)) ⊛ ‵ ftrue in
-    let There = ResultType.the_row (PlaceType.the_row ℓ K V A o p q g) (FailedType.the_row K) in
-    let Here = ResultType.the_row (EntryType.the_row ℓ K V A p o q g) ErrorType.the_row in
-    let there_laws = ResultLaws.the_row_laws (PlaceType.the_row ℓ K V A o p q g) (FailedType.the_row K)
-    (PlaceLaws.the_row_laws ℓ K V A o p q g (param_laws 0 X LX) (param_laws 1 Y LY) (param_laws 2 Z LZ)) (FailedLaws.the_row_laws K (param_laws 0 X LX)) in
-    let here_laws = ResultLaws.the_row_laws (EntryType.the_row ℓ K V A p o q g) ErrorType.the_row
-    (EntryLaws.the_row_laws ℓ K V A p o q g (param_laws 0 X LX) (param_laws 1 Y LY) (param_laws 2 Z LZ)) ErrorLaws.the_row_laws in
-    let Lender = MutRef (named 0) κ Self in let Part = MutRef (named 0) κ Inner in
-    qed 𝓛 ((alive ⊛ ‵ (Lender.own_val map (mut_vals map)) ⊛ ‵ (K.own_val key (k ∷ [])) ⊛ ‵ ftrue) ∷ bound ∷ []) ∵
-    move ! (1 ∷ []) $ split ! $ heard ! _ (λ in_K. split ! $ heard ! _ (λ in_V. split ! $ heard ! _ (λ in_A. drop ! $
-    split ! $ move ! (1 ∷ []) $ split ! $ move ! (1 ∷ []) $ split ! $
-    -- [the key; nothing; the map; the tokens]
-    enter ! _ _ _ _ _ $ alloc_all ! (λ l. pass_all ! refl ((tt, tt), (good, tt)) $
-    sets ! (addr ! (through ! refl (stop !))) refl (tt, tt) $
-    let G₁ = triple_of 𝓛 (Lends.signature X Y Z h dh e de p dp o dt q dq g dg dd) (Lends.spec X Y Z h dh e de p dp o dt q dq g dg dd 𝓛 𝓜.mem 𝓡.returns) in
-    let z₁ : G₁.Ghost = ((κs, qs, bounds, (map, tt), (mut_vals map, tt)), tt) in
-    move ! (2 ∷ 1 ∷ []) $ join ! $ move ! (2 ∷ 0 ∷ []) $ join ! $ nothing ! $
-    use0 𝓛 (raw (fact 𝓤 (κs.1.1.1.0 ⊑ Z.lives))) (fact_i 𝓤 _ (emp 𝓤) in_A) $ join ! $ use0 𝓛 (raw (fact 𝓤 (κs.1.1.0 ⊑ Y.lives))) (fact_i 𝓤 _ (emp 𝓤) in_V) $ join ! $
-    use0 𝓛 (raw (fact 𝓤 (κs.1.0 ⊑ X.lives))) (fact_i 𝓤 _ (emp 𝓤) in_K) $ join ! $ move ! (1 ∷ 0 ∷ []) $ use2 𝓛 (raw (G₁.pre z₁)) (id⊢ 𝓤 _) $
-    calls_at ! (framed 𝓤 𝓛.H 𝓜 𝓣) G₁ (Lent.met 𝓤 𝓛 𝓜 𝓡 (code.calls-wasmi_ordered::map::Map::inner_mut 𝓡.env wired) X Y Z LX LY LZ h dh e de p dp o dt q dq g dg dd mh me mp mo mq mg md) z₁
-    (and_then ! (get ! refl) (no_more !)) (λ v₁.
-    use1 𝓛 (later (some (λ (t : MutBor Inner.Denot). (alive ⊛ ‵ (Part.own_val t (v₁ ∷ []))) ⊛
-    some (λ (ws : Unit {0} × Unit {0}). ‵ (lasts (Lends.ended X Y Z h dh e de p dp o dt q dq g dg dd) κs (map, tt) ws)
-    ⊛ ‵ (follows Self Inner γ t.ghost_name (λ last. last.entries)) ⊛ raw (fact 𝓤 (t.now.entries ≡ map.now)))))) (id⊢ 𝓤 _) $
-    await ! tt $ pick ! (λ t. split ! $ split ! $ move ! (2 ∷ []) $ pick ! (λ ws. split ! $ drop ! $ split ! $ move ! (1 ∷ []) $ heard ! _ (λ as_map.
-    -- [what the map is in the end; the tokens; the inner map; the key]
-    move ! (2 ∷ []) $ peeks ! Part _ (shows 𝓛 Part) t (v₁ ∷ []) (λ seen₁.
-    let at₁ : v₁ ≡ vptr t.ref_ptr.0 t.ref_ptr.1 = ap only (mut_Tells (named 0) κ Inner t (v₁ ∷ []) seen₁) in
-    lands_as ! at₁ refl (tt, tt) $ rewrite ! 0 (λ (v : Val). ‵ (Part.own_val t (v ∷ []))) at₁ refl $
-    sets ! (of_opd ! (get ! refl)) refl good $
-    let G₂ = triple_of 𝓛 (Asks.signature X Y Z h dh e de p dp o dt q dq g dg cl dcl dk dd) (Asks.spec X Y Z h dh e de p dp o dt q dq g dg cl dcl dk dd 𝓛 𝓜.mem 𝓡.returns) in
-    let z₂ : G₂.Ghost = ((κs, qs, bounds, (t, (key, tt)), (mut_vals t, (k ∷ [], tt))), tt) in
-    nothing ! $ move ! (4 ∷ 0 ∷ []) $ join ! $ move ! (1 ∷ 0 ∷ []) $ join ! $ move ! (2 ∷ 0 ∷ []) $ join ! $ nothing ! $
-    use0 𝓛 (raw (fact 𝓤 (κs.1.1.1.0 ⊑ Z.lives))) (fact_i 𝓤 _ (emp 𝓤) in_A) $ join ! $ use0 𝓛 (raw (fact 𝓤 (κs.1.1.0 ⊑ Y.lives))) (fact_i 𝓤 _ (emp 𝓤) in_V) $ join ! $
-    use0 𝓛 (raw (fact 𝓤 (κs.1.0 ⊑ X.lives))) (fact_i 𝓤 _ (emp 𝓤) in_K) $ join ! $ move ! (1 ∷ 0 ∷ []) $ use2 𝓛 (raw (G₂.pre z₂)) (id⊢ 𝓤 _) $
-    calls_at ! (framed 𝓤 𝓛.H 𝓜 𝓣) G₂ (Asked.met 𝓤 𝓛 𝓜 𝓡 (code.calls-wasmi_ordered::map::entry::place_in 𝓡.env wired) X Y Z LX LY LZ h dh e de p dp o dt q dq g dg cl dcl dk dd mh me mp mo mq mg mcl mk md) z₂
-    (and_then ! (get ! refl) (and_then ! (get ! refl) (no_more !))) (λ v₂.
-    use1 𝓛 (later (some (λ (r : There.Denot). (alive ⊛ ‵ (There.own_val r (v₂ ∷ []))) ⊛
-    some (λ (ws : Unit {0} × (Unit {0} × Unit {0})). ‵ (lasts (Asks.ended X Y Z h dh e de p dp o dt q dq g dg cl dcl dk dd) κs (t, (key, tt)) ws)
-    ⊛ ‵ (inner_rests K V A g t r) ⊛ raw (fact 𝓤 (IfOk r (λ there. (entry_map_ref there).ghost_name ≡ t.ghost_name)))
-    ⊛ raw (fact 𝓤 (IfOk r (IsPlaceOf o.cmp t.now.entries key))) ⊛ raw (fact 𝓤 (OnErr r (value_at (eq_by_cmp o.cmp) t.now.entries key ≡ None))))))) (id⊢ 𝓤 _) $
-    await ! tt $ pick ! (λ r. split ! $ split ! $ move ! (2 ∷ []) $ pick ! (λ ws. split ! $ drop ! $ split ! $ move ! (1 ∷ []) $
+    let lends = Lends.ended X Y Z h dh e de p dp o dt q dq g dg dd in let asks = Asks.ended X Y Z h dh e de p dp o dt q dq g dg cl dcl dk dd in let makes = Makes.ended X Y Z h dh e de p dp o dt q dq g dg dk dd in
+    let stayed : Stays call.signature.params call.kept = (stay_dropped _ no, (stay_dropped _ no, tt)) in let W = walk_of 𝓛 call stayed c in let 𝓣 = tables 𝓤 𝓛.H 𝓜 𝓡 𝓡.env in
+    let K = param 0 X in let P = entry X Y Z p o q g LX LY LZ in let Self = MapRow (param 0 X) (param 1 Y) (param 2 Z) h p o q g in let fm = framed 𝓤 𝓛.H 𝓜 𝓣 in
+    proved_by 𝓛 call stayed c 𝓜 𝓡 (Goes-spent_ref 𝓛 4 (0 ∷ []) tt (plain (λ _. Self)), (Goes-dropped 𝓛 4 (plain (λ _. K)) no (λ κs x us. refl), tt))
+    (F.Key.name args) (inst_fn args code.function) (code.unfolded 𝓤 𝓛.H 𝓜 𝓡 wired (X, (Y, (Z, tt))) dh de dp dt dq dg dd dcl dk)
+    (λ κs. (ref_of (named 0) κs.0 Self, (one_of 𝓛 (param_laws 0 X LX), tt))) (λ κs qs bounds a _ us good.
+    let map = a.0 in let key = a.1.0 in let k = us.1.0 in let κ = κs.0 in let γ = map.ghost_name in let ℓ = named_lft 4 0 tt κs in let known = alive_in X Y Z κs in
+    let y : W.Ghost = ((κs, qs, bounds, a, (mut_vals map, (k ∷ [], tt))), tt) in
+    let There = ResultType.the_row (P.There ℓ) (FailedType.the_row K) in let there_laws = ResultLaws.the_row_laws (P.There ℓ) (FailedType.the_row K) (P.there_laws ℓ) (FailedLaws.the_row_laws K (param_laws 0 X LX)) in
+    let Here = ResultType.the_row (P.Here ℓ) ErrorType.the_row in let here_laws = ResultLaws.the_row_laws (P.Here ℓ) ErrorType.the_row (P.here_laws ℓ) ErrorLaws.the_row_laws in
+    qed 𝓛 ((raw (toks 𝓛 4 κs qs) ⊛ ‵ ((MutRef (named 0) κ Self).own_val map (mut_vals map)) ⊛ ‵ (K.own_val key (k ∷ [])) ⊛ ‵ ftrue) ∷ raw (facts 𝓤 known (emp 𝓤)) ∷ []) ∵
+    split ! $ move ! (1 ∷ []) $ split ! $ move ! (1 ∷ []) $ split ! $ move ! (3 ∷ 2 ∷ 1 ∷ 4 ∷ 0 ∷ []) $
+    -- [the tokens; the map; nothing; the facts; the key]
+    enter ! _ _ _ _ _ $ alloc_all ! (λ l. pass_all ! refl ((tt, tt), (good.1.0, tt)) $ sets ! (addr ! (through ! refl (stop !))) refl (tt, tt) $
+    calls_on 𝓛 ! fm (twice 𝓤 known) (MutRef (named 0) κ Self) (MutRef (named 0) κ P.Map) ftrue map (mut_vals map) (mut_vals map) {W = Lasts lends κs (map, tt)}
+    (λ t ws. ‵ (lasts lends κs (map, tt) ws) ⊛ ‵ (follows Self P.Map γ t.ghost_name (λ last. last.entries)) ⊛ raw (fact 𝓤 (t.now.entries ≡ map.now)))
+    (Lent.met 𝓤 𝓛 𝓜 𝓡 (code.calls-wasmi_ordered::map::Map::inner_mut 𝓡.env wired) X Y Z LX LY LZ h dh e de p dp o dt q dq g dg dd mh me mp mo mq mg md ((κs, qs, bounds, (map, tt), (mut_vals map, tt)), tt))
+    (and_then ! (get ! refl) (no_more !)) (λ v₁ t ws₁ is₁. split ! $ drop ! $ split ! $ move ! (1 ∷ []) $ heard ! _ (λ as_map.
+    -- [what the map is in the end; the inner map; the tokens; the facts; the key]
+    let at : v₁ ≡ vptr t.ref_ptr.0 t.ref_ptr.1 = ap only (mut_Tells (named 0) κ P.Map t (v₁ ∷ []) is₁) in
+    lands_as ! at refl (tt, tt) $ rewrite ! 1 (λ (v : Val). ‵ ((MutRef (named 0) κ P.Map).own_val t (v ∷ []))) at refl $ sets ! (of_opd ! (get ! refl)) refl good.1.0 $
+    nothing ! $ move ! (5 ∷ 0 ∷ []) $ fjoin ! $ move ! (3 ∷ 2 ∷ 0 ∷ 4 ∷ []) $
+    calls_on 𝓛 ! fm (twice 𝓤 known) (MutRef (named 0) κ P.Map) There (fsep (K.own_val key (k ∷ [])) ftrue) t (mut_vals t) (vptr t.ref_ptr.0 t.ref_ptr.1 ∷ k ∷ []) {W = Lasts asks κs (t, (key, tt))}
+    (λ r ws. ‵ (lasts asks κs (t, (key, tt)) ws) ⊛ ‵ (inner_rests (param 0 X) (param 1 Y) (param 2 Z) g t r) ⊛ raw (fact 𝓤 (IfOk r (λ there. (entry_map_ref there).ghost_name ≡ t.ghost_name)))
+    ⊛ raw (fact 𝓤 (IfOk r (IsPlaceOf o.cmp t.now.entries key))) ⊛ raw (fact 𝓤 (OnErr r (value_at (eq_by_cmp o.cmp) t.now.entries key ≡ None))))
+    (Asked.met 𝓤 𝓛 𝓜 𝓡 (code.calls-wasmi_ordered::map::entry::place_in 𝓡.env wired) X Y Z LX LY LZ h dh e de p dp o dt q dq g dg cl dcl dk dd mh me mp mo mq mg mcl mk md ((κs, qs, bounds, (t, (key, tt)), (mut_vals t, (k ∷ [], tt))), tt))
+    (and_then ! (get ! refl) (and_then ! (get ! refl) (no_more !))) (λ v₂ r ws₂ is₂. split ! $ drop ! $ split ! $ move ! (1 ∷ []) $
     split ! $ heard ! _ (λ same_map. split ! $ heard ! _ (λ is_place. heard ! _ (λ is_absent.
-    -- [how the inner map is left; the tokens; the answer; what the map is in the end]
-    move ! (2 ∷ []) $ peeks ! There _ (shows 𝓛 There) r (v₂ ∷ []) (λ seen₂.
-    lands_as ! refl refl ((there_laws.lawful 𝓛).typed r (v₂ ∷ []) seen₂).0 $
-    let G₃ = triple_of 𝓛 (Makes.signature X Y Z h dh e de p dp o dt q dq g dg dk dd) (Makes.spec X Y Z h dh e de p dp o dt q dq g dg dk dd 𝓛 𝓜.mem 𝓡.returns) in
-    let z₃ : G₃.Ghost = ((κs, qs, bounds, (r, tt), (v₂ ∷ [], tt)), tt) in
-    nothing ! $ move ! (1 ∷ 0 ∷ []) $ join ! $ move ! (2 ∷ 0 ∷ []) $ join ! $ nothing ! $
-    use0 𝓛 (raw (fact 𝓤 (κs.1.1.1.0 ⊑ Z.lives))) (fact_i 𝓤 _ (emp 𝓤) in_A) $ join ! $ use0 𝓛 (raw (fact 𝓤 (κs.1.1.0 ⊑ Y.lives))) (fact_i 𝓤 _ (emp 𝓤) in_V) $ join ! $
-    use0 𝓛 (raw (fact 𝓤 (κs.1.0 ⊑ X.lives))) (fact_i 𝓤 _ (emp 𝓤) in_K) $ join ! $ move ! (1 ∷ 0 ∷ []) $ use2 𝓛 (raw (G₃.pre z₃)) (id⊢ 𝓤 _) $
-    calls_at ! (framed 𝓤 𝓛.H 𝓜 𝓣) G₃ (Made.met 𝓤 𝓛 𝓜 𝓡 (code.calls-wasmi_ordered::map::entry::of_inner 𝓡.env wired) X Y Z LX LY LZ h dh e de p dp o dt q dq g dg dk dd mh me mp mo mq mg mk md) z₃
-    (and_then ! (get ! refl) (no_more !)) (λ v.
-    use1 𝓛 (later (some (λ (res : Here.Denot). (alive ⊛ ‵ (Here.own_val res (v ∷ []))) ⊛
-    some (λ (ws : Lasts (Makes.ended X Y Z h dh e de p dp o dt q dq g dg dk dd) κs (r, tt)). ‵ (lasts (Makes.ended X Y Z h dh e de p dp o dt q dq g dg dk dd) κs (r, tt) ws) ⊛ raw (fact 𝓤 (IsOfInner r res)))))) (id⊢ 𝓤 _) $
-    await ! tt $ pick ! (λ res. split ! $ split ! $ move ! (2 ∷ []) $ pick ! (λ ws. split ! $ drop ! $ heard ! _ (λ made.
-    -- [the tokens; the answer; how the inner map is left; what the map is in the end]
-    move ! (3 ∷ 2 ∷ []) $ use2 𝓛 (‵ (follows_if Self Inner γ (name_if_ok (λ entry. (entry_map_ref (place entry)).ghost_name) res) (λ last. last.entries) map.now))
-    (lent_on 𝓛 Self Inner (λ last. last.entries) γ t map.now (λ there. (entry_map_ref there).ghost_name) (λ now. now.entries ≡ t.now.entries) (λ now same. same ∙ as_map) r _ (of_names place OutOfSystemMemory (λ there. (entry_map_ref there).ghost_name) t.ghost_name r res made same_map)) $
-    move ! (2 ∷ []) $ peeks ! Here _ (shows 𝓛 Here) res (v ∷ []) (λ seen.
-    lands_as ! refl refl ((here_laws.lawful 𝓛).typed res (v ∷ []) seen).0 $
-    returns ! (look_at ! 0 refl) $ free_all ! refl $
-    suffices ! _ (ends_at 𝓛 call stayed c y v res (tt, (tt, tt)) (tt, (tt, tt))) $
-    let is : IfOk res (λ entry. IsPlaceOf o.cmp map.now key (place entry)) =
-    subst (λ entries. IfOk res (λ entry. IsPlaceOf o.cmp entries key (place entry))) as_map (of_place place OutOfSystemMemory (IsPlaceOf o.cmp t.now.entries key) r res made is_place) in
-    use0 𝓛 (raw (fact 𝓤 (IsOkUnless res OutOfSystemMemory))) (fact_i 𝓤 _ (emp 𝓤) (of_failure place OutOfSystemMemory r res made)) $
-    use0 𝓛 (raw (fact 𝓤 (OnErr res (value_at (eq_by_cmp o.cmp) map.now key ≡ None)))) (fact_i 𝓤 _ (emp 𝓤)
-    (subst (λ entries. OnErr res (value_at (eq_by_cmp o.cmp) entries key ≡ None)) as_map (of_absence place OutOfSystemMemory _ r res made is_absent))) $
-    use0 𝓛 (raw (fact 𝓤 (IfOk res (λ entry. (map_without_entry (place entry)).entries ≡ remove_entry (eq_by_cmp o.cmp key) map.now)))) (fact_i 𝓤 _ (emp 𝓤) (each_ok res is (λ entry told. told.6))) $
-    use0 𝓛 (raw (fact 𝓤 (IfOk res (λ entry. (last : Y.Denot) → (map_with_value (place entry) last).entries ≡ insert_entry o.cmp map.now key last)))) (fact_i 𝓤 _ (emp 𝓤) (each_ok res is (λ entry told. told.5))) $
-    use0 𝓛 (raw (fact 𝓤 (IfOk res (λ entry. (entry_map_ref (place entry)).now.entries ≡ map.now)))) (fact_i 𝓤 _ (emp 𝓤) (each_ok res is (λ entry told. told.4))) $
-    use0 𝓛 (raw (fact 𝓤 (IfOk res (λ entry. MatchEntry (place entry) (IsSome (value_at (eq_by_cmp o.cmp) map.now key) × (lookup_key (eq_by_cmp o.cmp key) map.now ≡ Some (entry_key (place entry)))) (value_at (eq_by_cmp o.cmp) map.now key ≡ None))))) (fact_i 𝓤 _ (emp 𝓤) (each_ok res is (λ entry told. told.3))) $
-    use0 𝓛 (raw (fact 𝓤 (IfOk res (λ entry. entry_value (place entry) ≡ value_at (eq_by_cmp o.cmp) map.now key)))) (fact_i 𝓤 _ (emp 𝓤) (each_ok res is (λ entry told. told.2))) $
-    use0 𝓛 (raw (fact 𝓤 (IfOk res (λ entry. o.cmp key (entry_key (place entry)) ≡ Equal)))) (fact_i 𝓤 _ (emp 𝓤) (each_ok res is (λ entry told. told.1))) $
-    use0 𝓛 (raw (fact 𝓤 (IfOk res (λ entry. entry_value (place entry) ≡ None → entry_key (place entry) ≡ key)))) (fact_i 𝓤 _ (emp 𝓤) (each_ok res is (λ entry told. told.0))) $
-    use0 𝓛 (‵ (let_go 2)) (gone 𝓛 2) $ move ! (12 ∷ 0 ∷ 10 ∷ []) $ group ! 3 $ move ! (0 ∷ 10 ∷ []) $ done !)))))))))))))))))))))))
+    -- [how the inner map is left; the answer; the tokens; the facts; what the map is in the end]
+    lands_as ! refl refl (typed_of 𝓛 there_laws r (v₂ ∷ []) is₂).0 $ nothing ! $ move ! (3 ∷ 2 ∷ 0 ∷ 4 ∷ []) $
+    calls_on 𝓛 ! fm (twice 𝓤 known) There Here ftrue r (v₂ ∷ []) (v₂ ∷ []) {W = Lasts makes κs (r, tt)} (λ res ws. ‵ (lasts makes κs (r, tt) ws) ⊛ raw (fact 𝓤 (IsOfInner r res)))
+    (Made.met 𝓤 𝓛 𝓜 𝓡 (code.calls-wasmi_ordered::map::entry::of_inner 𝓡.env wired) X Y Z LX LY LZ h dh e de p dp o dt q dq g dg dk dd mh me mp mo mq mg mk md ((κs, qs, bounds, (r, tt), (v₂ ∷ [], tt)), tt))
+    (and_then ! (get ! refl) (no_more !)) (λ v res ws₃ is₃. split ! $ drop ! $ heard ! _ (λ made.
+    -- [the answer; the tokens; the facts; how the inner map is left; what the map is in the end]
+    move ! (4 ∷ 3 ∷ []) $ use2 𝓛 (‵ (follows_if Self P.Map γ (name_if_ok (λ entry. (entry_map_ref (place entry)).ghost_name) res) (λ last. last.entries) map.now))
+    (lent_on 𝓛 Self P.Map (λ last. last.entries) γ t map.now (λ there. (entry_map_ref there).ghost_name) (λ now. now.entries ≡ t.now.entries) (λ now same. same ∙ as_map) r _ (of_names place OutOfSystemMemory (λ there. (entry_map_ref there).ghost_name) t.ghost_name r res made same_map)) $
+    lands_as ! refl refl (typed_of 𝓛 here_laws res (v ∷ []) is₃).0 $ returns ! (look_at ! 0 refl) $ free_all ! refl $
+    suffices ! _ (leaves 𝓛 call stayed c y v res (tt, (tt, tt)) (tt, (tt, tt))) $
+    let is : IfOk res (λ entry. IsPlaceOf o.cmp map.now key (place entry)) = subst (λ entries. IfOk res (λ entry. IsPlaceOf o.cmp entries key (place entry))) as_map (of_place place OutOfSystemMemory (IsPlaceOf o.cmp t.now.entries key) r res made is_place) in
+    use0 𝓛 (‵ (let_go 2)) (gone 𝓛 2) $ keep ! (3 ∷ 0 ∷ 2 ∷ 1 ∷ []) $ frame ! $ frame ! $ frame ! $ frame ! $
+    also ! (each_ok res is (λ entry known. known.0)) $ also ! (each_ok res is (λ entry known. known.1)) $ also ! (each_ok res is (λ entry known. known.2)) $ also ! (each_ok res is (λ entry known. known.3)) $
+    also ! (each_ok res is (λ entry known. known.4)) $ also ! (each_ok res is (λ entry known. known.5)) $ also ! (each_ok res is (λ entry known. known.6)) $
+    also ! (subst (λ entries. OnErr res (value_at (eq_by_cmp o.cmp) entries key ≡ None)) as_map (of_absence place OutOfSystemMemory _ r res made is_absent)) $
+    by ! (fact_i 𝓤 _ (emp 𝓤) (of_failure place OutOfSystemMemory r res made))))))))))))

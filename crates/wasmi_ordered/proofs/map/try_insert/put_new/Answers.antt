@@ -1,5 +1,4 @@
-use Rattle.std.proofs.Common.{◌≡◌, Some, length, sym, ap, ◌∙◌, arith, subst}
-use Rattle.std.specs.BTreeMap.{insert_entry}
+use Rattle.std.proofs.Common.{length, sym, ap, ◌∙◌, arith}
 use Rattle.wasmi_ordered.proofs.NewEntry.{put_again}
 use Rattle.wasmi_ordered.proofs.map.try_insert.put_new.Goals as goal
 

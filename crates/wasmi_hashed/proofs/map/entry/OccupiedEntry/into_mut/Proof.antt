@@ -1,107 +1,28 @@
 -- `into_mut` hands on what the inner place lends. Assumes `Logic`.
-use Rattle.std.proofs.Common.{◌≡◌, List, [], ◌∷◌, refl, sym, ap, subst, MutBor}
-use Rattle.std.proofs.raw_atomic.Walks.{proved_at}
-use Rattle.std.specs.HashMap.Entry.{entry_map_ref, entry_value, map_with_value}
-use Rattle.std.specs.Prelude.{Some}
-use Rattle.std.specs.contracts.collections.HashMap.{the_row as InnerRow}
-use Rattle.std.specs.contracts.collections.hash_map.OccupiedEntry as PlaceType
-use Rattle.std.specs.contracts.collections.hash_map.OccupiedEntry.into_mut as Lends
-use Rattle.std.proofs.collections.hash_map.OccupiedEntry.TheLaws as PlaceLaws
-use Rattle.std.proofs.collections.hash_map.OccupiedEntry.into_mut.Met as Lent
-use base.Logic.{ent, id⊢, emp}
-use base.Fml.{ftrue, flft}
-use contract.BorrowLft.{◌⊑◌}
-use contract.Fact.{fact_i}
-use contract.Monad.{fact}
-use contract.Running.{tables}
-use denote.Exit.{no, rest}
-use denote.Follow.{follows}
-use denote.Laws.{shows}
-use denote.Param.{layout, bounded, param}
-use denote.Param.Laws.{param_laws}
-use denote.Ref.{MutRef, NamedLft, mut_Tells}
-use denote.Signature.{named_lft}
-use denote.Steps.{nothing, heard, peeks, only}
-use denote.Triple.Call.{calls_at}
-use denote.Triple.Clauses.{lasts, Lasts}
-use denote.Triple.Spec.{triple_of}
-use denote.Triple.Table.{framed}
-use denote.Triple.Walked.{Stays, walk_of, stay_dropped, ends_at}
-use mir.MapTy.{inst_fn}
-use mir.Syntax.{named, Args, a_type, dcons, dnil}
-use mir.Val.{Val, vptr}
-use prog.Wp.{WpFn}
-use types.ByLocal.{alloc_all, pass_all, free_all, look_at, get, sets, lands_as}
-use types.Kit.{‵, raw, ◌⊛◌, some, later, ◌$◌, ◌∵◌, !, qed, done, move, drop, join, split, use0, use1, use2, pick, await, group, suffices, rewrite}
-use types.Run.{enter, of_opd, and_then, no_more, returns}
-use Rattle.std.specs.declared.collections.hash_map.Entry.TheVariants.{Occupied}
-use Rattle.wasmi_hashed.specs.contracts.map.entry.OccupiedEntry as EntryType
+use Rattle.std.specs.contracts.collections.hash_map.OccupiedEntry.into_mut as Calls
+use Rattle.std.proofs.collections.hash_map.OccupiedEntry.into_mut.Met as Called
+use Rattle.wasmi_map_specs.proofs.Walk.{◌≡◌, [], ◌∷◌, leaves, Some, ftrue, toks, tables, no, rest, bounded, named_lft, lasts, framed, Stays, walk_of, stay_dropped, inst_fn, Args, a_type, dcons, dnil, raw, ◌$◌, ◌∵◌, !, qed, enter, lends_bare, spent, proved_by, one_of, all_of}
 use Rattle.wasmi_hashed.specs.contracts.map.entry.OccupiedEntry.into_inner as Opens
 use Rattle.wasmi_hashed.specs.contracts.map.entry.OccupiedEntry.into_mut as F
-use Rattle.wasmi_arena.proofs.Frame.{let_go, gone}
-use Rattle.wasmi_map_specs.proofs.Handed.{sole}
-use Rattle.wasmi_hashed.proofs.Gone.{occupied_goes}
-use Rattle.wasmi_hashed.proofs.map.entry.OccupiedEntry.TheLaws as EntryLaws
+use Rattle.wasmi_hashed.proofs.Rows.{entry_value, Occupied, occupied, alive_in}
 use Rattle.wasmi_hashed.proofs.map.entry.OccupiedEntry.into_inner.Met as Opened
 use Rattle.wasmi_hashed.proofs.map.entry.OccupiedEntry.into_mut.Code as code
 use Rattle.wasmi_hashed.proofs.map.entry.OccupiedEntry.into_mut.Statement.{statement}
 
 pub into_mut_spec : {M : Type 1} → statement M
 into_mut_spec 𝓤 𝓛 𝓜 𝓡 wired X Y S Z N LX LY LS LZ LN e de p dp h dh s ds n dn g dg dd dm me mp mh ms mn mg md mm =
-    let K = param 0 X in let V = param 1 Y in let T = param 2 S in let A = param 3 Z in let H = param 4 N in
     let args : Args = bounded (a_type ∷ a_type ∷ a_type ∷ a_type ∷ a_type ∷ []) (X, (Y, (S, (Z, (N, tt))))) (dcons de (dcons dp (dcons dh (dcons ds (dcons dn (dcons dg (dcons dd (dcons dm dnil)))))))) in
     let call = F.ended X Y S Z N e de p dp h dh s ds n dn g dg dd dm in let c = F.clauses X Y S Z N e de p dp h dh s ds n dn g dg dd dm 𝓛 𝓜.mem 𝓡.returns in
-    let Inner = InnerRow K V T A H p h s n g in let function = inst_fn args code.function in
-    let stayed : Stays call.signature.params call.kept = (stay_dropped _ no, tt) in
-    let W = walk_of 𝓛 call stayed c in let 𝓣 = tables 𝓤 𝓛.H 𝓜 𝓡 𝓡.env in
-    proved_at 𝓛 call stayed c 𝓜 𝓡 (occupied_goes 𝓛 X Y S Z N p h s n g 6 (named_lft 6 0 tt), tt)
-    (F.Key.name args) function (code.unfolded 𝓤 𝓛.H 𝓜 𝓡 wired (X, (Y, (S, (Z, (N, tt))))) de dp dh ds dn dg dd dm)
-    (λ given are.
-    let κs = given.0.0 in let qs = given.0.1 in let bounds = given.0.2 in let a = given.0.3 in
-    let entry = a.0 in let κ = κs.0 in let ℓ : NamedLft = record { mir = named 0; lft = κ } in
-    let Here = EntryType.the_row ℓ K V T A H p h s n g in let There = PlaceType.the_row ℓ K V T A H p h s n g in let Answer = MutRef (named 0) κ V in
-    let here_laws = EntryLaws.the_row_laws ℓ K V T A H p h s n g (param_laws 0 X LX) (param_laws 1 Y LY) (param_laws 2 S LS) (param_laws 3 Z LZ) (param_laws 4 N LN) in
-    let there_laws = PlaceLaws.the_row_laws ℓ K V T A H p h s n g (param_laws 0 X LX) (param_laws 1 Y LY) (param_laws 2 S LS) (param_laws 3 Z LZ) (param_laws 4 N LN) in
-    let held = sole (layout Here) given.0.4.0 ((here_laws.lawful 𝓛).typed entry given.0.4.0 are.0) in let b = held.0 in
-    let vals : List Val × Unit {0} = (b ∷ [], tt) in let known : given.0.4 ≡ vals = λ j. (held.1 j, tt) in
-    subst (λ (us : List Val × Unit {0}). ent 𝓤 (W.pre ((κs, qs, bounds, a, us), tt)) (WpFn 𝓤 𝓛.H 𝓣.C 𝓣.Λ function (W.args ((κs, qs, bounds, a, us), tt)) (W.post ((κs, qs, bounds, a, us), tt)))) (sym known) (
-    let y : W.Ghost = ((κs, qs, bounds, a, vals), tt) in
-    let alive = ‵ (flft κ qs.0) ⊛ ‵ (flft κs.1.0 qs.1.0) ⊛ ‵ (flft κs.1.1.0 qs.1.1.0) ⊛ ‵ (flft κs.1.1.1.0 qs.1.1.1.0) ⊛ ‵ (flft κs.1.1.1.1.0 qs.1.1.1.1.0) ⊛ ‵ (flft κs.1.1.1.1.1.0 qs.1.1.1.1.1.0) ⊛ ‵ ftrue in
-    let bound = raw (fact 𝓤 (κs.1.0 ⊑ X.lives)) ⊛ raw (fact 𝓤 (κs.1.1.0 ⊑ Y.lives)) ⊛ raw (fact 𝓤 (κs.1.1.1.0 ⊑ S.lives)) ⊛ raw (fact 𝓤 (κs.1.1.1.1.0 ⊑ Z.lives)) ⊛ raw (fact 𝓤 (κs.1.1.1.1.1.0 ⊑ N.lives)) ⊛ ‵ ftrue in
-    qed 𝓛 ((alive ⊛ ‵ (Here.own_val entry (b ∷ [])) ⊛ ‵ ftrue) ∷ bound ∷ []) ∵
-    move ! (1 ∷ []) $ split ! $ heard ! _ (λ in_K. split ! $ heard ! _ (λ in_V. split ! $ heard ! _ (λ in_S. split ! $ heard ! _ (λ in_A. split ! $ heard ! _ (λ in_H. drop ! $
-    split ! $ move ! (1 ∷ []) $ split ! $
-    -- [the place; nothing; the tokens]
-    enter ! _ _ _ _ _ $ alloc_all ! (λ l. pass_all ! refl (held.2, tt) $
-    sets ! (of_opd ! (get ! refl)) refl held.2 $
-    let G₁ = triple_of 𝓛 (Opens.signature X Y S Z N e de p dp h dh s ds n dn g dg dd dm) (Opens.spec X Y S Z N e de p dp h dh s ds n dn g dg dd dm 𝓛 𝓜.mem 𝓡.returns) in
-    let z₁ : G₁.Ghost = ((κs, qs, bounds, (entry, tt), (b ∷ [], tt)), tt) in
-    join ! $ move ! (1 ∷ 0 ∷ []) $ join ! $ nothing ! $
-    use0 𝓛 (raw (fact 𝓤 (κs.1.1.1.1.1.0 ⊑ N.lives))) (fact_i 𝓤 _ (emp 𝓤) in_H) $ join ! $ use0 𝓛 (raw (fact 𝓤 (κs.1.1.1.1.0 ⊑ Z.lives))) (fact_i 𝓤 _ (emp 𝓤) in_A) $ join ! $ use0 𝓛 (raw (fact 𝓤 (κs.1.1.1.0 ⊑ S.lives))) (fact_i 𝓤 _ (emp 𝓤) in_S) $ join ! $ use0 𝓛 (raw (fact 𝓤 (κs.1.1.0 ⊑ Y.lives))) (fact_i 𝓤 _ (emp 𝓤) in_V) $ join ! $ use0 𝓛 (raw (fact 𝓤 (κs.1.0 ⊑ X.lives))) (fact_i 𝓤 _ (emp 𝓤) in_K) $ join ! $ move ! (1 ∷ 0 ∷ []) $ use2 𝓛 (raw (G₁.pre z₁)) (id⊢ 𝓤 _) $
-    calls_at ! (framed 𝓤 𝓛.H 𝓜 𝓣) G₁ (Opened.met 𝓤 𝓛 𝓜 𝓡 (code.calls-wasmi_hashed::map::entry::OccupiedEntry::into_inner 𝓡.env wired) X Y S Z N LX LY LS LZ LN e de p dp h dh s ds n dn g dg dd dm me mp mh ms mn mg md mm) z₁
-    (and_then ! (get ! refl) (no_more !)) (λ v₁.
-    use1 𝓛 (later (some (λ (r : There.Denot). (alive ⊛ ‵ (There.own_val r (v₁ ∷ []))) ⊛
-    some (λ (ws : Lasts (Opens.ended X Y S Z N e de p dp h dh s ds n dn g dg dd dm) κs (entry, tt)). ‵ (lasts (Opens.ended X Y S Z N e de p dp h dh s ds n dn g dg dd dm) κs (entry, tt) ws) ⊛ raw (fact 𝓤 (r ≡ entry.entry)))))) (id⊢ 𝓤 _) $
-    await ! tt $ pick ! (λ r. split ! $ split ! $ move ! (2 ∷ []) $ pick ! (λ ws. split ! $ drop ! $ heard ! _ (λ same.
-    move ! (1 ∷ []) $ peeks ! There _ (shows 𝓛 There) r (v₁ ∷ []) (λ seen₁.
-    lands_as ! refl refl ((there_laws.lawful 𝓛).typed r (v₁ ∷ []) seen₁).0 $
-    let G₂ = triple_of 𝓛 (Lends.signature X Y S Z N e de p dp h dh s ds n dn g dg dd dm) (Lends.spec X Y S Z N e de p dp h dh s ds n dn g dg dd dm 𝓛 𝓜.mem 𝓡.returns) in
-    let z₂ : G₂.Ghost = ((κs, qs, bounds, (r, tt), (v₁ ∷ [], tt)), tt) in
-    nothing ! $ move ! (1 ∷ 0 ∷ []) $ join ! $ move ! (1 ∷ 0 ∷ []) $ join ! $ nothing ! $
-    use0 𝓛 (raw (fact 𝓤 (κs.1.1.1.1.1.0 ⊑ N.lives))) (fact_i 𝓤 _ (emp 𝓤) in_H) $ join ! $ use0 𝓛 (raw (fact 𝓤 (κs.1.1.1.1.0 ⊑ Z.lives))) (fact_i 𝓤 _ (emp 𝓤) in_A) $ join ! $ use0 𝓛 (raw (fact 𝓤 (κs.1.1.1.0 ⊑ S.lives))) (fact_i 𝓤 _ (emp 𝓤) in_S) $ join ! $ use0 𝓛 (raw (fact 𝓤 (κs.1.1.0 ⊑ Y.lives))) (fact_i 𝓤 _ (emp 𝓤) in_V) $ join ! $ use0 𝓛 (raw (fact 𝓤 (κs.1.0 ⊑ X.lives))) (fact_i 𝓤 _ (emp 𝓤) in_K) $ join ! $ move ! (1 ∷ 0 ∷ []) $ use2 𝓛 (raw (G₂.pre z₂)) (id⊢ 𝓤 _) $
-    calls_at ! (framed 𝓤 𝓛.H 𝓜 𝓣) G₂ (Lent.met 𝓤 𝓛 𝓜 𝓡 (code.calls-std::collections::hash_map::OccupiedEntry::into_mut 𝓡.env wired) X Y S Z N LX LY LS LZ LN e de p dp h dh s ds n dn g dg dd dm me mp mh ms mn mg md mm) z₂
-    (and_then ! (get ! refl) (no_more !)) (λ v.
-    use1 𝓛 (later (some (λ (t : MutBor V.Denot). (alive ⊛ ‵ (Answer.own_val t (v ∷ []))) ⊛
-    some (λ (ws : Lasts (Lends.ended X Y S Z N e de p dp h dh s ds n dn g dg dd dm) κs (r, tt)). ‵ (lasts (Lends.ended X Y S Z N e de p dp h dh s ds n dn g dg dd dm) κs (r, tt) ws)
-    ⊛ ‵ (follows Inner V (entry_map_ref (Occupied r)).ghost_name t.ghost_name (map_with_value (Occupied r))) ⊛ raw (fact 𝓤 (entry_value (Occupied r) ≡ Some t.now)))))) (id⊢ 𝓤 _) $
-    await ! tt $ pick ! (λ t. split ! $ split ! $ move ! (2 ∷ []) $ pick ! (λ ws. split ! $ drop ! $ split ! $ move ! (1 ∷ []) $ heard ! _ (λ value_is.
-    rewrite ! 0 (λ (there : There.Denot). ‵ (follows Inner V (entry_map_ref (Occupied there)).ghost_name t.ghost_name (map_with_value (Occupied there)))) same refl $
-    -- [what the inner map is in the end; the tokens; the reference]
-    move ! (2 ∷ []) $ peeks ! Answer _ (shows 𝓛 Answer) t (v ∷ []) (λ told.
-    let ref = vptr t.ref_ptr.0 t.ref_ptr.1 in let at : v ≡ ref = ap only (mut_Tells (named 0) κ V t (v ∷ []) told) in
-    lands_as ! at refl (tt, tt) $ rewrite ! 0 (λ (u : Val). ‵ (Answer.own_val t (u ∷ []))) at refl $
-    returns ! (look_at ! 0 refl) $ free_all ! refl $
-    suffices ! _ (ends_at 𝓛 call stayed c y ref t (rest (Here.exit no) entry, tt) (tt, tt)) $
-    use0 𝓛 (raw (fact 𝓤 (entry_value (Occupied entry.entry) ≡ Some t.now))) (fact_i 𝓤 _ (emp 𝓤) (subst (λ (there : There.Denot). entry_value (Occupied there) ≡ Some t.now) same value_is)) $
-    -- [the value's clause; the reference; what the inner map is in the end; the tokens]
-    use0 𝓛 (‵ (let_go 1)) (gone 𝓛 1) $ move ! (4 ∷ 0 ∷ 2 ∷ []) $ group ! 3 $ move ! (0 ∷ 2 ∷ []) $ done !))))))))))))))))))
+    let opens = Opens.ended X Y S Z N e de p dp h dh s ds n dn g dg dd dm in let calls = Calls.ended X Y S Z N e de p dp h dh s ds n dn g dg dd dm in
+    let stayed : Stays call.signature.params call.kept = (stay_dropped _ no, tt) in let W = walk_of 𝓛 call stayed c in let 𝓣 = tables 𝓤 𝓛.H 𝓜 𝓡 𝓡.env in let P = occupied X Y S Z N p h s n g LX LY LS LZ LN in
+    proved_by 𝓛 call stayed c 𝓜 𝓡 (spent 𝓛 P 6 (named_lft 6 0 tt), tt)
+    (F.Key.name args) (inst_fn args code.function) (code.unfolded 𝓤 𝓛.H 𝓜 𝓡 wired (X, (Y, (S, (Z, (N, tt))))) de dp dh ds dn dg dd dm)
+    (λ κs. (one_of 𝓛 (P.here_laws (named_lft 6 0 tt κs)), tt)) (λ κs qs bounds a _ us good.
+    let y : W.Ghost = ((κs, qs, bounds, a, (us.0 ∷ [], tt)), tt) in let ℓ = named_lft 6 0 tt κs in let there = P.inner ℓ a.0 in
+    qed 𝓛 (raw (W.pre y) ∷ []) ∵ enter ! _ _ _ _ _ $
+    lends_bare 𝓛 𝓣.C (framed 𝓤 𝓛.H 𝓜 𝓣) 𝓣.Λ P ℓ a.0 us.0
+    (all_of 𝓤 (toks 𝓛 6 κs qs) (alive_in X Y S Z N κs))
+    (lasts opens κs (a.0, tt)) (Opened.met 𝓤 𝓛 𝓜 𝓡 (code.calls-wasmi_hashed::map::entry::OccupiedEntry::into_inner 𝓡.env wired) X Y S Z N LX LY LS LZ LN e de p dp h dh s ds n dn g dg dd dm me mp mh ms mn mg md mm ((κs, qs, bounds, (a.0, tt), (us.0 ∷ [], tt)), tt))
+    ftrue 1 κs.0 (λ t. entry_value (Occupied there) ≡ Some t.now) (lasts calls κs (there, tt)) ! good.0 good.0 (λ v ok. ok) (λ k o. (tt, tt))
+    (λ v. Called.met 𝓤 𝓛 𝓜 𝓡 (code.calls-std::collections::hash_map::OccupiedEntry::into_mut 𝓡.env wired) X Y S Z N LX LY LS LZ LN e de p dp h dh s ds n dn g dg dd dm me mp mh ms mn mg md mm ((κs, qs, bounds, (there, a.1), (v ∷ [], tt)), tt))
+    (λ u t. leaves 𝓛 call stayed c y u t (rest ((P.Here ℓ).exit no) a.0, tt) (tt, tt)))

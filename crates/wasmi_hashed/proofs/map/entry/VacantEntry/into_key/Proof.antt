@@ -1,108 +1,30 @@
--- `into_key` gives back the inner map as it is. Assumes `Logic`.
-use Rattle.std.proofs.Common.{◌≡◌, List, [], ◌∷◌, refl, sym, subst}
-use Rattle.std.proofs.raw_atomic.Walks.{proved_at}
-use Rattle.std.specs.HashMap.Entry.{entry_key, entry_map_ref}
-use Rattle.std.specs.contracts.collections.hash_map.VacantEntry as PlaceType
-use Rattle.std.specs.contracts.collections.hash_map.VacantEntry.into_key as Takes
-use Rattle.std.proofs.collections.hash_map.VacantEntry.TheLaws as PlaceLaws
-use Rattle.std.proofs.collections.hash_map.VacantEntry.into_key.Met as Taken
-use base.Logic.{ent, id⊢, emp}
-use base.Fml.{ftrue, flft}
-use contract.BorrowLft.{◌⊑◌}
-use contract.Fact.{fact_i}
-use contract.Monad.{fact}
-use contract.Running.{tables}
-use denote.Exit.{at, no, rest, see}
-use denote.Laws.{shows}
-use denote.Param.{layout, bounded, param}
-use denote.Param.Laws.{param_laws}
-use denote.Ref.{NamedLft}
-use denote.Signature.{named_lft}
-use denote.Steps.{nothing, heard, peeks}
-use denote.Triple.Call.{calls_at}
-use denote.Triple.Clauses.{lasts, Lasts}
-use denote.Triple.Spec.{triple_of}
-use denote.Triple.Table.{framed}
-use denote.Triple.Walked.{Stays, walk_of, stay_dropped, ends_at}
-use mir.MapTy.{inst_fn}
-use mir.Syntax.{named, Args, a_type, dcons, dnil}
-use mir.Val.{Val}
-use prog.Wp.{WpFn}
-use types.ByLocal.{alloc_all, pass_all, free_all, look_at, get, sets, lands_as}
-use types.Kit.{‵, raw, ◌⊛◌, some, later, ◌$◌, ◌∵◌, !, qed, done, move, drop, join, split, fsplit, use0, use1, use2, pick, await, group, suffices, rewrite}
-use types.Run.{enter, of_opd, and_then, no_more, returns}
-use Rattle.std.specs.declared.collections.hash_map.Entry.TheVariants.{Vacant}
-use Rattle.wasmi_hashed.specs.contracts.map.entry.VacantEntry as EntryType
+-- `into_key` leaves the inner map as it is. Assumes `Logic`.
+use Rattle.std.specs.contracts.collections.hash_map.VacantEntry.into_key as Calls
+use Rattle.std.proofs.collections.hash_map.VacantEntry.into_key.Met as Called
+use Rattle.wasmi_map_specs.proofs.Walk.{◌≡◌, [], ◌∷◌, leaves, ftrue, toks, tables, at, no, rest, see, left, bounded, layout, param, param_laws, named_lft, lasts, Lasts, framed, Stays, walk_of, stay_dropped, inst_fn, Args, a_type, dcons, dnil, raw, ◌$◌, ◌∵◌, !, qed, enter, hands, takes, spent, Good, proved_by, typed_of, one_of, all_of}
 use Rattle.wasmi_hashed.specs.contracts.map.entry.VacantEntry.into_inner as Opens
 use Rattle.wasmi_hashed.specs.contracts.map.entry.VacantEntry.into_key as F
-use Rattle.wasmi_arena.proofs.Frame.{let_go, gone}
-use Rattle.wasmi_map_specs.proofs.Handed.{sole}
-use Rattle.wasmi_hashed.proofs.Gone.{vacant_goes}
-use Rattle.wasmi_hashed.proofs.Ended.{comes_back}
-use Rattle.wasmi_hashed.specs.MapEntry.{inner_stays}
-use Rattle.wasmi_hashed.proofs.map.entry.VacantEntry.TheLaws as EntryLaws
+use Rattle.wasmi_hashed.proofs.Rows.{entry_key, entry_map_ref, Vacant, inner_stays, comes_back, vacant, alive_in}
 use Rattle.wasmi_hashed.proofs.map.entry.VacantEntry.into_inner.Met as Opened
 use Rattle.wasmi_hashed.proofs.map.entry.VacantEntry.into_key.Code as code
 use Rattle.wasmi_hashed.proofs.map.entry.VacantEntry.into_key.Statement.{statement}
 
 pub into_key_spec : {M : Type 1} → statement M
 into_key_spec 𝓤 𝓛 𝓜 𝓡 wired X Y S Z N LX LY LS LZ LN e de p dp h dh s ds n dn g dg dd dm me mp mh ms mn mg md mm =
-    let K = param 0 X in let V = param 1 Y in let T = param 2 S in let A = param 3 Z in let H = param 4 N in
     let args : Args = bounded (a_type ∷ a_type ∷ a_type ∷ a_type ∷ a_type ∷ []) (X, (Y, (S, (Z, (N, tt))))) (dcons de (dcons dp (dcons dh (dcons ds (dcons dn (dcons dg (dcons dd (dcons dm dnil)))))))) in
     let call = F.ended X Y S Z N e de p dp h dh s ds n dn g dg dd dm in let c = F.clauses X Y S Z N e de p dp h dh s ds n dn g dg dd dm 𝓛 𝓜.mem 𝓡.returns in
-    let function = inst_fn args code.function in
-    let stayed : Stays call.signature.params call.kept = (stay_dropped _ no, tt) in
-    let W = walk_of 𝓛 call stayed c in let 𝓣 = tables 𝓤 𝓛.H 𝓜 𝓡 𝓡.env in
-    proved_at 𝓛 call stayed c 𝓜 𝓡 (vacant_goes 𝓛 X Y S Z N p h s n g 6 (named_lft 6 0 tt), tt)
-    (F.Key.name args) function (code.unfolded 𝓤 𝓛.H 𝓜 𝓡 wired (X, (Y, (S, (Z, (N, tt))))) de dp dh ds dn dg dd dm)
-    (λ given are.
-    let κs = given.0.0 in let qs = given.0.1 in let bounds = given.0.2 in let a = given.0.3 in
-    let entry = a.0 in let κ = κs.0 in let ℓ : NamedLft = record { mir = named 0; lft = κ } in
-    let Here = EntryType.the_row ℓ K V T A H p h s n g in let There = PlaceType.the_row ℓ K V T A H p h s n g in let LK = param_laws 0 X LX in
-    let here_laws = EntryLaws.the_row_laws ℓ K V T A H p h s n g (param_laws 0 X LX) (param_laws 1 Y LY) (param_laws 2 S LS) (param_laws 3 Z LZ) (param_laws 4 N LN) in
-    let there_laws = PlaceLaws.the_row_laws ℓ K V T A H p h s n g (param_laws 0 X LX) (param_laws 1 Y LY) (param_laws 2 S LS) (param_laws 3 Z LZ) (param_laws 4 N LN) in
-    let held = sole (layout Here) given.0.4.0 ((here_laws.lawful 𝓛).typed entry given.0.4.0 are.0) in let b = held.0 in
-    let vals : List Val × Unit {0} = (b ∷ [], tt) in let known : given.0.4 ≡ vals = λ j. (held.1 j, tt) in
-    subst (λ (us : List Val × Unit {0}). ent 𝓤 (W.pre ((κs, qs, bounds, a, us), tt)) (WpFn 𝓤 𝓛.H 𝓣.C 𝓣.Λ function (W.args ((κs, qs, bounds, a, us), tt)) (W.post ((κs, qs, bounds, a, us), tt)))) (sym known) (
-    let y : W.Ghost = ((κs, qs, bounds, a, vals), tt) in
-    let alive = ‵ (flft κ qs.0) ⊛ ‵ (flft κs.1.0 qs.1.0) ⊛ ‵ (flft κs.1.1.0 qs.1.1.0) ⊛ ‵ (flft κs.1.1.1.0 qs.1.1.1.0) ⊛ ‵ (flft κs.1.1.1.1.0 qs.1.1.1.1.0) ⊛ ‵ (flft κs.1.1.1.1.1.0 qs.1.1.1.1.1.0) ⊛ ‵ ftrue in
-    let bound = raw (fact 𝓤 (κs.1.0 ⊑ X.lives)) ⊛ raw (fact 𝓤 (κs.1.1.0 ⊑ Y.lives)) ⊛ raw (fact 𝓤 (κs.1.1.1.0 ⊑ S.lives)) ⊛ raw (fact 𝓤 (κs.1.1.1.1.0 ⊑ Z.lives)) ⊛ raw (fact 𝓤 (κs.1.1.1.1.1.0 ⊑ N.lives)) ⊛ ‵ ftrue in
-    qed 𝓛 ((alive ⊛ ‵ (Here.own_val entry (b ∷ [])) ⊛ ‵ ftrue) ∷ bound ∷ []) ∵
-    move ! (1 ∷ []) $ split ! $ heard ! _ (λ in_K. split ! $ heard ! _ (λ in_V. split ! $ heard ! _ (λ in_S. split ! $ heard ! _ (λ in_A. split ! $ heard ! _ (λ in_H. drop ! $
-    split ! $ move ! (1 ∷ []) $ split ! $
-    -- [the place; nothing; the tokens]
-    enter ! _ _ _ _ _ $ alloc_all ! (λ l. pass_all ! refl (held.2, tt) $
-    sets ! (of_opd ! (get ! refl)) refl held.2 $
-    let G₁ = triple_of 𝓛 (Opens.signature X Y S Z N e de p dp h dh s ds n dn g dg dd dm) (Opens.spec X Y S Z N e de p dp h dh s ds n dn g dg dd dm 𝓛 𝓜.mem 𝓡.returns) in
-    let z₁ : G₁.Ghost = ((κs, qs, bounds, (entry, tt), (b ∷ [], tt)), tt) in
-    join ! $ move ! (1 ∷ 0 ∷ []) $ join ! $ nothing ! $
-    use0 𝓛 (raw (fact 𝓤 (κs.1.1.1.1.1.0 ⊑ N.lives))) (fact_i 𝓤 _ (emp 𝓤) in_H) $ join ! $ use0 𝓛 (raw (fact 𝓤 (κs.1.1.1.1.0 ⊑ Z.lives))) (fact_i 𝓤 _ (emp 𝓤) in_A) $ join ! $ use0 𝓛 (raw (fact 𝓤 (κs.1.1.1.0 ⊑ S.lives))) (fact_i 𝓤 _ (emp 𝓤) in_S) $ join ! $ use0 𝓛 (raw (fact 𝓤 (κs.1.1.0 ⊑ Y.lives))) (fact_i 𝓤 _ (emp 𝓤) in_V) $ join ! $ use0 𝓛 (raw (fact 𝓤 (κs.1.0 ⊑ X.lives))) (fact_i 𝓤 _ (emp 𝓤) in_K) $ join ! $ move ! (1 ∷ 0 ∷ []) $ use2 𝓛 (raw (G₁.pre z₁)) (id⊢ 𝓤 _) $
-    calls_at ! (framed 𝓤 𝓛.H 𝓜 𝓣) G₁ (Opened.met 𝓤 𝓛 𝓜 𝓡 (code.calls-wasmi_hashed::map::entry::VacantEntry::into_inner 𝓡.env wired) X Y S Z N LX LY LS LZ LN e de p dp h dh s ds n dn g dg dd dm me mp mh ms mn mg md mm) z₁
-    (and_then ! (get ! refl) (no_more !)) (λ v₁.
-    use1 𝓛 (later (some (λ (r : There.Denot). (alive ⊛ ‵ (There.own_val r (v₁ ∷ []))) ⊛
-    some (λ (ws : Lasts (Opens.ended X Y S Z N e de p dp h dh s ds n dn g dg dd dm) κs (entry, tt)). ‵ (lasts (Opens.ended X Y S Z N e de p dp h dh s ds n dn g dg dd dm) κs (entry, tt) ws) ⊛ raw (fact 𝓤 (r ≡ entry.entry)))))) (id⊢ 𝓤 _) $
-    await ! tt $ pick ! (λ r. split ! $ split ! $ move ! (2 ∷ []) $ pick ! (λ ws. split ! $ drop ! $ heard ! _ (λ same.
-    move ! (1 ∷ []) $ peeks ! There _ (shows 𝓛 There) r (v₁ ∷ []) (λ seen₁.
-    lands_as ! refl refl ((there_laws.lawful 𝓛).typed r (v₁ ∷ []) seen₁).0 $
-    let G₂ = triple_of 𝓛 (Takes.signature X Y S Z N e de p dp h dh s ds n dn g dg dd dm) (Takes.spec X Y S Z N e de p dp h dh s ds n dn g dg dd dm 𝓛 𝓜.mem 𝓡.returns) in
-    let z₂ : G₂.Ghost = ((κs, qs, bounds, (r, tt), (v₁ ∷ [], tt)), tt) in
-    nothing ! $ move ! (1 ∷ 0 ∷ []) $ join ! $ move ! (1 ∷ 0 ∷ []) $ join ! $ nothing ! $
-    use0 𝓛 (raw (fact 𝓤 (κs.1.1.1.1.1.0 ⊑ N.lives))) (fact_i 𝓤 _ (emp 𝓤) in_H) $ join ! $ use0 𝓛 (raw (fact 𝓤 (κs.1.1.1.1.0 ⊑ Z.lives))) (fact_i 𝓤 _ (emp 𝓤) in_A) $ join ! $ use0 𝓛 (raw (fact 𝓤 (κs.1.1.1.0 ⊑ S.lives))) (fact_i 𝓤 _ (emp 𝓤) in_S) $ join ! $ use0 𝓛 (raw (fact 𝓤 (κs.1.1.0 ⊑ Y.lives))) (fact_i 𝓤 _ (emp 𝓤) in_V) $ join ! $ use0 𝓛 (raw (fact 𝓤 (κs.1.0 ⊑ X.lives))) (fact_i 𝓤 _ (emp 𝓤) in_K) $ join ! $ move ! (1 ∷ 0 ∷ []) $ use2 𝓛 (raw (G₂.pre z₂)) (id⊢ 𝓤 _) $
-    calls_at ! (framed 𝓤 𝓛.H 𝓜 𝓣) G₂ (Taken.met 𝓤 𝓛 𝓜 𝓡 (code.calls-std::collections::hash_map::VacantEntry::into_key 𝓡.env wired) X Y S Z N LX LY LS LZ LN e de p dp h dh s ds n dn g dg dd dm me mp mh ms mn mg md mm) z₂
-    (and_then ! (get ! refl) (no_more !)) (λ v.
-    use1 𝓛 (later (some (λ (key : K.Denot). (alive ⊛ ‵ (K.own_val key (v ∷ []))) ⊛
-    some (λ (ws : Lasts (Takes.ended X Y S Z N e de p dp h dh s ds n dn g dg dd dm) κs (r, tt)). ‵ (lasts (Takes.ended X Y S Z N e de p dp h dh s ds n dn g dg dd dm) κs (r, tt) ws)
-    ⊛ raw (fact 𝓤 (key ≡ entry_key (Vacant r)))
-    ⊛ raw (fact 𝓤 ((see (There.exit (at (0 ∷ []))) r ws.0).0.now ≡ (entry_map_ref (Vacant r)).now)))))) (id⊢ 𝓤 _) $
-    await ! tt $ pick ! (λ key. split ! $ split ! $ move ! (2 ∷ []) $ pick ! (λ ws. split ! $ move ! (1 ∷ []) $
-    split ! $ heard ! _ (λ key_is. heard ! _ (λ unchanged. fsplit ! $ move ! (1 ∷ []) $ drop ! $
-    -- [how the place is left; the tokens; the key]
-    use1 𝓛 (‵ (inner_stays K V T A H g (Vacant r))) (comes_back 𝓛 K V T A H p h s n g ℓ r ws.0 unchanged) $
-    rewrite ! 0 (λ (there : There.Denot). ‵ (inner_stays K V T A H g (Vacant there))) same refl $
-    move ! (2 ∷ []) $ peeks ! K _ (shows 𝓛 K) key (v ∷ []) (λ shown.
-    lands_as ! refl refl ((LK.lawful 𝓛).typed key (v ∷ []) shown).0 $
-    returns ! (look_at ! 0 refl) $ free_all ! refl $
-    suffices ! _ (ends_at 𝓛 call stayed c y v key (rest (Here.exit no) entry, tt) (tt, tt)) $
-    use0 𝓛 (raw (fact 𝓤 (key ≡ entry_key (Vacant entry.entry)))) (fact_i 𝓤 _ (emp 𝓤) (subst (λ (there : There.Denot). key ≡ entry_key (Vacant there)) same key_is)) $
-    -- [the key is that; the key; how the inner map is left; the tokens]
-    use0 𝓛 (‵ (let_go 1)) (gone 𝓛 1) $ move ! (4 ∷ 0 ∷ 2 ∷ []) $ group ! 3 $ move ! (0 ∷ 2 ∷ []) $ done !)))))))))))))))))))
+    let opens = Opens.ended X Y S Z N e de p dp h dh s ds n dn g dg dd dm in let calls = Calls.ended X Y S Z N e de p dp h dh s ds n dn g dg dd dm in
+    let stayed : Stays call.signature.params call.kept = (stay_dropped _ no, tt) in let W = walk_of 𝓛 call stayed c in let 𝓣 = tables 𝓤 𝓛.H 𝓜 𝓡 𝓡.env in let P = vacant X Y S Z N p h s n g LX LY LS LZ LN in
+    proved_by 𝓛 call stayed c 𝓜 𝓡 (spent 𝓛 P 6 (named_lft 6 0 tt), tt)
+    (F.Key.name args) (inst_fn args code.function) (code.unfolded 𝓤 𝓛.H 𝓜 𝓡 wired (X, (Y, (S, (Z, (N, tt))))) de dp dh ds dn dg dd dm)
+    (λ κs. (one_of 𝓛 (P.here_laws (named_lft 6 0 tt κs)), tt)) (λ κs qs bounds a _ us good.
+    let y : W.Ghost = ((κs, qs, bounds, a, (us.0 ∷ [], tt)), tt) in let ℓ = named_lft 6 0 tt κs in let there = P.inner ℓ a.0 in
+    qed 𝓛 (raw (W.pre y) ∷ []) ∵ enter ! _ _ _ _ _ $
+    hands 𝓛 𝓣.C (framed 𝓤 𝓛.H 𝓜 𝓣) 𝓣.Λ P ℓ a.0 us.0
+    (all_of 𝓤 (toks 𝓛 6 κs qs) (alive_in X Y S Z N κs))
+    (lasts opens κs (a.0, tt)) (Opened.met 𝓤 𝓛 𝓜 𝓡 (code.calls-wasmi_hashed::map::entry::VacantEntry::into_inner 𝓡.env wired) X Y S Z N LX LY LS LZ LN e de p dp h dh s ds n dn g dg dd dm me mp mh ms mn mg md mm ((κs, qs, bounds, (a.0, tt), (us.0 ∷ [], tt)), tt))
+    ftrue ! good.0 good.0 (λ v ok. ok)
+    (λ v. Called.met 𝓤 𝓛 𝓜 𝓡 (code.calls-std::collections::hash_map::VacantEntry::into_key 𝓡.env wired) X Y S Z N LX LY LS LZ LN e de p dp h dh s ds n dn g dg dd dm me mp mh ms mn mg md mm ((κs, qs, bounds, (there, a.1), (v ∷ [], tt)), tt))
+    (Good (layout (param 0 X))) (λ u ok. ok)
+    (λ v u. takes 𝓛 (toks 𝓛 6 κs qs) 1 (param 0 X) {W = Lasts calls κs (there, tt)} (λ ws. left ((P.There ℓ).exit (at (0 ∷ []))) there ws.0) (λ r. []) (λ r. r ≡ entry_key (Vacant there)) (λ ws. (see ((P.There ℓ).exit (at (0 ∷ []))) there ws.0).0.now ≡ (entry_map_ref (Vacant there)).now)
+    (inner_stays (param 0 X) (param 1 Y) (param 2 S) (param 3 Z) (param 4 N) g (Vacant there)) (λ ws. comes_back 𝓛 (param 0 X) (param 1 Y) (param 2 S) (param 3 Z) (param 4 N) p h s n g ℓ there ws.0) u (λ r is. (typed_of 𝓛 (param_laws 0 X LX) r (u ∷ []) is).0) (λ r. leaves 𝓛 call stayed c y u r (rest ((P.Here ℓ).exit no) a.0, tt) (tt, tt))))

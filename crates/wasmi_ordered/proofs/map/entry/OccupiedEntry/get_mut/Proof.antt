@@ -1,96 +1,42 @@
 -- `get_mut` lends the inner place to the standard library's call. Assumes `Logic`.
-use Rattle.std.proofs.Common.{◌≡◌, [], ◌∷◌, refl, ap, MutBor}
-use Rattle.std.proofs.raw_atomic.Walks.{proved}
-use Rattle.std.specs.BTreeMap.Entry.{entry_value, with_entry_value, IsWritten}
-use Rattle.std.specs.Prelude.{Some}
 use Rattle.std.specs.contracts.collections.btree_map.OccupiedEntry.get_mut as Lends
 use Rattle.std.proofs.collections.btree_map.OccupiedEntry.get_mut.Met as Lent
-use Rattle.std.specs.declared.collections.btree_map.Entry.TheVariants.{Occupied}
-use base.Logic.{id⊢, emp}
-use base.Fml.{GName, ftrue, flft}
-use contract.BorrowLft.{◌⊑◌}
-use contract.Fact.{fact_i}
-use contract.Monad.{fact}
-use contract.Running.{tables}
-use denote.Exit.{no}
-use denote.Follow.{follows, follows_then, lends_Part}
-use denote.Laws.{shows}
-use denote.Memory.{mem}
-use denote.Param.{bounded, param}
-use denote.Ref.{MutRef, NamedLft, mut_vals, mut_Tells}
-use denote.Signature.{plain, named_lft}
-use denote.Steps.{nothing, heard, peeks, only}
-use denote.Triple.Call.{calls_at}
-use denote.Triple.Clauses.{lasts, Lasts}
-use denote.Triple.Spec.{triple_of}
-use denote.Triple.Table.{framed}
-use denote.Triple.Walked.{Stays, walk_of, stay_dropped, Goes-spent_ref, ends_at}
-use mir.MapTy.{inst_fn}
-use mir.Syntax.{named, Args, a_type, dcons, dnil}
-use mir.Val.{Val, vptr}
-use types.ByLocal.{alloc_all, pass_all, free_all, look_at, get, through, sets, lands_as}
-use types.Kit.{‵, raw, ◌⊛◌, some, later, ◌$◌, ◌∵◌, !, qed, done, move, drop, join, split, split3, fsplit3, keep, use0, use1, use2, pick, await, group, suffices, rewrite}
-use types.Mut.{open_ref}
-use types.Run.{enter, addr, fld, stop, and_then, no_more, returns}
-use Rattle.wasmi_arena.proofs.Frame.{let_go, gone}
-use Rattle.wasmi_ordered.specs.MapEntry.{with_value}
+use Rattle.wasmi_map_specs.proofs.Walk.{◌≡◌, [], ◌∷◌, MutBor, refl, leaves, Some, GName, ftrue, flft, emp, id⊢, toks, fact, tables, no, follows, follows_then, lends_Part, mem, bounded, param, MutRef, mut_vals, plain, named_lft, nothing, lasts, Lasts, framed, Stays, walk_of, stay_dropped, Goes-spent_ref, inst_fn, Args, a_type, dcons, dnil, named, Val, vptr, alloc_all, pass_all, free_all, look_at, get, through, sets, lands_as, ‵, raw, ◌⊛◌, some, later, ◌$◌, ◌∵◌, !, qed, done, move, keep, drop, split, split3, fsplit3, group, pick, await, use0, use1, use2, suffices, rewrite, open_ref, enter, addr, fld, stop, and_then, no_more, returns, let_go, gone, calls_on, told, proved_by, ref_of, facts, twice}
 use Rattle.wasmi_ordered.specs.contracts.map.entry.OccupiedEntry.get_mut as F
 use Rattle.wasmi_ordered.proofs.HeldMemory.{Held, Place, place_at, bare, place_out, place_back}
+use Rattle.wasmi_ordered.proofs.Rows.{entry_value, with_entry_value, IsWritten, Occupied, with_value, alive_in}
 use Rattle.wasmi_ordered.proofs.map.entry.OccupiedEntry.get_mut.Code as code
 use Rattle.wasmi_ordered.proofs.map.entry.OccupiedEntry.get_mut.Statement.{statement}
 
 pub get_mut_spec : {M : Type 1} → statement M
 get_mut_spec 𝓤 𝓛 𝓜 𝓡 wired X Y Z LX LY LZ h dh e de p dp o dt q dq g dg dd mh me mp mo mq mg md =
-    let V = param 1 Y in
-    let args : Args = bounded (a_type ∷ a_type ∷ a_type ∷ []) (X, (Y, (Z, tt))) (dcons dh (dcons de (dcons dp (dcons dt (dcons dq (dcons dg (dcons dd dnil))))))) in
-    let call = F.ended X Y Z h dh e de p dp o dt q dq g dg dd in let c = F.clauses X Y Z h dh e de p dp o dt q dq g dg dd 𝓛 𝓜.mem 𝓡.returns in
-    let function = inst_fn args code.function in
-    let stayed : Stays call.signature.params call.kept = (stay_dropped _ no, tt) in
-    let W = walk_of 𝓛 call stayed c in let 𝓣 = tables 𝓤 𝓛.H 𝓜 𝓡 𝓡.env in
-    proved 𝓛 call stayed c 𝓜 𝓡 (Goes-spent_ref 𝓛 5 (0 ∷ []) tt (plain (λ κs. Held (named_lft 5 1 tt κs) X Y Z p o q g)), tt)
-    (F.Key.name args) function (code.unfolded 𝓤 𝓛.H 𝓜 𝓡 wired (X, (Y, (Z, tt))) dh de dp dt dq dg dd)
-    (λ κs. (mut_vals, tt)) (λ κs. (mut_Tells (named 0) κs.0 (Held (named_lft 5 1 tt κs) X Y Z p o q g), tt))
-    (λ κs qs bounds a _ are.
-    let ℓ : NamedLft = named_lft 5 1 tt κs in let Self = Held ℓ X Y Z p o q g in let Inner = Place ℓ X Y Z p o q g in
-    let held = a.0.now in let b = a.0.ref_ptr.0 in let from = a.0.ref_ptr.1 in let κ = κs.0 in let share = qs.0 in let γ = a.0.ghost_name in let at = place_at ℓ X Y Z p o q g from in
-    let y : W.Ghost = ((κs, qs, bounds, a, (mut_vals a.0, tt)), tt) in
-    let others = ‵ (flft κs.1.0 qs.1.0) ⊛ ‵ (flft κs.1.1.0 qs.1.1.0) ⊛ ‵ (flft κs.1.1.1.0 qs.1.1.1.0) ⊛ ‵ (flft κs.1.1.1.1.0 qs.1.1.1.1.0) ⊛ ‵ ftrue in
-    let alive = ‵ (flft κ share) ⊛ others in let Answer = MutRef (named 0) κ V in
-    let put = λ (last : (Inner).Denot). record held { entry = last } in
-    qed 𝓛 ((alive ⊛ ‵ ((MutRef (named 0) κ Self).own_val a.0 (mut_vals a.0)) ⊛ ‵ ftrue)
-    ∷ (raw (fact 𝓤 (κs.1.1.0 ⊑ X.lives)) ⊛ raw (fact 𝓤 (κs.1.1.1.0 ⊑ Y.lives)) ⊛ raw (fact 𝓤 (κs.1.1.1.1.0 ⊑ Z.lives)) ⊛ ‵ ftrue) ∷ []) ∵
-    move ! (1 ∷ []) $ split ! $ heard ! _ (λ in_K. split ! $ heard ! _ (λ in_V. split ! $ heard ! _ (λ in_A. drop ! $
-    split ! $ split ! $ move ! (2 ∷ []) $ split ! $ fsplit3 ! $ keep ! (1 ∷ 2 ∷ 4 ∷ 5 ∷ []) $
-    enter ! _ _ _ _ _ $ alloc_all ! (λ l. pass_all ! refl ((tt, tt), tt) $
-    sets ! (addr ! (through ! refl (fld ! refl (stop !)))) refl (tt, tt) $
-    open_ref ! tt (mem Self) {b = b} {o = from} $
-    -- [the place; the open borrow, in three entries; the other tokens]
+    let args : Args = bounded (a_type ∷ a_type ∷ a_type ∷ []) (X, (Y, (Z, tt))) (dcons dh (dcons de (dcons dp (dcons dt (dcons dq (dcons dg (dcons dd dnil))))))) in let V = param 1 Y in
+    let call = F.ended X Y Z h dh e de p dp o dt q dq g dg dd in let c = F.clauses X Y Z h dh e de p dp o dt q dq g dg dd 𝓛 𝓜.mem 𝓡.returns in let inner = Lends.ended X Y Z o dt e de p dp q dq g dg dd in
+    let stayed : Stays call.signature.params call.kept = (stay_dropped _ no, tt) in let W = walk_of 𝓛 call stayed c in let 𝓣 = tables 𝓤 𝓛.H 𝓜 𝓡 𝓡.env in
+    proved_by 𝓛 call stayed c 𝓜 𝓡 (Goes-spent_ref 𝓛 5 (0 ∷ []) tt (plain (λ κs. Held (named_lft 5 1 tt κs) X Y Z p o q g)), tt)
+    (F.Key.name args) (inst_fn args code.function) (code.unfolded 𝓤 𝓛.H 𝓜 𝓡 wired (X, (Y, (Z, tt))) dh de dp dt dq dg dd)
+    (λ κs. (ref_of (named 0) κs.0 (Held (named_lft 5 1 tt κs) X Y Z p o q g), tt)) (λ κs qs bounds a _ us good.
+    let ℓ = named_lft 5 1 tt κs in let Self = Held ℓ X Y Z p o q g in let Inner = Place ℓ X Y Z p o q g in let known = alive_in X Y Z κs.1 in
+    let held = a.0.now in let b = a.0.ref_ptr.0 in let from = a.0.ref_ptr.1 in let κ = κs.0 in let γ = a.0.ghost_name in let at = place_at ℓ X Y Z p o q g from in
+    let y : W.Ghost = ((κs, qs, bounds, a, (mut_vals a.0, tt)), tt) in let put = λ (last : (Inner).Denot). record held { entry = last } in
+    qed 𝓛 (((‵ (flft κ qs.0) ⊛ raw (toks 𝓛 4 κs.1 qs.1)) ⊛ ‵ ((MutRef (named 0) κ Self).own_val a.0 (mut_vals a.0)) ⊛ ‵ ftrue) ∷ raw (facts 𝓤 known (emp 𝓤)) ∷ []) ∵
+    split ! $ split ! $ move ! (2 ∷ []) $ split ! $ fsplit3 ! $ keep ! (1 ∷ 2 ∷ 4 ∷ 5 ∷ 6 ∷ []) $
+    enter ! _ _ _ _ _ $ alloc_all ! (λ l. pass_all ! refl ((tt, tt), tt) $ sets ! (addr ! (through ! refl (fld ! refl (stop !)))) refl (tt, tt) $ open_ref ! tt (mem Self) {b = b} {o = from} $
+    -- [the place; the open borrow, in three entries; the other tokens; the facts]
     use1 𝓛 (‵ ((mem Inner).own_at held.entry b at) ⊛ raw (bare ℓ X Y Z p o q g 𝓛 b from held)) (place_out ℓ X Y Z p o q g 𝓛 b from LX LY LZ held) $ split ! $
     move ! (2 ∷ 3 ∷ 4 ∷ 0 ∷ 1 ∷ []) $ group ! 5 $
     let there : GName → MutBor (Inner).Denot = λ ν. record { ref_ptr = (b, at); ghost_name = ν; now = held.entry } in let code_of = (Self).coded.code held in
-    use1 𝓛 (later (some (λ (ν : GName). ‵ ((MutRef (named 0) κ Inner).own_val (there ν) (vptr b at ∷ [])) ⊛ ‵ (flft κ share) ⊛ ‵ (follows Self Inner γ ν put))))
-    (lends_Part 𝓛 Self Inner put (named 0) κ share b from b at γ (bare ℓ X Y Z p o q g 𝓛 b from held) (place_back ℓ X Y Z p o q g 𝓛 b from held) code_of code_of held.entry) $ await ! tt $ pick ! (λ ν. split3 ! $
-    -- [the inner place; the token; what the place is in the end; the other tokens]
-    let G = triple_of 𝓛 (Lends.signature X Y Z o dt e de p dp q dq g dg dd) (Lends.spec X Y Z o dt e de p dp q dq g dg dd 𝓛 𝓜.mem 𝓡.returns) in
-    let z : G.Ghost = ((κs, qs, bounds, (there ν, tt), (mut_vals (there ν), tt)), tt) in
-    move ! (1 ∷ 3 ∷ []) $ join ! $ move ! (1 ∷ 0 ∷ []) $ nothing ! $ move ! (1 ∷ 0 ∷ []) $ join ! $ move ! (1 ∷ 0 ∷ []) $ join ! $ nothing ! $
-    use0 𝓛 (raw (fact 𝓤 (κs.1.1.1.1.0 ⊑ Z.lives))) (fact_i 𝓤 _ (emp 𝓤) in_A) $ join ! $
-    use0 𝓛 (raw (fact 𝓤 (κs.1.1.1.0 ⊑ Y.lives))) (fact_i 𝓤 _ (emp 𝓤) in_V) $ join ! $ use0 𝓛 (raw (fact 𝓤 (κs.1.1.0 ⊑ X.lives))) (fact_i 𝓤 _ (emp 𝓤) in_K) $ join ! $ move ! (1 ∷ 0 ∷ []) $ use2 𝓛 (raw (G.pre z)) (id⊢ 𝓤 _) $
-    calls_at ! (framed 𝓤 𝓛.H 𝓜 𝓣) G (Lent.met 𝓤 𝓛 𝓜 𝓡 (code.calls-std::collections::btree_map::OccupiedEntry::get_mut 𝓡.env wired) X Y Z LX LY LZ o dt e de p dp q dq g dg dd mo me mp mq mg md) z
-    (and_then ! (get ! refl) (no_more !)) (λ v.
-    use1 𝓛 (later (some (λ (t : MutBor Y.Denot). (alive ⊛ ‵ (Answer.own_val t (v ∷ []))) ⊛
-    some (λ (ws : Lasts (Lends.ended X Y Z o dt e de p dp q dq g dg dd) κs (there ν, tt)). ‵ (lasts (Lends.ended X Y Z o dt e de p dp q dq g dg dd) κs (there ν, tt) ws)
-    ⊛ ‵ (follows Inner V ν t.ghost_name (with_entry_value held.entry)) ⊛ raw (fact 𝓤 (entry_value (Occupied held.entry) ≡ Some t.now))
-    ⊛ raw (fact 𝓤 ((last : Y.Denot) → IsWritten (Occupied held.entry) last (Occupied (with_entry_value held.entry last)))))))) (id⊢ 𝓤 _) $
-    await ! tt $ pick ! (λ t. split ! $ split ! $ move ! (2 ∷ []) $ pick ! (λ ws. split ! $ drop ! $ split ! $ move ! (1 ∷ []) $ split ! $ heard ! _ (λ value_is. heard ! _ (λ written_is.
-    -- [what the inner place is in the end; the tokens; the reference; what the place is in the end]
-    move ! (3 ∷ 0 ∷ []) $ use2 𝓛 (‵ (follows Self V γ t.ghost_name (with_value held))) (follows_then 𝓛 Self Inner V put (with_entry_value held.entry) γ ν t.ghost_name) $
-    move ! (2 ∷ []) $ peeks ! Answer _ (shows 𝓛 Answer) t (v ∷ []) (λ told.
-    let ref = vptr t.ref_ptr.0 t.ref_ptr.1 in let is_ref : v ≡ ref = ap only (mut_Tells (named 0) κ V t (v ∷ []) told) in
-    lands_as ! is_ref refl (tt, tt) $ rewrite ! 0 (λ (u : Val). ‵ (Answer.own_val t (u ∷ []))) is_ref refl $
-    returns ! (look_at ! 0 refl) $ free_all ! refl $
-    suffices ! _ (ends_at 𝓛 call stayed c y ref t (tt, tt) (tt, tt)) $
-    use0 𝓛 (raw (fact 𝓤 ((last : Y.Denot) → IsWritten (Occupied held.entry) last (Occupied (with_entry_value held.entry last))))) (fact_i 𝓤 _ (emp 𝓤) written_is) $
-    use0 𝓛 (raw (fact 𝓤 (entry_value (Occupied held.entry) ≡ Some t.now))) (fact_i 𝓤 _ (emp 𝓤) value_is) $
-    -- [both clauses; the reference; what the place is in the end; the tokens]
-    use0 𝓛 (‵ (let_go 1)) (gone 𝓛 1) $ move ! (5 ∷ 0 ∷ 3 ∷ []) $ group ! 3 $ move ! (0 ∷ 3 ∷ []) $ done !))))))))))))
+    use1 𝓛 (later (some (λ (ν : GName). ‵ ((MutRef (named 0) κ Inner).own_val (there ν) (vptr b at ∷ [])) ⊛ ‵ (flft κ qs.0) ⊛ ‵ (follows Self Inner γ ν put))))
+    (lends_Part 𝓛 Self Inner put (named 0) κ qs.0 b from b at γ (bare ℓ X Y Z p o q g 𝓛 b from held) (place_back ℓ X Y Z p o q g 𝓛 b from held) code_of code_of held.entry) $ await ! tt $ pick ! (λ ν. split3 ! $
+    -- [the inner place; the token; what the place is in the end; the other tokens; the facts]
+    move ! (1 ∷ 3 ∷ []) $ use2 𝓛 (raw (toks 𝓛 5 κs qs)) (id⊢ 𝓤 _) $ nothing ! $ move ! (1 ∷ 2 ∷ 0 ∷ 4 ∷ []) $
+    calls_on 𝓛 ! (framed 𝓤 𝓛.H 𝓜 𝓣) (twice 𝓤 known) (MutRef (named 0) κ Inner) (MutRef (named 0) κ V) ftrue (there ν) (mut_vals (there ν)) (mut_vals (there ν)) {W = Lasts inner κs (there ν, tt)}
+    (λ t ws. ‵ (lasts inner κs (there ν, tt) ws) ⊛ ‵ (follows Inner V ν t.ghost_name (with_entry_value held.entry)) ⊛ raw (fact 𝓤 (entry_value (Occupied held.entry) ≡ Some t.now))
+    ⊛ raw (fact 𝓤 ((last : Y.Denot) → IsWritten (Occupied held.entry) last (Occupied (with_entry_value held.entry last)))))
+    (Lent.met 𝓤 𝓛 𝓜 𝓡 (code.calls-std::collections::btree_map::OccupiedEntry::get_mut 𝓡.env wired) X Y Z LX LY LZ o dt e de p dp q dq g dg dd mo me mp mq mg md ((κs, qs, bounds, (there ν, tt), (mut_vals (there ν), tt)), tt))
+    (and_then ! (get ! refl) (no_more !)) (λ v t ws is. split ! $ drop ! $ split ! $
+    -- [what the inner place is in the end; the clauses; the reference; the tokens; the facts; what the place is in the end]
+    move ! (5 ∷ 0 ∷ []) $ use2 𝓛 (‵ (follows Self V γ t.ghost_name (with_value held))) (follows_then 𝓛 Self Inner V put (with_entry_value held.entry) γ ν t.ghost_name) $
+    let ref = told κ V t v is in lands_as ! ref.1 refl (tt, tt) $ rewrite ! 2 (λ (u : Val). ‵ ((MutRef (named 0) κ V).own_val t (u ∷ []))) ref.1 refl $
+    returns ! (look_at ! 0 refl) $ free_all ! refl $ suffices ! _ (leaves 𝓛 call stayed c y (vptr ref.0.0 ref.0.1) t (tt, tt) (tt, tt)) $
+    use0 𝓛 (‵ (let_go 1)) (gone 𝓛 1) $ keep ! (4 ∷ 0 ∷ 3 ∷ 1 ∷ 2 ∷ []) $ done !))))
