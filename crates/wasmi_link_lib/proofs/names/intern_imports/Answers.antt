@@ -1,4 +1,4 @@
-use Rattle.std.proofs.Common.{◌+◌, get_or, map, take}
+use Rattle.std.proofs.Common.{◌+◌, map, take}
 use Rattle.std.proofs.lemmas.List.{map_more}
 use Rattle.wasmi_module.specs.Views.{import_of}
 use Rattle.wasmi_link_lib.proofs.Lists.{names_step}

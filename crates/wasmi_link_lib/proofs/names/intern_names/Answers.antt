@@ -1,4 +1,4 @@
-use Rattle.std.proofs.Common.{map, sym, subst}
+use Rattle.std.proofs.Common.{map, subst}
 use Rattle.std.specs.List.{AllZip}
 use Rattle.wasmi_module.specs.Views.{export_of, import_of}
 use Rattle.wasmi_link_lib.specs.Linking.{named_of}
