@@ -52,7 +52,8 @@ impl Functions {
     }
 
     /// Defines a function, and returns its key and `true`. A name that is there keeps its function, whose
-    /// key comes with `false`; that never fails. After an error the functions are as before.
+    /// key comes with `false`; that never fails. After an error the functions are as before. It is
+    /// `OutOfSystemMemory`, or after 2^32 names, with those that were refused, also `NotEnoughKeys`.
     pub fn define(&mut self, name: &str, value: u64) -> Result<(FunctionKey, bool), ArenaError>
         ensures ok { IfOk result (λ defined. Defines self.old name.now value defined self.new) }
         ensures there { (key : ℕ) → name_at self.old key ≡ Some name.now → result ≡ Ok (key, false) }
