@@ -1,5 +1,4 @@
 //! The ends of ordered maps and sets, their parts, and what is joined.
-use crate::or_abort::OrAbort;
 use std::alloc::Global;
 use std::cell::Cell;
 use std::process::Abort;
@@ -12,36 +11,33 @@ use wasmi_vectors::observed::{Log, Observed};
 
 // Of a map of 1 to 4, which is empty before it is cut.
 fn take_pairs(rt: &impl Abort, alloc: Global) {
-    let mut map = Map::from_iter(alloc, [(2, "b"), (1, "a"), (3, "c")]).or_abort(rt);
-    map.append(&mut Map::from_iter(alloc, [(2, "d"), (4, "e")]).or_abort(rt))
-        .or_abort(rt);
-    assert_equal!(*rt;
-        (map.first_key_value(), map.last_key_value()),
-        (Some((&1, &"a")), Some((&4, &"e")))
-    );
+    let mut map = Map::from_iter(alloc, [(2, "b"), (1, "a"), (3, "c")]).expect(rt, "");
+    map.append(&mut Map::from_iter(alloc, [(2, "d"), (4, "e")]).expect(rt, ""))
+        .expect(rt, "");
+    assert_equal!(*rt; (map.first_key_value(), map.last_key_value()), (Some((&1, &"a")), Some((&4, &"e"))));
     assert_equal!(*rt;
         [map.pop_first(), map.pop_last(), map.pop_last(), map.pop_first(), map.pop_first()],
         [Some((1, "a")), Some((4, "e")), Some((3, "c")), Some((2, "d")), None]
     );
     assert_equal!(*rt; map.first_key_value(), None);
-    let mut rest = map.split_off(&2).or_abort(rt);
-    map.append(&mut rest).or_abort(rt);
+    let mut rest = map.split_off(&2).expect(rt, "");
+    map.append(&mut rest).expect(rt, "");
     assert_equal!(*rt; map.len(), 0);
 }
 
 // The same of a set.
 fn take_elements(rt: &impl Abort, alloc: Global) {
-    let mut set = Set::from_iter(alloc, [2, 1, 3]).or_abort(rt);
-    set.append(&mut Set::from_iter(alloc, [2, 4]).or_abort(rt))
-        .or_abort(rt);
+    let mut set = Set::from_iter(alloc, [2, 1, 3]).expect(rt, "");
+    set.append(&mut Set::from_iter(alloc, [2, 4]).expect(rt, ""))
+        .expect(rt, "");
     assert_equal!(*rt; (set.first(), set.last()), (Some(&1), Some(&4)));
     assert_equal!(*rt;
         [set.pop_first(), set.pop_last(), set.pop_last(), set.pop_first(), set.pop_last()],
         [Some(1), Some(4), Some(3), Some(2), None]
     );
     assert_equal!(*rt; set.last(), None);
-    let mut others = set.split_off(&2).or_abort(rt);
-    set.append(&mut others).or_abort(rt);
+    let mut others = set.split_off(&2).expect(rt, "");
+    set.append(&mut others).expect(rt, "");
     assert_equal!(*rt; set.len(), 0);
 }
 
@@ -53,20 +49,19 @@ fn ends_are_read_and_taken(rt: HostRuntime) {
 
 #[test]
 fn a_range_is_walked_from_both_ends(rt: HostRuntime) {
-    let map = Map::from_iter(rt.alloc(), (0..10u32).map(|key| (key, key))).or_abort(&rt);
-    let set = Set::from_iter(rt.alloc(), 0..10u32).or_abort(&rt);
+    let map = Map::from_iter(rt.alloc(), (0..10u32).map(|key| (key, key))).expect(&rt, "");
+    let set = Set::from_iter(rt.alloc(), 0..10u32).expect(&rt, "");
     let mut part = map.range(3..6);
     assert_equal!(rt; part.next(), Some((&3, &3)));
     assert_equal!(rt; part.next_back(), Some((&5, &5)));
     assert_equal!(rt; part.next(), Some((&4, &4)));
-    assert_equal!(rt; part.next_back(), None);
-    assert_equal!(rt; (set.range(7..).count(), set.range(..=3).count()), (3, 4));
+    assert_equal!(rt; (part.next_back(), set.range(7..).count(), set.range(..=3).count()), (None, 3, 4));
 }
 
 // A map of 0 to 59 with a request refused in the cut at 45, or in the join of both parts.
 fn cut_pairs(rt: &impl Abort, alloc: Global, log: &Log, nth: u64) {
     let mut map: Map<u32, u32, Observed<'_>> = Map::new(Observed::new(alloc, log));
-    map.extend((0..60u32).map(|key| (key, key))).or_abort(rt);
+    map.extend((0..60u32).map(|key| (key, key))).expect(rt, "");
     log.refuse_once(nth);
     match map.split_off(&45) {
         Ok(mut rest) => {
@@ -97,15 +92,11 @@ fn have_all(one: &Set<u32, Observed<'_>>, other: &Set<u32, Observed<'_>>) -> boo
 fn join_elements(rt: &impl Abort, alloc: Global, log: &Log, nth: u64) {
     let mut set: Set<u32, Observed<'_>> = Set::new(Observed::new(alloc, log));
     let mut other: Set<u32, Observed<'_>> = Set::new(Observed::new(alloc, log));
-    set.extend(0..40u32).or_abort(rt);
-    other.extend(30..60u32).or_abort(rt);
+    set.extend(0..40u32).expect(rt, "");
+    other.extend(30..60u32).expect(rt, "");
     log.refuse_once(nth);
     if let Err(error) = set.append(&mut other) {
-        assert_equal!(*rt;
-            (error, other.is_empty()),
-            (ArenaError::OutOfSystemMemory, false),
-            "at {nth}"
-        );
+        assert_equal!(*rt; (error, other.is_empty()), (ArenaError::OutOfSystemMemory, false), "at {nth}");
     } else {
         assert_equal!(*rt; (set.len(), other.len()), (60, 0), "at {nth}");
     }
@@ -138,11 +129,11 @@ fn what_is_in_both_is_dropped_once(rt: HostRuntime) {
         for number in first..first.wrapping_add(5) {
             pairs
                 .insert(Noted::new(number, &keys), Counted::new(&values))
-                .or_abort(&rt);
-            others.insert(Noted::new(number, &elements)).or_abort(&rt);
+                .expect(&rt, "");
+            others.insert(Noted::new(number, &elements)).expect(&rt, "");
         }
-        map.append(&mut pairs).or_abort(&rt);
-        set.append(&mut others).or_abort(&rt);
+        map.append(&mut pairs).expect(&rt, "");
+        set.append(&mut others).expect(&rt, "");
     }
     assert_equal!(rt; (map.len(), set.len()), (11, 11));
     assert_equal!(rt; (keys.dropped(), values.get(), elements.dropped()), (4, 4, 4));
