@@ -1,5 +1,4 @@
 //! Arenas: worked keys and refusals, the Rust crate's own cases, and texts.
-use crate::or_abort::OrAbort;
 use std::alloc::Global;
 use std::num::NonZero;
 use std::ops::Range;
@@ -29,12 +28,8 @@ fn fills<Key: ArenaKey + PartialEq>(alloc: Global, first: Key, second: Key) -> b
 fn arenas_under_each_type_of_keys(rt: HostRuntime) {
     assert!(rt; fills(rt.alloc(), 0usize, 1));
     assert!(rt; fills(rt.alloc(), 0u32, 1));
-    for (one, two) in NonZero::<u32>::new(1)
-        .into_iter()
-        .zip(NonZero::<u32>::new(2))
-    {
-        assert!(rt; fills(rt.alloc(), one, two));
-    }
+    let (one, two) = (NonZero::<u32>::new(1), NonZero::<u32>::new(2));
+    assert!(rt; fills(rt.alloc(), one.expect(&rt, "one"), two.expect(&rt, "two")));
 }
 
 #[test]
@@ -52,15 +47,16 @@ fn alloc_and_get(rt: HostRuntime) {
 #[test]
 fn ten_defaults_then_a_pair_then_five_backward(rt: HostRuntime) {
     let mut ten: StableArena<usize, i32> = StableArena::new(rt.alloc());
-    let keys = ten.alloc_many(10).or_abort(&rt);
+    let keys = ten.alloc_many(10).expect(&rt, "");
     assert_equal!(rt; (keys.start, keys.end, ten.len()), (0, 10, 10));
     assert!(rt; ten.values().all(|item| *item == 0));
-    let mut pair: StableArena<usize, i32> = StableArena::from_iter(rt.alloc(), 0..10).or_abort(&rt);
-    let (one, eight) = pair.get_disjoint_mut([1, 8]).or_abort(&rt);
+    let made = StableArena::<usize, i32>::from_iter(rt.alloc(), 0..10);
+    let mut pair = made.expect(&rt, "");
+    let (one, eight) = pair.get_disjoint_mut([1, 8]).expect(&rt, "");
     *one = -1;
     *eight = -8;
     assert!(rt; pair.values().copied().eq([0, -1, 2, 3, 4, 5, 6, 7, -8, 9]));
-    let five = numbered(rt.alloc(), 5).or_abort(&rt);
+    let five = numbered(rt.alloc(), 5).expect(&rt, "");
     let mut entries = five.iter();
     assert_equal!(rt; entries.len(), 5);
     for key in [4, 3, 2, 1, 0] {
@@ -72,8 +68,8 @@ fn ten_defaults_then_a_pair_then_five_backward(rt: HostRuntime) {
 // By `get_mut`, by index, by `put` and by a loop.
 #[test]
 fn items_are_written_under_their_keys(rt: HostRuntime) {
-    let mut arena = numbered(rt.alloc(), 10).or_abort(&rt);
-    *arena.get_mut(3).or_abort(&rt) = 30;
+    let mut arena = numbered(rt.alloc(), 10).expect(&rt, "");
+    *arena.get_mut(3).expect(&rt, "") = 30;
     assert_equal!(rt; arena.get(3), Ok(&30));
     assert!(rt; arena.len() > 9);
     arena[4] = 40;
@@ -82,41 +78,30 @@ fn items_are_written_under_their_keys(rt: HostRuntime) {
     let refused = (arena.put(10, 7), arena.get_mut(10).err(), arena.swap(0, 10));
     let error = ArenaError::KeyOutOfBounds;
     assert_equal!(rt; refused, (Err(error), Some(error), Err(error)));
-    assert!(rt;
-        arena
-            .values()
-            .copied()
-            .eq([90, 1, 2, 30, 40, 5, 6, 7, 8, 0])
-    );
-    let mut arena = numbered(rt.alloc(), 10).or_abort(&rt);
+    let wanted = [90, 1, 2, 30, 40, 5, 6, 7, 8, 0];
+    assert!(rt; arena.values().copied().eq(wanted));
+    let mut arena = numbered(rt.alloc(), 10).expect(&rt, "");
     for (key, item) in &mut arena {
         *item = item.wrapping_add(key);
     }
-    assert!(rt;
-        arena
-            .values()
-            .copied()
-            .eq((0..10usize).map(|key| key.wrapping_mul(2)))
-    );
+    let wanted = (0..10usize).map(|key| key.wrapping_mul(2));
+    assert!(rt; arena.values().copied().eq(wanted));
 }
 
 #[test]
 fn equal_arenas(rt: HostRuntime) {
-    let arena = numbered(rt.alloc(), 10).or_abort(&rt);
-    assert_equal!(rt; &arena, &numbered(rt.alloc(), 10).or_abort(&rt));
-    assert!(rt; arena != numbered(rt.alloc(), 9).or_abort(&rt));
+    let arena = numbered(rt.alloc(), 10).expect(&rt, "");
+    assert_equal!(rt; &arena, &numbered(rt.alloc(), 10).expect(&rt, ""));
+    assert!(rt; arena != numbered(rt.alloc(), 9).expect(&rt, ""));
 }
 
 #[test]
 fn keys_and_values_of_an_arena(rt: HostRuntime) {
-    let mut arena: StableArena<NonZero<u32>, u32> = StableArena::from_iter(
-        rt.alloc(),
-        0..40,
-    ).or_abort(&rt);
+    let made = StableArena::<NonZero<u32>, u32>::from_iter(rt.alloc(), 0..40);
+    let mut arena = made.expect(&rt, "");
     let mut keys = arena.keys();
     assert_equal!(rt; keys.next().map(|key| key.get()), Some(1));
-    assert_equal!(rt; keys.next_back().map(|key| key.get()), Some(40));
-    assert_equal!(rt; keys.len(), 38);
+    assert_equal!(rt; (keys.next_back().map(|key| key.get()), keys.len()), (Some(40), 38));
     // The arena is written to while its keys are walked.
     for key in keys {
         assert_equal!(rt; arena.put(key, 7), Ok(key.get() - 1));
@@ -137,18 +122,13 @@ fn numbers<Key: ArenaKey>(
 fn items_come_while_there_are_keys(rt: HostRuntime) {
     let refused = Err(ArenaError::NotEnoughKeys);
     let mut four: StableArena<Tiny, i32> = StableArena::new(rt.alloc());
-    assert_equal!(rt; numbers(four.alloc_many(4)), refused);
-    assert_equal!(rt; (four.len(), four.items().open_buckets()), (0, 0));
+    assert_equal!(rt; (numbers(four.alloc_many(4)), four.len(), four.items().open_buckets()), (refused, 0, 0));
     assert_equal!(rt; numbers(four.alloc_many(3)), Ok((0, 3)));
     assert_equal!(rt; (numbers(four.alloc_many(1)), four.len()), (refused, 3));
     assert_equal!(rt; numbers(four.alloc_many(0)), Ok((3, 3)));
     assert_equal!(rt; four.alloc(9).map(Tiny::into_usize), Ok(3));
-    let again = (
-        four.alloc(9).err(),
-        four.next_key().err(),
-        numbers(four.alloc_many(0)),
-    );
-    assert_equal!(rt; again, (refused.err(), refused.err(), refused));
+    assert_equal!(rt; (four.alloc(9).err(), four.next_key().err()), (refused.err(), refused.err()));
+    assert_equal!(rt; numbers(four.alloc_many(0)), refused);
     assert!(rt; four.values().copied().eq([0, 0, 0, 9]));
     let mut one: StableArena<One, i32> = StableArena::new(rt.alloc());
     assert_equal!(rt; numbers(one.alloc_many(0)), Ok((0, 0)));
@@ -157,15 +137,12 @@ fn items_come_while_there_are_keys(rt: HostRuntime) {
 
 #[test]
 fn four_of_four_keys_are_collected(rt: HostRuntime) {
-    let four: StableArena<Tiny, usize> = StableArena::from_iter(rt.alloc(), 0..4).or_abort(&rt);
+    let four: StableArena<Tiny, usize> = StableArena::from_iter(rt.alloc(), 0..4).expect(&rt, "");
     assert_equal!(rt; four.len(), 4);
     for (number, (key, item)) in four.iter().enumerate() {
         assert_equal!(rt; (key.into_usize(), *item), (number, number));
     }
-    let five: Result<StableArena<Tiny, usize>, ArenaError> = StableArena::from_iter(
-        rt.alloc(),
-        0..5,
-    );
+    let five = StableArena::<Tiny, usize>::from_iter(rt.alloc(), 0..5);
     assert_equal!(rt; five.err(), Some(ArenaError::NotEnoughKeys));
 }
 
@@ -175,10 +152,8 @@ fn too_many_items_ask_for_nothing(rt: HostRuntime) {
     for len in [0, 1] {
         for amount in [usize::MAX, 4_294_967_265] {
             let log = Log::new();
-            let mut arena: StableArena<usize, i32, Observed<'_>> = StableArena::from_iter(
-                Observed::new(rt.alloc(), &log),
-                0..len,
-            ).or_abort(&rt);
+            let made = StableArena::from_iter(Observed::new(rt.alloc(), &log), 0..len);
+            let mut arena: StableArena<usize, i32, Observed<'_>> = made.expect(&rt, "");
             let made = log.requests();
             assert_equal!(rt; numbers(arena.alloc_many(amount)), Err(ArenaError::NotEnoughKeys));
             assert!(rt; arena.values().copied().eq(0..len));
@@ -190,40 +165,36 @@ fn too_many_items_ask_for_nothing(rt: HostRuntime) {
 #[test]
 fn debug_texts_of_arenas(rt: HostRuntime) {
     let mut arena: StableArena<u32, bool> = StableArena::new(rt.alloc());
-    let none = format!(in rt.alloc(); "{arena:?}{arena:#?}").or_abort(&rt);
+    let none = format!(in rt.alloc(); "{arena:?}{arena:#?}").expect(&rt, "");
     assert_equal!(rt; none.as_str(), "{}{}");
-    arena.alloc(true).or_abort(&rt);
-    arena.alloc(false).or_abort(&rt);
-    let two = format!(in rt.alloc(); "{arena:?} {arena:#?}").or_abort(&rt);
+    arena.alloc(true).expect(&rt, "");
+    arena.alloc(false).expect(&rt, "");
+    let two = format!(in rt.alloc(); "{arena:?} {arena:#?}").expect(&rt, "");
     assert_equal!(rt; two.as_str(), "{0: true, 1: false} {\n    0: true,\n    1: false,\n}");
     // The numbers of its keys, and not what these hold.
-    let keyed: StableArena<NonZero<u32>, u8> = StableArena::from_iter(rt.alloc(), 7..9).or_abort(
-        &rt,
-    );
-    let text = format!(in rt.alloc(); "{keyed:?}").or_abort(&rt);
+    let made = StableArena::<NonZero<u32>, u8>::from_iter(rt.alloc(), 7..9);
+    let keyed = made.expect(&rt, "");
+    let text = format!(in rt.alloc(); "{keyed:?}").expect(&rt, "");
     assert_equal!(rt; text.as_str(), "{0: 7, 1: 8}");
 }
 
 #[test]
 fn debug_texts_of_commands_and_replies(rt: HostRuntime) {
-    for (command, text) in [
-        (ArenaCommand::<u32, u8>::Alloc(7), "Alloc(7)"),
-        (ArenaCommand::Has(1), "Has(1)"),
-        (ArenaCommand::Put(1, 9), "Put(1, 9)"),
-        (ArenaCommand::Swap(0, 1), "Swap(0, 1)"),
-    ] {
-        let shown = format!(in rt.alloc(); "{command:?}").or_abort(&rt);
-        assert_equal!(rt; shown.as_str(), text);
-    }
-    let refused = ArenaReply::Refused(ArenaError::NotEnoughKeys);
-    for (reply, text) in [
-        (ArenaReply::<u32, u8>::Key(0), "Key(0)"),
-        (ArenaReply::Has(true), "Has(true)"),
-        (ArenaReply::Old(7), "Old(7)"),
-        (ArenaReply::Done, "Done"),
-        (refused, "Refused(NotEnoughKeys)"),
-    ] {
-        let shown = format!(in rt.alloc(); "{reply:?}").or_abort(&rt);
-        assert_equal!(rt; shown.as_str(), text);
-    }
+    let commands = [
+        ArenaCommand::<u32, u8>::Alloc(7),
+        ArenaCommand::Has(1),
+        ArenaCommand::Put(1, 9),
+        ArenaCommand::Swap(0, 1),
+    ];
+    let text = format!(in rt.alloc(); "{:?}", commands.as_slice()).expect(&rt, "");
+    assert_equal!(rt; text.as_str(), "[Alloc(7), Has(1), Put(1, 9), Swap(0, 1)]");
+    let replies = [
+        ArenaReply::<u32, u8>::Key(0),
+        ArenaReply::Has(true),
+        ArenaReply::Old(7),
+        ArenaReply::Done,
+        ArenaReply::Refused(ArenaError::NotEnoughKeys),
+    ];
+    let text = format!(in rt.alloc(); "{:?}", replies.as_slice()).expect(&rt, "");
+    assert_equal!(rt; text.as_str(), "[Key(0), Has(true), Old(7), Done, Refused(NotEnoughKeys)]");
 }

@@ -1,13 +1,6 @@
 //! `assert_equal!` passes equal values, and ends a test with a text of both where they differ.
-use crate::or_abort::OrAbort;
 use wasmi_vectors::assert_equal;
 use wasmi_vectors::asserts::{equal, equal_at};
-
-#[test]
-fn equal_values_pass(rt: HostRuntime) {
-    assert_equal!(rt; 1, 1);
-    assert_equal!(rt; "a", "a", "of {}", 1);
-}
 
 #[test]
 #[should_panic]
@@ -24,9 +17,9 @@ fn values_that_differ_at_a_place_end_the_test(rt: HostRuntime) {
 #[test]
 fn the_text_has_the_place_and_both_values(rt: HostRuntime) {
     let told = equal(Some(1), None).err().expect(&rt, "equal");
-    let text = format!(in rt.alloc(); "{told:?}").or_abort(&rt);
+    let text = format!(in rt.alloc(); "{told:?}").expect(&rt, "");
     assert!(rt; text.as_str() == "\n  left: Some(1)\n right: None");
     let told = equal_at(7, "a", "b").err().expect(&rt, "equal");
-    let text = format!(in rt.alloc(); "{told:?}").or_abort(&rt);
+    let text = format!(in rt.alloc(); "{told:?}").expect(&rt, "");
     assert!(rt; text.as_str() == "7\n  left: \"a\"\n right: \"b\"");
 }

@@ -1,7 +1,6 @@
 //! Many items, and items of many sizes: past the twelfth growth, refused once each, dropped once each, and
 //! calls that would take minutes if they went over the items.
 use crate::arenas::numbered;
-use crate::or_abort::OrAbort;
 use crate::vectors::counted;
 use std::alloc::Global;
 use wasmi_arena::{ArenaCommand, ArenaError, ArenaReply, StableArena, StableVec, run_arena};
@@ -22,48 +21,22 @@ const BYTES: u64 = 16 * 262_112;
 #[test]
 fn each_bucket_of_a_vector_is_refused_once(rt: HostRuntime) {
     let (log, tally, refused) = (Log::new(), Tally::new(), Tally::new());
-    {
-        let mut vec = StableVec::new(Observed::new(rt.alloc(), &log));
-        for (open, len) in STARTS.iter().enumerate() {
-            for number in vec.len() as u64..*len {
-                vec.push(Item::new(&tally, number)).or_abort(&rt);
-            }
-            log.refuse_once(1);
-            let error = vec.push(Item::new(&refused, 0)).err();
-            assert_equal!(rt; error, Some(ArenaError::OutOfSystemMemory), "at {len}");
-            assert_equal!(rt; (vec.slots() as u64, vec.open_buckets()), (*len, open), "at {len}");
-            assert!(rt; vec.iter().map(Item::number).eq(0..*len), "at {len}");
+    let mut vec = StableVec::new(Observed::new(rt.alloc(), &log));
+    for (open, len) in STARTS.iter().enumerate() {
+        for number in vec.len() as u64..*len {
+            vec.push(Item::new(&tally, number)).expect(&rt, "");
         }
-        assert_equal!(rt; vec.push(Item::new(&tally, 131_040)), Ok(131_040));
-        assert_equal!(rt; (vec.len(), vec.open_buckets(), vec.slots()), (131_041, 13, SLOTS));
-        assert_equal!(rt; (log.requests(), log.given(), log.bytes()), (26, 13, 2 * BYTES));
-        assert_equal!(rt; (refused.dropped().0, tally.dropped()), (13, (0, 0)));
+        log.refuse_once(1);
+        let error = vec.push(Item::new(&refused, 0)).err();
+        assert_equal!(rt; error, Some(ArenaError::OutOfSystemMemory), "at {len}");
+        assert_equal!(rt; (vec.slots() as u64, vec.open_buckets()), (*len, open), "at {len}");
+        assert!(rt; vec.iter().map(Item::number).eq(0..*len), "at {len}");
     }
-    assert_equal!(rt; (tally.dropped(), log.amiss()), ((131_041, 131_041), 0));
-}
-
-#[test]
-fn each_bucket_of_an_arena_is_refused_once(rt: HostRuntime) {
-    let (log, tally, refused) = (Log::new(), Tally::new(), Tally::new());
-    {
-        let mut arena: StableArena<usize, Item<'_>, Observed<'_>> = StableArena::new(Observed::new(
-            rt.alloc(),
-            &log,
-        ));
-        for len in STARTS {
-            for number in arena.len() as u64..len {
-                arena.alloc(Item::new(&tally, number)).or_abort(&rt);
-            }
-            log.refuse_once(1);
-            let error = arena.alloc(Item::new(&refused, 0)).err();
-            assert_equal!(rt; error, Some(ArenaError::OutOfSystemMemory), "at {len}");
-            assert_equal!(rt; (arena.len() as u64, arena.room()), (len, 0), "at {len}");
-            assert!(rt; arena.values().map(Item::number).eq(0..len), "at {len}");
-        }
-        assert_equal!(rt; arena.alloc(Item::new(&tally, 131_040)), Ok(131_040));
-        assert_equal!(rt; (arena.len(), log.requests(), log.bytes()), (131_041, 26, 2 * BYTES));
-        assert_equal!(rt; (refused.dropped().0, tally.dropped()), (13, (0, 0)));
-    }
+    assert_equal!(rt; vec.push(Item::new(&tally, 131_040)), Ok(131_040));
+    assert_equal!(rt; (vec.len(), vec.open_buckets(), vec.slots()), (131_041, 13, SLOTS));
+    assert_equal!(rt; (log.requests(), log.given(), log.bytes()), (26, 13, 2 * BYTES));
+    assert_equal!(rt; (refused.dropped().0, tally.dropped()), (13, (0, 0)));
+    drop(vec);
     assert_equal!(rt; (tally.dropped(), log.amiss()), ((131_041, 131_041), 0));
 }
 
@@ -71,27 +44,19 @@ fn each_bucket_of_an_arena_is_refused_once(rt: HostRuntime) {
 #[test]
 fn many_items_at_once(rt: HostRuntime) {
     let log = Log::new();
-    {
-        let mut arena: StableArena<usize, u64, Observed<'_>> = StableArena::new(Observed::new(
-            rt.alloc(),
-            &log,
-        ));
-        let keys = arena.alloc_many(131_041).or_abort(&rt);
-        assert_equal!(rt; (keys.start, keys.end, log.requests()), (0, 131_041, 13));
-        let copy = arena.clone().or_abort(&rt);
-        assert!(rt; copy == arena && arena.values().all(|item| *item == 0));
-        let mut vec = StableVec::new(Observed::new(rt.alloc(), &log));
-        assert_equal!(rt; vec.extend(0..131_041u64), Ok(()));
-        assert!(rt; vec.iter().copied().eq(0..131_041));
-        assert!(rt;
-            vec.clone_in(rt.alloc())
-                .or_abort(&rt)
-                .iter()
-                .copied()
-                .eq(0..131_041)
-        );
-        assert_equal!(rt; (log.requests(), log.given()), (39, 39));
-    }
+    let handle = Observed::new(rt.alloc(), &log);
+    let mut arena: StableArena<usize, u64, Observed<'_>> = StableArena::new(handle);
+    let keys = arena.alloc_many(131_041).expect(&rt, "");
+    assert_equal!(rt; (keys.start, keys.end, log.requests()), (0, 131_041, 13));
+    let copy = arena.clone().expect(&rt, "");
+    assert!(rt; copy == arena && arena.values().all(|item| *item == 0));
+    let mut vec = StableVec::new(Observed::new(rt.alloc(), &log));
+    assert_equal!(rt; vec.extend(0..131_041u64), Ok(()));
+    assert!(rt; vec.iter().copied().eq(0..131_041));
+    let other = vec.clone_in(rt.alloc()).expect(&rt, "");
+    assert!(rt; other.iter().copied().eq(0..131_041));
+    assert_equal!(rt; (log.requests(), log.given()), (39, 39));
+    drop((arena, copy, vec));
     assert_equal!(rt; log.amiss(), 0);
 }
 
@@ -101,7 +66,7 @@ fn many_items_go_as_they_should(rt: HostRuntime) {
     for (way, in_turn) in [(0, 131_041), (1, 1), (2, 131_040)] {
         let (log, tally) = (Log::new(), Tally::new());
         let items = (0..131_041u64).map(|number| Item::new(&tally, number));
-        let mut vec = StableVec::from_iter(Observed::new(rt.alloc(), &log), items).or_abort(&rt);
+        let mut vec = StableVec::from_iter(Observed::new(rt.alloc(), &log), items).expect(&rt, "");
         assert_equal!(rt; (log.given(), log.bytes()), (13, BYTES));
         match way {
             0 => vec.clear(),
@@ -111,10 +76,8 @@ fn many_items_go_as_they_should(rt: HostRuntime) {
                 }
             }
             _ => {
-                let mut items = std::mem::replace(
-                    &mut vec,
-                    StableVec::new(Observed::new(rt.alloc(), &log)),
-                ).into_iter();
+                let none = StableVec::new(Observed::new(rt.alloc(), &log));
+                let mut items = std::mem::replace(&mut vec, none).into_iter();
                 for number in 0..70_000 {
                     assert_equal!(rt; items.next().as_ref().map(Item::number), Some(number));
                 }
@@ -141,9 +104,8 @@ fn holds<T: Copy + PartialEq + Drop>(
 ) -> Result<bool, ArenaError> {
     let log = Log::new();
     let mut vec = StableVec::new(Observed::new(alloc, &log));
-    let mut arena: StableArena<usize, T, Observed<'_>> = StableArena::new(Observed::new(
-        alloc, &log,
-    ));
+    let heap = Observed::new(alloc, &log);
+    let mut arena: StableArena<usize, T, Observed<'_>> = StableArena::new(heap);
     for _ in 0..100 {
         vec.push(item)?;
         arena.alloc(item)?;
@@ -170,10 +132,10 @@ fn items_of_many_sizes(rt: HostRuntime) {
 fn a_run_of_many_commands(rt: HostRuntime) {
     let mut commands = Vec::new(rt.alloc());
     for number in 0..150_000usize {
-        commands.push(ArenaCommand::Alloc(number)).or_abort(&rt);
+        commands.push(ArenaCommand::Alloc(number)).expect(&rt, "");
     }
     let mut arena: StableArena<usize, usize> = StableArena::new(rt.alloc());
-    let replies = run_arena(rt.alloc(), &mut arena, commands).or_abort(&rt);
+    let replies = run_arena(rt.alloc(), &mut arena, commands).expect(&rt, "");
     assert_equal!(rt; (replies.len(), arena.len()), (150_000, 150_000));
     let is_key = |(number, reply): (usize, &ArenaReply<usize, usize>)| *reply
         == ArenaReply::Key(number);
@@ -183,8 +145,8 @@ fn a_run_of_many_commands(rt: HostRuntime) {
 
 #[test]
 fn calls_take_constant_time(rt: HostRuntime) {
-    let mut vec = counted(rt.alloc(), 131_072).or_abort(&rt);
-    let mut arena = numbered(rt.alloc(), 131_072).or_abort(&rt);
+    let mut vec = counted(rt.alloc(), 131_072).expect(&rt, "");
+    let mut arena = numbered(rt.alloc(), 131_072).expect(&rt, "");
     let mut turns = 0u32;
     for turn in 0..262_144usize {
         let index = turn % 131_072;

@@ -6,8 +6,6 @@ mod arenas;
 #[cfg(test)]
 mod asserts;
 #[cfg(test)]
-mod callers;
-#[cfg(test)]
 mod dropped;
 #[cfg(test)]
 mod heap;
@@ -21,8 +19,6 @@ mod large;
 mod no_memory;
 #[cfg(test)]
 mod observed;
-#[cfg(test)]
-mod or_abort;
 #[cfg(test)]
 mod pairs;
 #[cfg(test)]

@@ -1,5 +1,4 @@
 //! Calls that ask for no memory, with every request refused.
-use crate::or_abort::OrAbort;
 use wasmi_arena::{ArenaError, StableArena, StableVec};
 use wasmi_vectors::assert_equal;
 use wasmi_vectors::observed::{Log, Observed};
@@ -9,23 +8,23 @@ fn nothing_needs_no_memory(rt: HostRuntime) {
     let log = Log::new();
     log.refuse_from(1);
     let handle = Observed::new(rt.alloc(), &log);
-    let none = StableVec::<u64, Observed<'_>>::from_iter(handle.clone().or_abort(&rt), 0..0);
-    let mut vec = none.or_abort(&rt);
+    let none = StableVec::<u64, Observed<'_>>::from_iter(handle.clone().expect(&rt, ""), 0..0);
+    let mut vec = none.expect(&rt, "");
     let copies = (
-        vec.clone().or_abort(&rt),
-        vec.clone_in(rt.alloc()).or_abort(&rt),
+        vec.clone().expect(&rt, ""),
+        vec.clone_in(rt.alloc()).expect(&rt, ""),
     );
     assert_equal!(rt; (copies.0.len(), copies.1.len(), vec.extend(0..0)), (0, 0, Ok(())));
     vec.clear();
     assert_equal!(rt; (vec.pop(), vec.into_iter().len()), (None, 0));
     let none = StableArena::<usize, u64, Observed<'_>>::from_iter(handle, 0..0);
-    let mut arena = none.or_abort(&rt);
+    let mut arena = none.expect(&rt, "");
     let copies = (
-        arena.clone().or_abort(&rt),
-        arena.clone_in(rt.alloc()).or_abort(&rt),
+        arena.clone().expect(&rt, ""),
+        arena.clone_in(rt.alloc()).expect(&rt, ""),
     );
     assert_equal!(rt; (copies.0.len(), copies.1.len()), (0, 0));
-    assert_equal!(rt; arena.alloc_many(0).or_abort(&rt).end, 0);
+    assert_equal!(rt; arena.alloc_many(0).expect(&rt, "").end, 0);
     arena.clear();
     assert_equal!(rt; (arena.into_iter().len(), log.requests()), (0, 0));
 }
@@ -34,11 +33,11 @@ fn nothing_needs_no_memory(rt: HostRuntime) {
 #[test]
 fn a_vector_with_room_needs_no_memory(rt: HostRuntime) {
     let log = Log::new();
-    let mut vec = StableVec::from_iter(Observed::new(rt.alloc(), &log), 0..95u64).or_abort(&rt);
+    let mut vec = StableVec::from_iter(Observed::new(rt.alloc(), &log), 0..95u64).expect(&rt, "");
     log.refuse_from(1);
     assert_equal!(rt; (vec.push(95), vec.pop(), vec.extend([95])), (Ok(95), Some(95), Ok(())));
     assert_equal!(rt; (vec.put(95, 7), vec.swap(0, 95)), (Ok(95), Ok(())));
-    assert_equal!(rt; vec.get_disjoint_mut([32, 31]).or_abort(&rt), (&mut 32, &mut 31));
+    assert_equal!(rt; vec.get_disjoint_mut([32, 31]).expect(&rt, ""), (&mut 32, &mut 31));
     let refused = vec.get_disjoint_mut([32, 96]).err();
     assert_equal!(rt; refused, Some(ArenaError::KeyOutOfBounds));
     assert_equal!(rt; vec.get_mut(0), Some(&mut 7));
@@ -55,13 +54,13 @@ fn an_arena_with_room_needs_no_memory(rt: HostRuntime) {
     let log = Log::new();
     let handle = Observed::new(rt.alloc(), &log);
     let mut arena: StableArena<usize, u64, Observed<'_>> = StableArena::new(handle);
-    arena.alloc(0).or_abort(&rt);
+    arena.alloc(0).expect(&rt, "");
     log.refuse_from(1);
-    let keys = arena.alloc_many(30).or_abort(&rt);
+    let keys = arena.alloc_many(30).expect(&rt, "");
     assert_equal!(rt; (keys.start, keys.end, arena.next_key()), (1, 31, Ok(31)));
     assert_equal!(rt; (arena.alloc(31), arena.alloc_many(0).map(|keys| keys.end)), (Ok(31), Ok(32)));
     assert_equal!(rt; (arena.put(0, 7), arena.swap(0, 31)), (Ok(0), Ok(())));
-    assert_equal!(rt; arena.get_disjoint_mut([0, 31]).or_abort(&rt), (&mut 31, &mut 7));
+    assert_equal!(rt; arena.get_disjoint_mut([0, 31]).expect(&rt, ""), (&mut 31, &mut 7));
     let refused = arena.get_disjoint_mut([31, 31]).err();
     assert_equal!(rt; refused, Some(ArenaError::AliasingPairAccess));
     assert_equal!(rt; arena.get_mut(0), Ok(&mut 31));
@@ -79,21 +78,20 @@ fn items_without_size_need_no_memory(rt: HostRuntime) {
     let log = Log::new();
     log.refuse_from(1);
     let handle = Observed::new(rt.alloc(), &log);
-    let mut vec = StableVec::new(handle.clone().or_abort(&rt));
+    let mut vec = StableVec::new(handle.clone().expect(&rt, ""));
     for index in 0..40 {
         assert_equal!(rt; vec.push(()), Ok(index));
     }
     assert_equal!(rt; (vec.len(), vec.open_buckets(), vec.slots()), (40, 2, 96));
-    assert_equal!(rt; vec.get_disjoint_mut([39, 0]).or_abort(&rt), (&mut (), &mut ()));
-    let longer = StableVec::from_iter(handle.clone().or_abort(&rt), (0..41).map(|_| ())).or_abort(
-        &rt,
-    );
+    assert_equal!(rt; vec.get_disjoint_mut([39, 0]).expect(&rt, ""), (&mut (), &mut ()));
+    let made = StableVec::from_iter(handle.clone().expect(&rt, ""), (0..41).map(|_| ()));
+    let longer = made.expect(&rt, "");
     assert!(rt; vec != longer && vec < longer);
     assert_equal!(rt; (vec.extend([()]), vec.iter_mut().count()), (Ok(()), 41));
-    assert_equal!(rt; &vec.clone().or_abort(&rt), &longer);
+    assert_equal!(rt; &vec.clone().expect(&rt, ""), &longer);
     assert!(rt; vec.slices().map(|part| part.len()).eq([32, 9]));
     let mut arena: StableArena<usize, (), Observed<'_>> = StableArena::new(handle);
     assert_equal!(rt; arena.alloc(()), Ok(0));
-    assert_equal!(rt; arena.alloc_many(40).or_abort(&rt).end, 41);
-    assert_equal!(rt; (arena.clone().or_abort(&rt).len(), log.requests()), (41, 0));
+    assert_equal!(rt; arena.alloc_many(40).expect(&rt, "").end, 41);
+    assert_equal!(rt; (arena.clone().expect(&rt, "").len(), log.requests()), (41, 0));
 }

@@ -1,5 +1,4 @@
 //! Each request for memory of a call refused in turn, and then the call made again.
-use crate::or_abort::OrAbort;
 use std::cell::Cell;
 use wasmi_arena::{ArenaCommand, ArenaError, ArenaReply, StableArena, StableVec, run_arena};
 use wasmi_vectors::assert_equal;
@@ -75,72 +74,64 @@ fn call_arena<'a>(
     Ok(len_of(made.items(), 300))
 }
 
-// An `extend` that is refused keeps the items before the one that found no memory.
+// Each request of each call refused in turn. What a refused call keeps is told of the call and the request.
+macro_rules! goes_on {
+    ($rt:ident, $type:ident, $call:ident, $items:ident => $vec:expr, $kept:expr) => {
+        for (call, requests, made) in CALLS {
+            for nth in 1..=requests.wrapping_add(1) {
+                let log = Log::new();
+                let first = Observed::new($rt.alloc(), &log);
+                let mut $items = $type::from_iter(first, 0..96u64).expect(&$rt, "");
+                log.refuse_once(nth);
+                let mut found = $call(call, &mut $items, Observed::new($rt.alloc(), &log));
+                if nth <= requests {
+                    assert_equal!($rt; found, Err(ArenaError::OutOfSystemMemory), "{call:?} {nth}");
+                    let (len, open) = $kept(call, nth);
+                    assert_equal!($rt; (len_of($vec, len), $vec.open_buckets()), (Some(len), open));
+                    found = $call(call, &mut $items, Observed::new($rt.alloc(), &log));
+                }
+                assert_equal!($rt; found, Ok(Some(made)), "{call:?} {nth}");
+                drop($items);
+                assert_equal!($rt; log.amiss(), 0, "{call:?} {nth}");
+            }
+        }
+    };
+}
+
+// An `extend` keeps the items before the one that found no memory.
+fn kept_of_vector(call: Call, nth: u64) -> (usize, usize) {
+    match (call, nth) {
+        (Call::AddMany, 2) => (224, 3),
+        _ => (96, 2),
+    }
+}
+
+fn kept_of_arena(_: Call, _: u64) -> (usize, usize) {
+    (96, 2)
+}
+
 #[test]
 fn a_vector_goes_on_after_each_refusal(rt: HostRuntime) {
-    for (call, requests, made) in CALLS {
-        for nth in 1..=requests.wrapping_add(1) {
-            let log = Log::new();
-            {
-                let handle = Observed::new(rt.alloc(), &log);
-                let mut vec = StableVec::from_iter(handle, 0..96u64).or_abort(&rt);
-                log.refuse_once(nth);
-                let first = call_vector(call, &mut vec, Observed::new(rt.alloc(), &log));
-                if nth <= requests {
-                    assert_equal!(rt; first, Err(ArenaError::OutOfSystemMemory), "{call:?} {nth}");
-                    let kept = match (call, nth) {
-                        (Call::AddMany, 2) => (224, 3),
-                        _ => (96, 2),
-                    };
-                    assert_equal!(rt; (len_of(&vec, 300), vec.open_buckets()), (Some(kept.0), kept.1));
-                    let again = call_vector(call, &mut vec, Observed::new(rt.alloc(), &log));
-                    assert_equal!(rt; again, Ok(Some(made)), "{call:?} {nth}");
-                } else {
-                    assert_equal!(rt; first, Ok(Some(made)), "{call:?} {nth}");
-                }
-            }
-            assert_equal!(rt; log.amiss(), 0, "{call:?} {nth}");
-        }
-    }
+    goes_on!(rt, StableVec, call_vector, vec => &vec, kept_of_vector);
 }
 
 #[test]
 fn an_arena_goes_on_after_each_refusal(rt: HostRuntime) {
-    for (call, requests, made) in CALLS {
-        for nth in 1..=requests.wrapping_add(1) {
-            let log = Log::new();
-            {
-                let handle = Observed::new(rt.alloc(), &log);
-                let mut arena = StableArena::from_iter(handle, 0..96u64).or_abort(&rt);
-                log.refuse_once(nth);
-                let first = call_arena(call, &mut arena, Observed::new(rt.alloc(), &log));
-                if nth <= requests {
-                    assert_equal!(rt; first, Err(ArenaError::OutOfSystemMemory), "{call:?} {nth}");
-                    let kept = (len_of(arena.items(), 96), arena.items().open_buckets());
-                    assert_equal!(rt; kept, (Some(96), 2), "{call:?} {nth}");
-                    let again = call_arena(call, &mut arena, Observed::new(rt.alloc(), &log));
-                    assert_equal!(rt; again, Ok(Some(made)), "{call:?} {nth}");
-                } else {
-                    assert_equal!(rt; first, Ok(Some(made)), "{call:?} {nth}");
-                }
-            }
-            assert_equal!(rt; log.amiss(), 0, "{call:?} {nth}");
-        }
-    }
+    goes_on!(rt, StableArena, call_arena, arena => arena.items(), kept_of_arena);
 }
 
 #[test]
 fn a_full_bucket_and_then_no_memory(rt: HostRuntime) {
     let log = Log::new();
-    {
-        let mut vec = StableVec::from_iter(Observed::new(rt.alloc(), &log), 0..31u64).or_abort(&rt);
-        log.refuse_from(1);
-        let refused = Err(ArenaError::OutOfSystemMemory);
-        assert_equal!(rt; (vec.push(31), vec.push(32)), (Ok(31), refused));
-        assert_equal!(rt; (vec.len(), vec.open_buckets(), vec.slots()), (32, 1, 32));
-        log.refuse_none();
-        assert_equal!(rt; (vec.push(32), vec.open_buckets(), vec.slots()), (Ok(32), 2, 96));
-    }
+    let made = StableVec::from_iter(Observed::new(rt.alloc(), &log), 0..31u64);
+    let mut vec = made.expect(&rt, "");
+    log.refuse_from(1);
+    let refused = Err(ArenaError::OutOfSystemMemory);
+    assert_equal!(rt; (vec.push(31), vec.push(32)), (Ok(31), refused));
+    assert_equal!(rt; (vec.len(), vec.open_buckets(), vec.slots()), (32, 1, 32));
+    log.refuse_none();
+    assert_equal!(rt; (vec.push(32), vec.open_buckets(), vec.slots()), (Ok(32), 2, 96));
+    drop(vec);
     assert_equal!(rt; (log.requests(), log.given(), log.amiss()), (3, 2, 0));
 }
 
@@ -151,21 +142,17 @@ fn a_refused_extend_goes_as_far_as_its_buckets(rt: HostRuntime) {
     // buckets then, the last is refused.
     for (held, more, came, dropped, found) in [(30, 5, 2, 3, (32, 1)), (32, 100, 64, 36, (96, 2))] {
         let (log, kept, added) = (Log::new(), Tally::new(), Tally::new());
-        {
-            let first = (0..held).map(|number| Item::new(&kept, number));
-            let mut vec = StableVec::from_iter(Observed::new(rt.alloc(), &log), first).or_abort(
-                &rt,
-            );
-            log.refuse_from(found.1);
-            let items: Vec<Item<'_>> = (0..more)
-                .map(|number| Item::new(&added, number))
-                .collect(rt.alloc())
-                .or_abort(&rt);
-            assert_equal!(rt; vec.extend(items), Err(ArenaError::OutOfSystemMemory));
-            assert_equal!(rt; (vec.len() as u64, vec.open_buckets() as u64), found);
-            assert!(rt; vec.iter().map(Item::number).eq((0..held).chain(0..came)));
-            assert_equal!(rt; (kept.dropped().0, added.dropped().0), (0, dropped));
-        }
+        let first = (0..held).map(|number| Item::new(&kept, number));
+        let made = StableVec::from_iter(Observed::new(rt.alloc(), &log), first);
+        let mut vec = made.expect(&rt, "");
+        log.refuse_from(found.1);
+        let items = (0..more).map(|number| Item::new(&added, number));
+        let items: Vec<Item<'_>> = items.collect(rt.alloc()).expect(&rt, "");
+        assert_equal!(rt; vec.extend(items), Err(ArenaError::OutOfSystemMemory));
+        assert_equal!(rt; (vec.len() as u64, vec.open_buckets() as u64), found);
+        assert!(rt; vec.iter().map(Item::number).eq((0..held).chain(0..came)));
+        assert_equal!(rt; (kept.dropped().0, added.dropped().0), (0, dropped));
+        drop(vec);
         assert_equal!(rt; (kept.dropped(), added.dropped().0, log.amiss()), ((held, held), more, 0));
     }
 }
@@ -200,27 +187,23 @@ fn a_refused_collection_draws_no_further(rt: HostRuntime) {
 fn alloc_many_adds_all_or_none(rt: HostRuntime) {
     for is_made_again in [false, true] {
         let (log, tally) = (Log::new(), Tally::new());
-        {
-            let mut arena: StableArena<usize, Option<Item<'_>>, Observed<'_>> = StableArena::new(
-                Observed::new(rt.alloc(), &log),
-            );
-            for number in 0..31 {
-                arena.alloc(Some(Item::new(&tally, number))).or_abort(&rt);
-            }
-            log.refuse_once(2);
-            assert_equal!(rt; arena.alloc_many(100).err(), Some(ArenaError::OutOfSystemMemory));
-            assert_equal!(rt; (arena.len(), arena.items().open_buckets()), (31, 1));
-            assert_equal!(rt; (log.given(), log.returned(), tally.dropped()), (2, 1, (0, 0)));
-            if is_made_again {
-                let keys = arena.alloc_many(100).or_abort(&rt);
-                assert_equal!(rt; (keys.start, keys.end), (31, 131));
-                assert_equal!(rt; (arena.items().open_buckets(), arena.items().slots()), (3, 224));
-            }
-            for (index, item) in (0u64..).zip(arena.values()) {
-                let wanted = if index < 31 { Some(index) } else { None };
-                assert_equal!(rt; item.as_ref().map(Item::number), wanted);
-            }
+        let items = (0..31).map(|number| Some(Item::new(&tally, number)));
+        let made = StableArena::from_iter(Observed::new(rt.alloc(), &log), items);
+        let mut arena: StableArena<usize, Option<Item<'_>>, Observed<'_>> = made.expect(&rt, "");
+        log.refuse_once(2);
+        assert_equal!(rt; arena.alloc_many(100).err(), Some(ArenaError::OutOfSystemMemory));
+        assert_equal!(rt; (arena.len(), arena.items().open_buckets()), (31, 1));
+        assert_equal!(rt; (log.given(), log.returned(), tally.dropped()), (2, 1, (0, 0)));
+        if is_made_again {
+            let keys = arena.alloc_many(100).expect(&rt, "");
+            assert_equal!(rt; (keys.start, keys.end), (31, 131));
+            assert_equal!(rt; (arena.items().open_buckets(), arena.items().slots()), (3, 224));
         }
+        for (index, item) in (0u64..).zip(arena.values()) {
+            let wanted = if index < 31 { Some(index) } else { None };
+            assert_equal!(rt; item.as_ref().map(Item::number), wanted);
+        }
+        drop(arena);
         assert_equal!(rt; (tally.dropped(), log.amiss()), ((31, 31), 0));
     }
 }
@@ -245,37 +228,27 @@ fn a_run_goes_on_after_each_refusal(rt: HostRuntime) {
         (3, Some(ArenaReply::Key(32)), 33),
     ] {
         let (log, other) = (Log::new(), Log::new());
-        {
-            let handle = Observed::new(rt.alloc(), &log);
-            let mut arena = StableArena::from_iter(handle.clone().or_abort(&rt), 0..32u8).or_abort(
-                &rt,
-            );
-            let commands_in = Observed::new(rt.alloc(), &other);
-            log.refuse_once(nth);
-            let found = replies(
-                commands_in.clone().or_abort(&rt),
-                handle.clone().or_abort(&rt),
-                &mut arena,
-            );
-            match reply {
-                Some(first) => {
-                    let (found, second) = (found.or_abort(&rt), ArenaReply::Has(true));
-                    assert_equal!(rt; (found.as_slice(), found.capacity()), ([first, second].as_slice(), 2));
-                }
-                None => assert_equal!(rt; found.err(), Some(error)),
+        let made = StableArena::from_iter(Observed::new(rt.alloc(), &log), 0..32u8);
+        let mut arena = made.expect(&rt, "");
+        let commands_in = Observed::new(rt.alloc(), &other);
+        log.refuse_once(nth);
+        let found = replies(commands_in, Observed::new(rt.alloc(), &log), &mut arena);
+        match reply {
+            Some(first) => {
+                let (found, second) = (found.expect(&rt, ""), ArenaReply::Has(true));
+                assert_equal!(rt; (found.as_slice(), found.capacity()), ([first, second].as_slice(), 2));
             }
-            assert_equal!(rt; arena.len(), len, "at {nth}");
-            log.refuse_none();
-            let again = replies(commands_in, handle, &mut arena).or_abort(&rt);
-            let wanted = [ArenaReply::Key(len), ArenaReply::Has(true)];
-            assert_equal!(rt; again.as_slice(), wanted.as_slice(), "at {nth}");
-            assert!(rt;
-                arena
-                    .values()
-                    .copied()
-                    .eq((0..32u8).chain((32..=len).map(|_| 1)))
-            );
+            None => assert_equal!(rt; found.err(), Some(error)),
         }
+        assert_equal!(rt; arena.len(), len, "at {nth}");
+        log.refuse_none();
+        let commands_in = Observed::new(rt.alloc(), &other);
+        let again = replies(commands_in, Observed::new(rt.alloc(), &log), &mut arena);
+        let wanted = [ArenaReply::Key(len), ArenaReply::Has(true)];
+        assert_equal!(rt; again.expect(&rt, "").as_slice(), wanted.as_slice(), "at {nth}");
+        let items = (0..32u8).chain((32..=len).map(|_| 1));
+        assert!(rt; arena.values().copied().eq(items));
+        drop(arena);
         assert_equal!(rt; (log.amiss(), other.amiss()), (0, 0));
     }
 }
@@ -284,15 +257,15 @@ fn a_run_goes_on_after_each_refusal(rt: HostRuntime) {
 #[test]
 fn a_handle_that_cannot_be_cloned_opens_no_bucket(rt: HostRuntime) {
     let log = Log::new();
-    {
-        let mut vec = StableVec::from_iter(Observed::new(rt.alloc(), &log), 0..31u64).or_abort(&rt);
-        log.refuse_clones();
-        let refused = Err(ArenaError::OutOfSystemMemory);
-        assert_equal!(rt; (vec.push(31), vec.push(32)), (Ok(31), refused));
-        assert_equal!(rt; (len_of(&vec, 32), vec.open_buckets(), vec.slots()), (Some(32), 1, 32));
-        log.refuse_none();
-        assert_equal!(rt; (vec.push(32), vec.open_buckets()), (Ok(32), 2));
-    }
+    let made = StableVec::from_iter(Observed::new(rt.alloc(), &log), 0..31u64);
+    let mut vec = made.expect(&rt, "");
+    log.refuse_clones();
+    let refused = Err(ArenaError::OutOfSystemMemory);
+    assert_equal!(rt; (vec.push(31), vec.push(32)), (Ok(31), refused));
+    assert_equal!(rt; (len_of(&vec, 32), vec.open_buckets(), vec.slots()), (Some(32), 1, 32));
+    log.refuse_none();
+    assert_equal!(rt; (vec.push(32), vec.open_buckets()), (Ok(32), 2));
+    drop(vec);
     assert_equal!(rt; (log.given(), log.amiss()), (2, 0));
 }
 
@@ -305,11 +278,11 @@ fn a_bucket_takes_one_clone_of_the_allocator(rt: HostRuntime) {
         assert_equal!(rt; vec.push(7u8), Ok(number));
         assert_equal!(rt; log.clones(), vec.open_buckets() as u64, "of {number}");
     }
-    assert_equal!(rt; vec.clone_in(Observed::new(rt.alloc(), &other)).or_abort(&rt).len(), 97);
-    assert_equal!(rt; vec.clone().or_abort(&rt).len(), 97);
+    assert_equal!(rt; vec.clone_in(Observed::new(rt.alloc(), &other)).expect(&rt, "").len(), 97);
+    assert_equal!(rt; vec.clone().expect(&rt, "").len(), 97);
     assert_equal!(rt; (other.clones(), log.clones()), (3, 7));
     let handle = Observed::new(rt.alloc(), &other);
     let mut arena: StableArena<usize, u8, Observed<'_>> = StableArena::new(handle);
-    assert_equal!(rt; arena.alloc_many(97).or_abort(&rt).end, 97);
+    assert_equal!(rt; arena.alloc_many(97).expect(&rt, "").end, 97);
     assert_equal!(rt; other.clones(), 6);
 }

@@ -1,5 +1,4 @@
 //! Vectors: worked places, lengths and walks, the Rust crate's own cases, and texts.
-use crate::or_abort::OrAbort;
 use std::alloc::Global;
 use std::cmp::Ordering;
 use std::hash::{DefaultHasher, Hash, Hasher};
@@ -44,7 +43,7 @@ fn buckets_are_the_fewest(rt: HostRuntime) {
         (96, 2, 96),
         (97, 3, 224),
     ] {
-        let vec = counted(rt.alloc(), len).or_abort(&rt);
+        let vec = counted(rt.alloc(), len).expect(&rt, "");
         let taken = vec.room() + vec.len();
         assert_equal!(rt; (vec.open_buckets(), vec.slots(), taken), (open, slots, slots), "at {len}");
     }
@@ -76,7 +75,7 @@ fn an_empty_vector_has_no_item(rt: HostRuntime) {
 
 #[test]
 fn walks_from_both_ends(rt: HostRuntime) {
-    let vec = counted(rt.alloc(), 100).or_abort(&rt);
+    let vec = counted(rt.alloc(), 100).expect(&rt, "");
     let mut items = vec.iter();
     assert_equal!(rt; (items.len(), items.next()), (100, Some(&0)));
     assert_equal!(rt; (items.next_back(), items.len()), (Some(&99), 98));
@@ -85,7 +84,7 @@ fn walks_from_both_ends(rt: HostRuntime) {
     }
     assert_equal!(rt; (items.len(), items.next(), items.next_back()), (0, None, None));
     // The front has left the first bucket when the back comes from the third.
-    let three = counted(rt.alloc(), 97).or_abort(&rt);
+    let three = counted(rt.alloc(), 97).expect(&rt, "");
     let mut ends = three.iter();
     assert!(rt; (0..32u32).all(|wanted| ends.next() == Some(&wanted)));
     assert_equal!(rt; (ends.next_back(), ends.next()), (Some(&96), Some(&32)));
@@ -95,32 +94,25 @@ fn walks_from_both_ends(rt: HostRuntime) {
 // What is written by `get_mut`, and by a loop, is read by a walk and backward.
 #[test]
 fn items_are_doubled_in_place(rt: HostRuntime) {
-    let mut vec = counted(rt.alloc(), 100).or_abort(&rt);
+    let mut vec = counted(rt.alloc(), 100).expect(&rt, "");
     for index in 0..100 {
         let item = vec.get_mut(index).expect(&rt, "no item");
         *item = item.wrapping_mul(2);
     }
-    assert!(rt;
-        vec.iter()
-            .copied()
-            .eq((0..100u32).map(|number| number.wrapping_mul(2)))
-    );
+    let wanted = (0..100u32).map(|number| number.wrapping_mul(2));
+    assert!(rt; vec.iter().copied().eq(wanted));
     assert_equal!(rt; vec.get_mut(100), None);
-    let mut vec = counted(rt.alloc(), 100).or_abort(&rt);
+    let mut vec = counted(rt.alloc(), 100).expect(&rt, "");
     for item in vec.iter_mut() {
         *item = item.wrapping_mul(2);
     }
-    assert!(rt;
-        vec.iter()
-            .rev()
-            .copied()
-            .eq((0..100u32).rev().map(|number| number.wrapping_mul(2)))
-    );
+    let wanted = (0..100u32).map(|number| number.wrapping_mul(2));
+    assert!(rt; vec.iter().rev().copied().eq(wanted.rev()));
 }
 
 #[test]
 fn fifty_items_extended_by_fifty(rt: HostRuntime) {
-    let mut vec = counted(rt.alloc(), 50).or_abort(&rt);
+    let mut vec = counted(rt.alloc(), 50).expect(&rt, "");
     assert_equal!(rt; vec.extend(50..100), Ok(()));
     let mut next = 0;
     for item in &vec {
@@ -138,65 +130,47 @@ fn hash_of(vec: &StableVec<u32>) -> u64 {
 
 #[test]
 fn a_clone_equals_its_source(rt: HostRuntime) {
-    let vec = counted(rt.alloc(), 100).or_abort(&rt);
-    let mut copy = vec.clone().or_abort(&rt);
+    let vec = counted(rt.alloc(), 100).expect(&rt, "");
+    let mut copy = vec.clone().expect(&rt, "");
     assert_equal!(rt; (&copy, hash_of(&copy)), (&vec, hash_of(&vec)));
-    assert!(rt; vec != counted(rt.alloc(), 99).or_abort(&rt));
+    assert!(rt; vec != counted(rt.alloc(), 99).expect(&rt, ""));
     assert_equal!(rt; copy.push(100), Ok(100));
     assert!(rt; copy != vec && hash_of(&copy) != hash_of(&vec));
 }
 
 #[test]
 fn ord_is_lexicographic(rt: HostRuntime) {
-    let a = StableVec::from_iter(rt.alloc(), [1, 2, 3]).or_abort(&rt);
-    let b = StableVec::from_iter(rt.alloc(), [1, 2, 4]).or_abort(&rt);
-    let c = StableVec::from_iter(rt.alloc(), [1, 2]).or_abort(&rt);
+    let a = StableVec::from_iter(rt.alloc(), [1, 2, 3]).expect(&rt, "");
+    let b = StableVec::from_iter(rt.alloc(), [1, 2, 4]).expect(&rt, "");
+    let c = StableVec::from_iter(rt.alloc(), [1, 2]).expect(&rt, "");
     assert!(rt; a < b && c < a);
     assert_equal!(rt; (a.cmp(&b), c.cmp(&a)), (Ordering::Less, Ordering::Less));
-    assert_equal!(rt; a.cmp(&a.clone().or_abort(&rt)), Ordering::Equal);
-    assert_equal!(rt; format!(in rt.alloc(); "{a:?}").or_abort(&rt).as_str(), "[1, 2, 3]");
-}
-
-#[test]
-fn items_without_an_order(rt: HostRuntime) {
-    let nan = StableVec::from_iter(rt.alloc(), [1.0, f64::NAN]).or_abort(&rt);
-    let other = StableVec::from_iter(rt.alloc(), [1.0, f64::NAN, 2.0]).or_abort(&rt);
-    assert!(rt; nan != nan);
-    assert_equal!(rt; nan.partial_cmp(&other), None);
+    assert_equal!(rt; a.cmp(&a.clone().expect(&rt, "")), Ordering::Equal);
+    assert_equal!(rt; format!(in rt.alloc(); "{a:?}").expect(&rt, "").as_str(), "[1, 2, 3]");
 }
 
 #[test]
 fn lists_of_two_lengths_compare_no_item(rt: HostRuntime) {
     let notes = Notes::new();
     let few = (0..96).map(|number| Noted::new(number, &notes));
+    let vec = StableVec::from_iter(rt.alloc(), few).expect(&rt, "");
     let more = (0..97).map(|number| Noted::new(number, &notes));
-    let (vec, longer) = (
-        StableVec::from_iter(rt.alloc(), few).or_abort(&rt),
-        StableVec::from_iter(rt.alloc(), more).or_abort(&rt),
-    );
+    let longer = StableVec::from_iter(rt.alloc(), more).expect(&rt, "");
     assert_equal!(rt; (vec == longer, notes.compared()), (false, 0));
 }
 
-// Of no item, of some, and of two buckets, the same texts as those of a `Vec`.
+// Of two buckets the same text as that of a `Vec`.
 #[test]
 fn debug_texts_of_vectors(rt: HostRuntime) {
-    for len in [0u32, 2, 33] {
-        let vec = counted(rt.alloc(), len).or_abort(&rt);
-        let items: Vec<u32> = (0..len).collect(rt.alloc()).or_abort(&rt);
-        for (text, wanted) in [
-            (
-                format!(in rt.alloc(); "{vec:?}").or_abort(&rt),
-                format!(in rt.alloc(); "{items:?}").or_abort(&rt),
-            ),
-            (
-                format!(in rt.alloc(); "{vec:#?}").or_abort(&rt),
-                format!(in rt.alloc(); "{items:#?}").or_abort(&rt),
-            ),
-        ] {
-            assert_equal!(rt; text.as_str(), wanted.as_str(), "of {len}");
-        }
-    }
-    let two = counted(rt.alloc(), 2).or_abort(&rt);
-    let text = format!(in rt.alloc(); "{two:#?}").or_abort(&rt);
-    assert_equal!(rt; text.as_str(), "[\n    0,\n    1,\n]");
+    let (vec, two) = (
+        counted(rt.alloc(), 33).expect(&rt, ""),
+        counted(rt.alloc(), 2).expect(&rt, ""),
+    );
+    let items: Vec<u32> = (0..33).collect(rt.alloc()).expect(&rt, "");
+    let text = format!(in rt.alloc(); "{vec:?} {vec:#?}").expect(&rt, "");
+    let wanted = format!(in rt.alloc(); "{items:?} {items:#?}").expect(&rt, "");
+    assert_equal!(rt; text.as_str(), wanted.as_str());
+    let none: StableVec<u32> = StableVec::new(rt.alloc());
+    let text = format!(in rt.alloc(); "{two:?} {two:#?} {none:?}").expect(&rt, "");
+    assert_equal!(rt; text.as_str(), "[0, 1] [\n    0,\n    1,\n] []");
 }

@@ -1,11 +1,9 @@
 //! Deduplicating arenas: the worked rows, and an allocator that refuses requests.
-use crate::or_abort::OrAbort;
 use std::alloc::{AllocError, Allocator, Global};
 use std::fmt::Write;
 use std::hash::{Hash, Hasher};
 use wasmi_arena::ArenaKey;
-use wasmi_collections::StringInterner;
-use wasmi_collections::arena::{Arena, ArenaError, DedupArena};
+use wasmi_collections::arena::{ArenaError, DedupArena};
 use wasmi_collections::run::{DedupCommand, DedupReply, run_dedup};
 use wasmi_vectors::assert_equal;
 use wasmi_vectors::logged::Logged;
@@ -34,26 +32,14 @@ fn equal_values_have_one_key(rt: HostRuntime) {
     assert_equal!(rt; (arena.is_empty(), arena.get(0)), (true, nothing));
     for _ in 0..2 {
         for (nth, value) in ["a", "b", "c", "d"].iter().enumerate() {
-            assert_equal!(rt; arena.alloc(*value).or_abort(&rt), nth);
+            assert_equal!(rt; arena.alloc(*value).expect(&rt, ""), nth);
         }
     }
     assert_equal!(rt; (arena.len(), arena.get(4)), (4, nothing));
-    let made = DedupArena::from_iter(rt.alloc(), ["a", "b", "c", "d"]).or_abort(&rt);
+    let made = DedupArena::from_iter(rt.alloc(), ["a", "b", "c", "d"]).expect(&rt, "");
     assert!(rt; made == arena);
     arena.clear();
     assert_equal!(rt; (arena.len(), arena.get(0)), (0, nothing));
-}
-
-// As a deduplicating arena would, if it always appended.
-#[test]
-fn a_plain_arena_keeps_equal_values(rt: HostRuntime) {
-    let mut plain: Arena<usize, &str> = Arena::new(rt.alloc());
-    for first in [0usize, 4] {
-        for (nth, value) in ["a", "b", "c", "d"].iter().enumerate() {
-            assert_equal!(rt; plain.alloc(*value).or_abort(&rt), nth.wrapping_add(first));
-        }
-    }
-    assert_equal!(rt; plain.len(), 8);
 }
 
 #[test]
@@ -61,11 +47,10 @@ fn equal_values_of_an_iterator_have_one_key(rt: HostRuntime) {
     let mut made: DedupArena<usize, &str> = DedupArena::from_iter(
         rt.alloc(),
         ["a", "b", "a"],
-    ).or_abort(&rt);
+    ).expect(&rt, "");
     assert_equal!(rt; made.len(), 2);
-    assert_equal!(rt; made.alloc("a").or_abort(&rt), 0);
-    assert_equal!(rt; made.get(1), Ok(&"b"));
-    assert_equal!(rt; made.get(2), Err(ArenaError::KeyOutOfBounds));
+    assert_equal!(rt; made.alloc("a").expect(&rt, ""), 0);
+    assert_equal!(rt; (made.get(1), made.get(2)), (Ok(&"b"), Err(ArenaError::KeyOutOfBounds)));
 }
 
 // An arena that was handed "x" and "y". Its item under the key of "x" was written over by "y".
@@ -79,22 +64,11 @@ fn written(alloc: Global) -> Result<DedupArena<usize, &'static str>, ArenaError>
 
 #[test]
 fn writes_change_no_key(rt: HostRuntime) {
-    let mut arena = written(rt.alloc()).or_abort(&rt);
-    assert_equal!(rt; (arena.alloc("x").or_abort(&rt), arena.alloc("y").or_abort(&rt)), (0, 1));
-    assert_equal!(rt;
-        (arena.get(0), arena.get(1), arena.len()),
-        (Ok(&"y"), Ok(&"y"), 2)
-    );
-}
-
-#[test]
-fn writes_do_not_reach_the_index(rt: HostRuntime) {
-    let arena = written(rt.alloc()).or_abort(&rt);
+    let mut arena = written(rt.alloc()).expect(&rt, "");
+    assert_equal!(rt; (arena.alloc("x"), arena.alloc("y")), (Ok(0), Ok(1)));
+    assert_equal!(rt; (arena.get(0), arena.get(1), arena.len()), (Ok(&"y"), Ok(&"y"), 2));
     let index = arena.index();
-    assert_equal!(rt;
-        (index.len(), index.get(&"x"), index.get(&"y")),
-        (2, Some(&0), Some(&1))
-    );
+    assert_equal!(rt; (index.len(), index.get(&"x"), index.get(&"y")), (2, Some(&0), Some(&1)));
 }
 
 #[test]
@@ -102,12 +76,12 @@ fn writes_in_a_loop_change_no_key(rt: HostRuntime) {
     let mut arena: DedupArena<usize, &str> = DedupArena::from_iter(
         rt.alloc(),
         ["a", "b", "c"],
-    ).or_abort(&rt);
+    ).expect(&rt, "");
     for (_, item) in &mut arena {
         *item = "z";
     }
     for (key, value) in ["a", "b", "c", "z"].iter().enumerate() {
-        assert_equal!(rt; arena.alloc(*value).or_abort(&rt), key);
+        assert_equal!(rt; arena.alloc(*value).expect(&rt, ""), key);
     }
     assert_equal!(rt; (arena.get(0), arena.get(2)), (Ok(&"z"), Ok(&"z")));
 }
@@ -117,18 +91,12 @@ fn a_repeat_needs_no_key(rt: HostRuntime) {
     let mut arena: DedupArena<Tiny, &str> = DedupArena::from_iter(
         rt.alloc(),
         ["p", "q", "r", "s"],
-    ).or_abort(&rt);
+    ).expect(&rt, "");
     assert_equal!(rt; arena.alloc("q").map(|key| key.into_usize()), Ok(1));
     assert_equal!(rt; arena.alloc("t").err(), Some(ArenaError::NotEnoughKeys));
     assert_equal!(rt; (arena.len(), arena.is_empty()), (4, false));
     arena.clear();
-    assert_equal!(rt;
-        (
-            arena.alloc("t").map(|key| key.into_usize()),
-            arena.index().len()
-        ),
-        (Ok(0), 1)
-    );
+    assert_equal!(rt; (arena.alloc("t").map(|key| key.into_usize()), arena.index().len()), (Ok(0), 1));
     let full: Result<DedupArena<Tiny, i32>, ArenaError> = DedupArena::from_iter(
         rt.alloc(),
         [0, 1, 0, 2, 3, 1, 4],
@@ -154,14 +122,11 @@ fn one_key_is_enough_for_equal_values(rt: HostRuntime) {
 
 #[test]
 fn a_look_hands_nothing_in(rt: HostRuntime) {
-    let mut arena = written(rt.alloc()).or_abort(&rt);
+    let mut arena = written(rt.alloc()).expect(&rt, "");
     for (value, key) in [("x", Some(0)), ("y", Some(1)), ("z", None)] {
         assert_equal!(rt; arena.key_of(&value), key, "of {value}");
     }
-    assert_equal!(rt;
-        (arena.next_key(), arena.len(), arena.index().len()),
-        (Ok(2), 2, 2)
-    );
+    assert_equal!(rt; (arena.next_key(), arena.len(), arena.index().len()), (Ok(2), 2, 2));
     assert_equal!(rt; arena.put(1, "z"), Ok("y"));
     assert_equal!(rt; arena.put(2, "z"), Err(ArenaError::KeyOutOfBounds));
     assert_equal!(rt; (arena.key_of(&"y"), arena.key_of(&"z")), (Some(1), None));
@@ -182,8 +147,8 @@ fn commands_and_replies(rt: HostRuntime) {
         DedupCommand::Clear,
         DedupCommand::Alloc("y"),
     ]
-    .or_abort(&rt);
-    let replies = run_dedup(rt.alloc(), &mut arena, commands).or_abort(&rt);
+    .expect(&rt, "");
+    let replies = run_dedup(rt.alloc(), &mut arena, commands).expect(&rt, "");
     assert_equal!(rt;
         replies.as_slice(),
         [
@@ -203,13 +168,13 @@ fn commands_and_replies(rt: HostRuntime) {
 
 #[test]
 fn items_alone_are_compared(rt: HostRuntime) {
-    let mut one: DedupArena<usize, i32> = DedupArena::from_iter(rt.alloc(), [1, 2]).or_abort(&rt);
-    let other: DedupArena<usize, i32> = DedupArena::from_iter(rt.alloc(), [7, 2]).or_abort(&rt);
+    let mut one: DedupArena<usize, i32> = DedupArena::from_iter(rt.alloc(), [1, 2]).expect(&rt, "");
+    let other: DedupArena<usize, i32> = DedupArena::from_iter(rt.alloc(), [7, 2]).expect(&rt, "");
     assert!(rt; one != other);
-    *one.get_mut(0).or_abort(&rt) = 7;
+    *one.get_mut(0).expect(&rt, "") = 7;
     assert_equal!(rt; &one, &other);
     let mut text = String::new(rt.alloc());
-    write!(text, "{one:?}").or_abort(&rt);
+    write!(text, "{one:?}").expect(&rt, "");
     assert_equal!(rt; text.as_str(), "{0: 7, 1: 2}");
 }
 
@@ -223,53 +188,27 @@ fn has_first<A: Allocator>(arena: &DedupArena<usize, u32, A>, len: u32) -> bool 
         })
 }
 
+// What is there needs no memory, whichever request was refused before.
 #[test]
 fn each_request_refused_in_turn(rt: HostRuntime) {
     for nth in 1..30 {
         let log = Log::new();
-        {
-            let heap = Logged::new(rt.alloc(), &log);
-            let mut arena: DedupArena<usize, u32, Logged<'_>> = DedupArena::new(heap);
-            log.refuse_once(nth);
-            for value in 0..100u32 {
-                if let Err(error) = arena.alloc(value) {
-                    assert_equal!(rt; error, ArenaError::OutOfSystemMemory);
-                    assert!(rt; has_first(&arena, value), "at {nth}");
-                    assert_equal!(rt; arena.alloc(value).or_abort(&rt), value as usize);
-                }
+        let mut arena = DedupArena::new(Logged::new(rt.alloc(), &log));
+        log.refuse_once(nth);
+        for value in 0..100u32 {
+            if let Err(error) = arena.alloc(value) {
+                assert_equal!(rt; error, ArenaError::OutOfSystemMemory);
+                assert!(rt; has_first(&arena, value), "at {nth}");
+                assert_equal!(rt; arena.alloc(value), Ok(value as usize));
             }
-            assert!(rt; has_first(&arena, 100), "at {nth}");
         }
-        assert_equal!(rt; log.amiss(), 0);
-    }
-}
-
-// An arena of 0 to 99. A value that is refused is handed in again.
-fn hundred<'l>(heap: Logged<'l>) -> Result<DedupArena<usize, u32, Logged<'l>>, ArenaError> {
-    let mut arena = DedupArena::new(heap);
-    for value in 0..100u32 {
-        if arena.alloc(value).is_err() {
-            let _key = arena.alloc(value)?;
-        }
-    }
-    Ok(arena)
-}
-
-// What is there needs no memory, whichever request was refused before.
-#[test]
-fn a_value_that_is_there_needs_no_memory(rt: HostRuntime) {
-    for nth in 1..30 {
-        let log = Log::new();
-        {
-            let heap = Logged::new(rt.alloc(), &log);
-            log.refuse_once(nth);
-            let mut arena = hundred(heap).or_abort(&rt);
-            log.refuse_from(1);
-            let asked = log.requests();
-            assert_equal!(rt; (arena.alloc(0), arena.alloc(99)), (Ok(0), Ok(99)));
-            arena.clear();
-            assert_equal!(rt; (arena.alloc(5), log.requests()), (Ok(0), asked));
-        }
+        assert!(rt; has_first(&arena, 100), "at {nth}");
+        log.refuse_from(1);
+        let asked = log.requests();
+        assert_equal!(rt; (arena.alloc(0), arena.alloc(99)), (Ok(0), Ok(99)));
+        arena.clear();
+        assert_equal!(rt; (arena.alloc(5), log.requests()), (Ok(0), asked));
+        drop(arena);
         assert_equal!(rt; log.amiss(), 0);
     }
 }
@@ -279,17 +218,10 @@ fn a_refused_clone_changes_nothing(rt: HostRuntime) {
     let mut arena: DedupArena<usize, Even> = DedupArena::from_iter(
         rt.alloc(),
         [Even(0), Even(2)],
-    ).or_abort(&rt);
+    ).expect(&rt, "");
     assert_equal!(rt; arena.alloc(Even(1)), Err(ArenaError::OutOfSystemMemory));
-    assert_equal!(rt;
-        (
-            arena.len(),
-            arena.index().len(),
-            arena.index().get(&Even(1))
-        ),
-        (2, 2, None)
-    );
-    assert_equal!(rt; (arena.alloc(Even(2)).or_abort(&rt), arena.alloc(Even(4)).or_abort(&rt)), (1, 2));
+    assert_equal!(rt; (arena.len(), arena.index().len(), arena.key_of(&Even(1))), (2, 2, None));
+    assert_equal!(rt; (arena.alloc(Even(2)).expect(&rt, ""), arena.alloc(Even(4)).expect(&rt, "")), (1, 2));
 }
 
 // How many values were refused of a run that handed in those from 0 on, of which each other one has its key; nothing
@@ -312,42 +244,43 @@ fn refused_of(
     (arena.len() == next).then_some(refused)
 }
 
+// A run that hands in 0 to 19.
+fn run<'l>(
+    heap: Logged<'l>,
+    log: &Log,
+    arena: &mut DedupArena<usize, u32, Logged<'l>>,
+    refused: u64,
+) -> Result<Vec<DedupReply<usize, u32>, Logged<'l>>, ArenaError> {
+    let commands = (0..20u32)
+        .map(|value| DedupCommand::Alloc(value))
+        .collect(heap)?;
+    log.refuse_once(refused);
+    run_dedup(heap, arena, commands)
+}
+
 // Each request of a run refused in turn. The first is for the replies.
 #[test]
 fn a_run_goes_on_after_a_refusal(rt: HostRuntime) {
     for nth in 1..20 {
         let log = Log::new();
-        {
-            let heap = Logged::new(rt.alloc(), &log);
-            let mut arena: DedupArena<usize, u32, Logged<'_>> = DedupArena::new(heap);
-            let commands = (0..20u32)
-                .map(|value| DedupCommand::Alloc(value))
-                .collect(heap)
-                .or_abort(&rt);
-            log.refuse_once(nth);
-            match run_dedup(heap, &mut arena, commands) {
-                Ok(replies) => assert!(rt;
-                    refused_of(&arena, replies).is_some_and(|refused| refused < 2),
-                    "at {nth}"
-                ),
-                Err(error) => {
-                    assert_equal!(rt;
-                        (nth, error, arena.len()),
-                        (1, ArenaError::OutOfSystemMemory, 0)
-                    );
-                    let again = (0..20u32)
-                        .map(|value| DedupCommand::Alloc(value))
-                        .collect(heap)
-                        .or_abort(&rt);
-                    let replies = run_dedup(heap, &mut arena, again).or_abort(&rt);
-                    assert_equal!(rt; refused_of(&arena, replies), Some(0));
-                }
+        let heap = Logged::new(rt.alloc(), &log);
+        let mut arena = DedupArena::new(heap);
+        match run(heap, &log, &mut arena, nth) {
+            Ok(replies) => assert!(rt;
+                refused_of(&arena, replies).is_some_and(|refused| refused < 2),
+                "at {nth}"
+            ),
+            Err(error) => {
+                assert_equal!(rt; (nth, error, arena.len()), (1, ArenaError::OutOfSystemMemory, 0));
+                let replies = run(heap, &log, &mut arena, 0).expect(&rt, "");
+                assert_equal!(rt; refused_of(&arena, replies), Some(0));
             }
-            for value in 0..20u32 {
-                arena.alloc(value).or_abort(&rt);
-            }
-            assert_equal!(rt; arena.len(), 20, "at {nth}");
         }
+        for value in 0..20u32 {
+            arena.alloc(value).expect(&rt, "");
+        }
+        assert_equal!(rt; arena.len(), 20, "at {nth}");
+        drop(arena);
         assert_equal!(rt; log.amiss(), 0);
     }
 }
@@ -368,24 +301,21 @@ fn two_texts<'l>(
 fn a_third_value_is_refused(rt: HostRuntime) {
     for nth in 1..5u64 {
         let log = Log::new();
-        {
-            let heap = Logged::new(rt.alloc(), &log);
-            let mut arena = two_texts(heap).or_abort(&rt);
-            let value = String::from_str(heap, "c").or_abort(&rt);
-            log.refuse_once(nth);
-            let key = arena.alloc(value);
-            log.refuse_none();
-            let refused = nth == 1 || key.is_err();
-            let wanted = if refused {
-                Err(ArenaError::OutOfSystemMemory)
-            } else {
-                Ok(2)
-            };
-            assert_equal!(rt; key, wanted, "at {nth}");
-            assert_equal!(rt; (arena.key_of_str("a"), arena.key_of_str("b")), (Some(0), Some(1)), "at {nth}");
-            assert_equal!(rt; arena.len(), if refused { 2 } else { 3 }, "at {nth}");
-            assert_equal!(rt; arena.alloc_str(heap, "c"), Ok(2), "at {nth}");
-        }
+        let heap = Logged::new(rt.alloc(), &log);
+        let mut arena = two_texts(heap).expect(&rt, "");
+        let value = String::from_str(heap, "c").expect(&rt, "");
+        log.refuse_once(nth);
+        let key = arena.alloc(value);
+        log.refuse_none();
+        let (wanted, len) = if nth == 1 || key.is_err() {
+            (Err(ArenaError::OutOfSystemMemory), 2)
+        } else {
+            (Ok(2), 3)
+        };
+        assert_equal!(rt; (key, arena.len()), (wanted, len), "at {nth}");
+        assert_equal!(rt; (arena.key_of_str("a"), arena.key_of_str("b")), (Some(0), Some(1)), "at {nth}");
+        assert_equal!(rt; arena.alloc_str(heap, "c"), Ok(2), "at {nth}");
+        drop(arena);
         assert_equal!(rt; log.amiss(), 0);
     }
 }
@@ -393,99 +323,60 @@ fn a_third_value_is_refused(rt: HostRuntime) {
 #[test]
 fn a_new_value_is_cloned_once(rt: HostRuntime) {
     let log = Log::new();
-    {
-        let heap = Logged::new(rt.alloc(), &log);
-        let mut arena = two_texts(heap).or_abort(&rt);
-        let (asked, returned) = (log.requests(), log.returned());
-        assert_equal!(rt; arena.alloc(String::from_str(heap, "a").or_abort(&rt)).or_abort(&rt), 0);
-        assert_equal!(rt;
-            (log.requests(), log.returned()),
-            (asked.wrapping_add(1), returned.wrapping_add(1))
-        );
-        assert_equal!(rt; arena.alloc(String::from_str(heap, "c").or_abort(&rt)).or_abort(&rt), 2);
-        assert_equal!(rt; log.requests(), asked.wrapping_add(3));
-    }
+    let heap = Logged::new(rt.alloc(), &log);
+    let mut arena = two_texts(heap).expect(&rt, "");
+    let (asked, returned) = (log.requests(), log.returned());
+    assert_equal!(rt; arena.alloc(String::from_str(heap, "a").expect(&rt, "")), Ok(0));
+    let wanted = (asked.wrapping_add(1), returned.wrapping_add(1));
+    assert_equal!(rt; (log.requests(), log.returned()), wanted);
+    assert_equal!(rt; arena.alloc(String::from_str(heap, "c").expect(&rt, "")), Ok(2));
+    assert_equal!(rt; log.requests(), asked.wrapping_add(3));
+    drop(arena);
     assert_equal!(rt; log.amiss(), 0);
 }
 
-// The value is given memory, and its clone is refused.
-#[test]
-fn a_value_whose_clone_is_refused_is_dropped(rt: HostRuntime) {
-    let log = Log::new();
-    {
-        let heap = Logged::new(rt.alloc(), &log);
-        let mut arena = two_texts(heap).or_abort(&rt);
-        log.refuse_once(2);
-        let refused = arena.alloc(String::from_str(heap, "d").or_abort(&rt));
-        assert_equal!(rt; refused, Err(ArenaError::OutOfSystemMemory));
-        arena.clear();
-        assert_equal!(rt; arena.alloc(String::from_str(heap, "b").or_abort(&rt)).or_abort(&rt), 0);
+// A value by reference, by either call.
+fn by_reference<'l>(
+    heap: Logged<'l>,
+    arena: &mut DedupArena<usize, String<Logged<'l>>, Logged<'l>>,
+    text: &String<Logged<'l>>,
+    is_value: bool,
+) -> Result<usize, ArenaError> {
+    if is_value {
+        arena.alloc_ref(text)
+    } else {
+        arena.alloc_str(heap, text.as_str())
     }
-    assert_equal!(rt; log.amiss(), 0);
 }
 
-// Both clones of a new value are refused in turn. Nothing is asked for a value that is there.
+// Both clones of a new one are refused in turn. Nothing is asked for one that is there, however long it is.
 #[test]
 fn a_value_by_reference_is_cloned_twice(rt: HostRuntime) {
-    let log = Log::new();
-    {
+    for is_value in [false, true] {
+        let log = Log::new();
         let heap = Logged::new(rt.alloc(), &log);
-        let mut arena = two_texts(heap).or_abort(&rt);
-        let known = String::from_str(heap, "a").or_abort(&rt);
-        let new = String::from_str(heap, "c").or_abort(&rt);
+        let mut arena = two_texts(heap).expect(&rt, "");
+        let known = String::from_str(heap, "a").expect(&rt, "");
+        let long = "0123456789".repeat(rt.alloc(), 7_000).expect(&rt, "");
+        let new = String::from_str(heap, long.as_str()).expect(&rt, "");
         let asked = log.requests();
-        assert_equal!(rt; (arena.alloc_ref(&known).or_abort(&rt), log.requests()), (0, asked));
+        let found = by_reference(heap, &mut arena, &known, is_value);
+        assert_equal!(rt; (found, log.requests()), (Ok(0), asked));
         for nth in [1, 2] {
             log.refuse_once(nth);
-            assert_equal!(rt; arena.alloc_ref(&new), Err(ArenaError::OutOfSystemMemory));
+            let refused = by_reference(heap, &mut arena, &new, is_value);
+            assert_equal!(rt; refused, Err(ArenaError::OutOfSystemMemory), "at {nth}");
             assert_equal!(rt; (arena.key_of(&new), arena.len()), (None, 2), "at {nth}");
         }
-        assert_equal!(rt; arena.alloc_ref(&new).or_abort(&rt), 2);
-        assert_equal!(rt; log.requests(), asked.wrapping_add(5));
-        assert_equal!(rt; (arena.key_of(&new), arena.len()), (Some(2), 3));
+        assert_equal!(rt; by_reference(heap, &mut arena, &new, is_value), Ok(2));
+        let asked = asked.wrapping_add(5);
+        assert_equal!(rt; (log.requests(), arena.key_of(&new), arena.len()), (asked, Some(2), 3));
+        log.refuse_from(1);
+        let found = by_reference(heap, &mut arena, &new, is_value);
+        assert_equal!(rt; (found, log.requests()), (Ok(2), asked));
+        drop((arena, known, new));
+        assert_equal!(rt; log.amiss(), 0);
     }
-    assert_equal!(rt; log.amiss(), 0);
-}
-
-// A new text is copied twice, and both copies are refused in turn. Nothing is asked for one that is there.
-#[test]
-fn a_text_that_is_there_is_not_copied(rt: HostRuntime) {
-    let log = Log::new();
-    {
-        let heap = Logged::new(rt.alloc(), &log);
-        let mut arena = two_texts(heap).or_abort(&rt);
-        let asked = log.requests();
-        assert_equal!(rt; (arena.alloc_str(heap, "b").or_abort(&rt), log.requests()), (1, asked));
-        for nth in [1, 2] {
-            log.refuse_once(nth);
-            assert_equal!(rt; arena.alloc_str(heap, "c"), Err(ArenaError::OutOfSystemMemory));
-            assert_equal!(rt; (arena.key_of_str("c"), arena.len()), (None, 2), "at {nth}");
-        }
-        assert_equal!(rt; (arena.alloc_str(heap, "c").or_abort(&rt), arena.key_of_str("c")), (2, Some(2)));
-        assert_equal!(rt; log.requests(), asked.wrapping_add(5));
-    }
-    assert_equal!(rt; log.amiss(), 0);
-}
-
-// However long it is.
-#[test]
-fn a_long_text_that_is_there_is_not_copied(rt: HostRuntime) {
-    let mut long = String::new(rt.alloc());
-    for _ in 0..7_000 {
-        long.push_str("0123456789").or_abort(&rt);
-    }
-    let log = Log::new();
-    let heap = Logged::new(rt.alloc(), &log);
-    let mut texts = two_texts(heap).or_abort(&rt);
-    let mut interner = StringInterner::new(heap);
-    let key = texts.alloc_str(heap, long.as_str()).or_abort(&rt);
-    let symbol = interner.get_or_intern(long.as_str()).or_abort(&rt);
-    log.refuse_from(1);
-    let asked = log.requests();
-    assert_equal!(rt; texts.alloc_str(heap, long.as_str()), Ok(key));
-    assert_equal!(rt; interner.get_or_intern(long.as_str()), Ok(symbol));
-    assert_equal!(rt; interner.extend([long.as_str()]), Ok(()));
-    assert_equal!(rt; log.requests(), asked);
 }
 
 // A value without a key or without memory, and an item without a place.
@@ -493,33 +384,20 @@ fn a_long_text_that_is_there_is_not_copied(rt: HostRuntime) {
 fn what_is_refused_is_dropped(rt: HostRuntime) {
     for nth in 1..12 {
         let log = Log::new();
-        {
-            let heap = Logged::new(rt.alloc(), &log);
-            let mut arena: DedupArena<Tiny, String<Logged<'_>>, Logged<'_>> = DedupArena::new(heap);
-            log.refuse_once(nth);
-            for text in ["p", "q", "r", "s", "t"] {
-                if let Ok(value) = String::from_str(heap, text) {
-                    let _key = arena.alloc(value);
-                }
+        let heap = Logged::new(rt.alloc(), &log);
+        let mut arena: DedupArena<Tiny, String<Logged<'_>>, Logged<'_>> = DedupArena::new(heap);
+        log.refuse_once(nth);
+        for text in ["p", "q", "r", "s", "t"] {
+            if let Ok(value) = String::from_str(heap, text) {
+                let _key = arena.alloc(value);
             }
-            log.refuse_none();
-            assert!(rt; arena.len() > 2, "at {nth}");
-            let mut texts = two_texts(heap).or_abort(&rt);
-            let refused = texts
-                .put(9, String::from_str(heap, "z").or_abort(&rt))
-                .err();
-            assert_equal!(rt; refused, Some(ArenaError::KeyOutOfBounds));
         }
+        log.refuse_none();
+        assert!(rt; arena.len() > 2, "at {nth}");
+        let mut texts = two_texts(heap).expect(&rt, "");
+        let refused = texts.put(9, String::from_str(heap, "z").expect(&rt, ""));
+        assert_equal!(rt; refused.err(), Some(ArenaError::KeyOutOfBounds));
+        drop((arena, texts));
         assert_equal!(rt; log.amiss(), 0, "at {nth}");
-    }
-}
-
-// As any other.
-#[test]
-fn an_empty_text_has_a_key(rt: HostRuntime) {
-    let mut texts: DedupArena<usize, String> = DedupArena::new(rt.alloc());
-    for (text, key) in [("a", 0), ("", 1), ("a", 0), ("", 1)] {
-        assert_equal!(rt; texts.alloc_str(rt.alloc(), text).or_abort(&rt), key);
-        assert_equal!(rt; texts.key_of_str(text), Some(key));
     }
 }

@@ -1,5 +1,4 @@
 //! What comes to a run is dropped once: put in, kept out, taken out, refused, or not reached. What memory runs ask for.
-use crate::or_abort::OrAbort;
 use std::alloc::AllocError;
 use std::cell::Cell;
 use wasmi_collections::arena::{ArenaError, DedupArena};
@@ -87,16 +86,12 @@ fn runs_drop_each_key_and_value_once(rt: HostRuntime) {
     let heap = Logged::new(rt.alloc(), &log);
     for nth in 1..=5u64 {
         for is_hashed in [false, true] {
-            let commands = map_commands(heap, &keys, &values).or_abort(&rt);
+            let commands = map_commands(heap, &keys, &values).expect(&rt, "");
             let ran = map_runs(is_hashed, &log, nth, commands);
             assert_equal!(rt; ran, nth != 1, "{is_hashed} {nth}");
             assert_equal!(rt; (keys.dropped(), values.replace(0)), (28, 20), "{is_hashed} {nth}");
-            let ran = set_runs(
-                is_hashed,
-                &log,
-                nth,
-                set_commands(heap, &keys).or_abort(&rt),
-            );
+            let commands = set_commands(heap, &keys).expect(&rt, "");
+            let ran = set_runs(is_hashed, &log, nth, commands);
             assert_equal!(rt; (ran, keys.dropped()), (nth != 1, 24), "{is_hashed} {nth}");
         }
     }
@@ -143,32 +138,22 @@ fn asks_for_these<T: Drop>(
 fn a_run_asks_for_its_replies_alone(rt: HostRuntime) {
     let log = Log::new();
     let heap = Logged::new(rt.alloc(), &log);
-    let commands = (0..9)
-        .map(|_| InternCommand::Len)
-        .collect(heap)
-        .or_abort(&rt);
-    let before = log.bytes();
-    let replies = run_interner(heap, &mut StringInterner::new(rt.alloc()), commands).or_abort(&rt);
-    assert!(rt; asks_for_these(&log, before, &replies).or_abort(&rt));
-    let commands = (0..9)
-        .map(|_| MapCommand::<u32, i64>::Len)
-        .collect(heap)
-        .or_abort(&rt);
-    let before = log.bytes();
-    let replies = run_map(heap, &mut ordered::Map::new(rt.alloc()), commands).or_abort(&rt);
-    assert!(rt; asks_for_these(&log, before, &replies).or_abort(&rt));
-    let commands = (0..9)
-        .map(|_| SetCommand::<u32>::Len)
-        .collect(heap)
-        .or_abort(&rt);
-    let before = log.bytes();
-    let replies = run_set(heap, &mut ordered::Set::new(rt.alloc()), commands).or_abort(&rt);
-    assert!(rt; asks_for_these(&log, before, &replies).or_abort(&rt));
+    let commands = (0..9).map(|_| InternCommand::Len).collect(heap);
+    let (commands, before) = (commands.expect(&rt, ""), log.bytes());
+    let replies = run_interner(heap, &mut StringInterner::new(rt.alloc()), commands);
+    assert_equal!(rt; asks_for_these(&log, before, &replies.expect(&rt, "")), Ok(true));
+    let commands = (0..9).map(|_| MapCommand::<u32, i64>::Len).collect(heap);
+    let (commands, before) = (commands.expect(&rt, ""), log.bytes());
+    let replies = run_map(heap, &mut ordered::Map::new(rt.alloc()), commands);
+    assert_equal!(rt; asks_for_these(&log, before, &replies.expect(&rt, "")), Ok(true));
+    let commands = (0..9).map(|_| SetCommand::<u32>::Len).collect(heap);
+    let (commands, before) = (commands.expect(&rt, ""), log.bytes());
+    let replies = run_set(heap, &mut ordered::Set::new(rt.alloc()), commands);
+    assert_equal!(rt; asks_for_these(&log, before, &replies.expect(&rt, "")), Ok(true));
     let commands = (0..9)
         .map(|_| DedupCommand::<Tiny, i32>::Clear)
-        .collect(heap)
-        .or_abort(&rt);
-    let before = log.bytes();
-    let replies = run_dedup(heap, &mut DedupArena::new(rt.alloc()), commands).or_abort(&rt);
-    assert!(rt; asks_for_these(&log, before, &replies).or_abort(&rt));
+        .collect(heap);
+    let (commands, before) = (commands.expect(&rt, ""), log.bytes());
+    let replies = run_dedup(heap, &mut DedupArena::new(rt.alloc()), commands);
+    assert_equal!(rt; asks_for_these(&log, before, &replies.expect(&rt, "")), Ok(true));
 }

@@ -1,6 +1,5 @@
 //! Lists of commands to an interner: worked ones, and each request refused in turn.
 
-use crate::or_abort::OrAbort;
 use std::alloc::{AllocError, Global};
 use wasmi_arena::ArenaError;
 use wasmi_collections::StringInterner;
@@ -38,13 +37,9 @@ fn commands(alloc: Global) -> Result<Vec<InternCommand>, AllocError> {
 #[test]
 fn a_run_replies_as_the_table_says(rt: HostRuntime) {
     let mut interner = StringInterner::new(rt.alloc());
-    let replies = run_interner(
-        rt.alloc(),
-        &mut interner,
-        commands(rt.alloc()).or_abort(&rt),
-    )
-    .or_abort(&rt);
-    let expected = [
+    let commands = commands(rt.alloc()).expect(&rt, "");
+    let replies = run_interner(rt.alloc(), &mut interner, commands).expect(&rt, "");
+    let wanted = [
         InternReply::Sym(Sym::from_u32(0)),
         InternReply::Sym(Sym::from_u32(1)),
         InternReply::Sym(Sym::from_u32(0)),
@@ -53,8 +48,7 @@ fn a_run_replies_as_the_table_says(rt: HostRuntime) {
         InternReply::Len(2),
         InternReply::Sym(Sym::from_u32(2)),
     ];
-    assert_equal!(rt; replies.as_slice(), expected.as_slice());
-    assert_equal!(rt; interner.len(), 3);
+    assert_equal!(rt; (replies.as_slice(), interner.len()), (wanted.as_slice(), 3));
 }
 
 // Commands that hand in each name.
@@ -96,31 +90,27 @@ fn refused_of(
 fn a_run_goes_on_after_a_refusal(rt: HostRuntime) {
     for nth in 1..20 {
         let log = Log::new();
-        {
-            let handle = Logged::new(rt.alloc(), &log);
-            let mut interner = StringInterner::new(handle);
-            let commands = hand_ins(rt.alloc(), handle).or_abort(&rt);
-            log.refuse_once(nth);
-            match run_interner(handle, &mut interner, commands) {
-                Ok(replies) => assert!(rt;
-                    refused_of(&interner, replies).is_some_and(|refused| refused < 2),
-                    "at {nth}"
-                ),
-                Err(error) => {
-                    assert_equal!(rt;
-                        (nth, error, interner.len()),
-                        (1, ArenaError::OutOfSystemMemory, 0)
-                    );
-                    let again = hand_ins(rt.alloc(), handle).or_abort(&rt);
-                    let replies = run_interner(handle, &mut interner, again).or_abort(&rt);
-                    assert_equal!(rt; refused_of(&interner, replies), Some(0));
-                }
+        let handle = Logged::new(rt.alloc(), &log);
+        let mut interner = StringInterner::new(handle);
+        let commands = hand_ins(rt.alloc(), handle).expect(&rt, "");
+        log.refuse_once(nth);
+        match run_interner(handle, &mut interner, commands) {
+            Ok(replies) => assert!(rt;
+                refused_of(&interner, replies).is_some_and(|refused| refused < 2),
+                "at {nth}"
+            ),
+            Err(error) => {
+                assert_equal!(rt; (nth, error, interner.len()), (1, ArenaError::OutOfSystemMemory, 0));
+                let again = hand_ins(rt.alloc(), handle).expect(&rt, "");
+                let replies = run_interner(handle, &mut interner, again).expect(&rt, "");
+                assert_equal!(rt; refused_of(&interner, replies), Some(0));
             }
-            for name in NAMES {
-                let _symbol = interner.get_or_intern(name).or_abort(&rt);
-            }
-            assert_equal!(rt; interner.len(), 10, "at {nth}");
         }
+        for name in NAMES {
+            interner.get_or_intern(name).expect(&rt, "");
+        }
+        assert_equal!(rt; interner.len(), 10, "at {nth}");
+        drop(interner);
         assert_equal!(rt; log.amiss(), 0);
     }
 }

@@ -10,8 +10,6 @@ mod head_vec;
 #[cfg(test)]
 mod interner_runs;
 #[cfg(test)]
-mod or_abort;
-#[cfg(test)]
 mod places;
 #[cfg(test)]
 mod printed;

@@ -1,5 +1,4 @@
 //! Many values and texts, and the places that they ask for.
-use crate::or_abort::OrAbort;
 use wasmi_collections::StringInterner;
 use wasmi_collections::arena::{ArenaError, DedupArena};
 use wasmi_vectors::assert_equal;
@@ -12,12 +11,9 @@ fn many_values_and_texts(rt: HostRuntime) {
     let mut numbers: DedupArena<usize, u32> = DedupArena::new(rt.alloc());
     let mut texts: DedupArena<usize, String> = DedupArena::new(rt.alloc());
     let mut interner = StringInterner::new(rt.alloc());
-    let mut long = String::new(rt.alloc());
-    for _ in 0..7_000 {
-        long.push_str("0123456789").or_abort(&rt);
-    }
+    let long = "0123456789".repeat(rt.alloc(), 7_000).expect(&rt, "");
     for number in 0..5_000u32 {
-        let short = format!(in rt.alloc(); "{number}").or_abort(&rt);
+        let short = format!(in rt.alloc(); "{number}").expect(&rt, "");
         let text = if number == 4_500 {
             long.as_str()
         } else {
@@ -57,38 +53,8 @@ fn a_value_asks_for_its_places_alone(rt: HostRuntime) {
     let log = Log::new();
     let mut arena = DedupArena::new(Logged::new(rt.alloc(), &log));
     for number in 0..5_000u32 {
-        add_number(&mut arena, number).or_abort(&rt);
+        add_number(&mut arena, number).expect(&rt, "");
     }
     assert!(rt; log.requests() < 64, "{}", log.requests());
     assert!(rt; log.bytes() < 4 * 16_384 + 40 * 32_768, "{}", log.bytes());
-}
-
-type Texts<'l> = DedupArena<usize, String<Logged<'l>>, Logged<'l>>;
-
-// What a text asks for that is new, or is there.
-fn asked_for_text<'l>(
-    arena: &mut Texts<'l>,
-    heap: Logged<'l>,
-    log: &Log,
-    text: &str,
-) -> Result<(u64, u64), ArenaError> {
-    let (requests, bytes) = (log.requests(), log.bytes());
-    arena.alloc_str(heap, text)?;
-    Ok((
-        log.requests().wrapping_sub(requests),
-        log.bytes().wrapping_sub(bytes),
-    ))
-}
-
-// The two copies of a new one, and a block of the items and of the index at the most. The last fills the items.
-#[test]
-fn a_text_asks_for_its_places_alone(rt: HostRuntime) {
-    let log = Log::new();
-    let heap = Logged::new(rt.alloc(), &log);
-    let mut arena: Texts<'_> = DedupArena::new(heap);
-    for text in ["a", "b", "c", "d"] {
-        let (requests, bytes) = asked_for_text(&mut arena, heap, &log, text).or_abort(&rt);
-        assert!(rt; requests < 8 && bytes < 1_200, "of {text}");
-        assert_equal!(rt; asked_for_text(&mut arena, heap, &log, text).or_abort(&rt), (0, 0), "of {text}");
-    }
 }

@@ -1,126 +1,39 @@
 //! Values of a deduplicating arena that take the place of others: the worked rows, and what a call asks
 //! for, compares, clones and drops.
-ghost use Rattle.std.specs.Prelude.{nat_eq};
-ghost use Rattle.std.specs.Cmp.{nat_eq_equiv, on_equiv, on_per, partial_equiv_from_equiv};
-ghost use Rattle.std.specs.Cmp.Rules.{hashing};
-ghost use Rattle.std.specs.Hash as fed;
-ghost use Rattle.std.proofs.Common.{rules};
-
-use crate::or_abort::OrAbort;
 use std::alloc::{AllocError, Global};
-use std::cell::Cell;
 use std::hash::{Hash, Hasher};
 use wasmi_collections::arena::{ArenaError, DedupArena};
 use wasmi_collections::run::{DedupCommand, DedupReply, run_dedup};
 use wasmi_vectors::assert_equal;
 use wasmi_vectors::logged::Logged;
+use wasmi_vectors::noted::{Noted, Notes};
 use wasmi_vectors::observed::Log;
 use wasmi_vectors::tiny::Tiny;
 
-// What values of one test were compared, cloned and dropped.
-#[derive(Drop)]
-struct Counts {
-    compared: Cell<u64>,
-    cloned: Cell<u64>,
-    dropped: Cell<u64>,
+// What was compared, cloned and dropped since it was asked for last.
+fn taken(notes: &Notes) -> (u64, u64, u64) {
+    (notes.compared(), notes.cloned(), notes.dropped())
 }
 
-impl Counts {
-    fn new() -> Counts {
-        Counts {
-            compared: Cell::new(0),
-            cloned: Cell::new(0),
-            dropped: Cell::new(0),
-        }
-    }
-
-    // The counts since they were asked for last.
-    fn taken(&self) -> (u64, u64, u64) {
-        (
-            self.compared.replace(0),
-            self.cloned.replace(0),
-            self.dropped.replace(0),
-        )
-    }
+// An arena of the numbers below `len`.
+fn of_numbers<'a>(
+    alloc: Global,
+    notes: &'a Notes,
+    len: u32,
+) -> Result<DedupArena<usize, Noted<'a>>, ArenaError> {
+    DedupArena::from_iter(alloc, (0..len).map(|number| Noted::new(number, notes)))
 }
 
-fn count(cell: &Cell<u64>) {
-    cell.set(cell.get().wrapping_add(1));
-}
-
-// A number that counts.
-struct Counting<'a> {
-    number: u32,
-    counts: &'a Counts,
-}
-
-impl Drop for Counting<'_> {
-    fn drop(self) {
-        count(&self.counts.dropped);
-        let Counting {
-            number: _,
-            counts: _,
-        } = self;
-    }
-}
-
-impl Clone for Counting<'_> {
-    fn clone(&self) -> Result<Self, AllocError> {
-        count(&self.counts.cloned);
-        Ok(Counting {
-            number: self.number,
-            counts: self.counts,
-        })
-    }
-}
-
-impl PartialEq for Counting<'_> {
-    ghost eq = { λ a b. nat_eq a.number b.number };
-
-    ghost laws = { on_per (λ x. x.number) (partial_equiv_from_equiv nat_eq_equiv) };
-
-    fn eq(&self, other: &Self) -> bool {
-        count(&self.counts.compared);
-        self.number == other.number
-    }
-}
-
-impl Eq for Counting<'_> {
-    ghost laws = { on_equiv (λ x. x.number) nat_eq_equiv };
-}
-
-impl Hash for Counting<'_> {
-    ghost hash_input = { λ x. fed.u32 x.number };
-
-    ghost respects_eq = { Prim.search (hashing, rules) };
-
-    fn hash<H: Hasher>(&self, state: &mut H) {
-        self.number.hash(state);
-    }
-}
-
-// What one call compares, clones and drops in an arena of the numbers below `len`, under whose key 7
-// something else was written.
+// What one call compares, clones and drops, where something else was written under the key 7.
 fn costs(alloc: Global, len: u32, key: usize, number: u32) -> Result<(u64, u64, u64), ArenaError> {
-    let counts = Counts::new();
-    let mut arena: DedupArena<usize, Counting<'_>> = DedupArena::new(alloc);
-    for number in 0..len {
-        let counts = &counts;
-        let _key = arena.alloc(Counting { number, counts })?;
-    }
-    *arena.get_mut(7)? = Counting {
-        number: 12_345,
-        counts: &counts,
-    };
-    let value = Counting {
-        number,
-        counts: &counts,
-    };
-    let _before = counts.taken();
-    let there = arena.replace(key, value);
-    let taken = counts.taken();
-    let _there = there;
-    Ok(taken)
+    let notes = Notes::new();
+    let mut arena = of_numbers(alloc, &notes, len)?;
+    *arena.get_mut(7)? = Noted::new(12_345, &notes);
+    taken(&notes);
+    let there = arena.replace(key, Noted::new(number, &notes));
+    let counts = taken(&notes);
+    drop(there);
+    Ok(counts)
 }
 
 // The value and the one that it takes the place of are looked up, and that one is taken out; where another
@@ -135,7 +48,7 @@ fn a_call_costs_the_same_in_any_arena(rt: HostRuntime) {
             (5, 8, (1, 0, 1)),
             (50_000, 8, (0, 0, 1)),
         ] {
-            assert_equal!(rt; costs(rt.alloc(), len, key, number).or_abort(&rt), want, "{number} at {key} of {len}");
+            assert_equal!(rt; costs(rt.alloc(), len, key, number).expect(&rt, ""), want, "{number} at {key} of {len}");
         }
     }
 }
@@ -143,19 +56,12 @@ fn a_call_costs_the_same_in_any_arena(rt: HostRuntime) {
 // A value that is looked up is compared with no other that was handed in.
 #[test]
 fn a_look_compares_one_value(rt: HostRuntime) {
-    let counts = Counts::new();
-    let mut arena: DedupArena<usize, Counting<'_>> = DedupArena::new(rt.alloc());
-    for number in 0..1_000u32 {
-        let counts = &counts;
-        let _key = arena.alloc(Counting { number, counts }).or_abort(&rt);
-    }
-    let value = Counting {
-        number: 500,
-        counts: &counts,
-    };
-    let _before = counts.taken();
-    assert_equal!(rt; (arena.key_of(&value), counts.taken()), (Some(500), (1, 0, 0)));
-    assert_equal!(rt; (arena.alloc_ref(&value), counts.taken()), (Ok(500), (1, 0, 0)));
+    let notes = Notes::new();
+    let mut arena = of_numbers(rt.alloc(), &notes, 1_000).expect(&rt, "");
+    let value = Noted::new(500, &notes);
+    taken(&notes);
+    assert_equal!(rt; (arena.key_of(&value), taken(&notes)), (Some(500), (1, 0, 0)));
+    assert_equal!(rt; (arena.alloc_ref(&value), taken(&notes)), (Ok(500), (1, 0, 0)));
 }
 
 #[test]
@@ -178,8 +84,8 @@ fn the_worked_rows(rt: HostRuntime) {
         DedupCommand::Alloc("z"),
         DedupCommand::Put(2, "q"),
     ]
-    .or_abort(&rt);
-    let replies = run_dedup(rt.alloc(), &mut arena, commands).or_abort(&rt);
+    .expect(&rt, "");
+    let replies = run_dedup(rt.alloc(), &mut arena, commands).expect(&rt, "");
     assert_equal!(rt;
         replies.as_slice(),
         [
@@ -209,9 +115,9 @@ fn a_new_value_needs_no_key(rt: HostRuntime) {
     let mut arena: DedupArena<Tiny, &str> = DedupArena::from_iter(
         rt.alloc(),
         ["p", "q", "r", "s"],
-    ).or_abort(&rt);
-    let last = arena.alloc("s").or_abort(&rt);
-    assert_equal!(rt; (arena.replace(last, "t").or_abort(&rt), arena.alloc("t").or_abort(&rt)), ("s", last));
+    ).expect(&rt, "");
+    let last = arena.alloc("s").expect(&rt, "");
+    assert_equal!(rt; (arena.replace(last, "t").expect(&rt, ""), arena.alloc("t").expect(&rt, "")), ("s", last));
     assert_equal!(rt; arena.alloc("s").err(), Some(ArenaError::NotEnoughKeys));
 }
 
@@ -235,26 +141,23 @@ fn text_to_lengthen<'l>(heap: Logged<'l>, text: &str) -> Result<Longer<'l>, Allo
 #[test]
 fn a_clone_that_differs_changes_nothing(rt: HostRuntime) {
     let log = Log::new();
-    {
-        let heap = Logged::new(rt.alloc(), &log);
-        let mut arena: DedupArena<usize, Longer<'_>, Logged<'_>> = DedupArena::new(heap);
-        for text in ["a", "b"] {
-            let _key = arena
-                .alloc(text_to_lengthen(heap, text).or_abort(&rt))
-                .or_abort(&rt);
-        }
-        let refused = arena
-            .replace(0, text_to_lengthen(heap, "d").or_abort(&rt))
-            .err();
-        assert_equal!(rt; refused, Some(ArenaError::OutOfSystemMemory));
-        for (key, item) in ["ax", "bx"].iter().enumerate() {
-            assert_equal!(rt; arena.get(key).map(|there| there.0.as_str()), Ok(*item));
-        }
-        for (key, text) in ["a", "b", "d"].iter().enumerate() {
-            assert_equal!(rt; arena.alloc(text_to_lengthen(heap, *text).or_abort(&rt)), Ok(key));
-        }
-        assert_equal!(rt; arena.index().len(), 3);
+    let heap = Logged::new(rt.alloc(), &log);
+    let mut arena: DedupArena<usize, Longer<'_>, Logged<'_>> = DedupArena::new(heap);
+    for text in ["a", "b"] {
+        arena
+            .alloc(text_to_lengthen(heap, text).expect(&rt, ""))
+            .expect(&rt, "");
     }
+    let refused = arena.replace(0, text_to_lengthen(heap, "d").expect(&rt, ""));
+    assert_equal!(rt; refused.err(), Some(ArenaError::OutOfSystemMemory));
+    for (key, item) in ["ax", "bx"].iter().enumerate() {
+        assert_equal!(rt; arena.get(key).map(|there| there.0.as_str()), Ok(*item));
+    }
+    for (key, text) in ["a", "b", "d"].iter().enumerate() {
+        assert_equal!(rt; arena.alloc(text_to_lengthen(heap, *text).expect(&rt, "")), Ok(key));
+    }
+    assert_equal!(rt; arena.index().len(), 3);
+    drop(arena);
     assert_equal!(rt; log.amiss(), 0);
 }
 
@@ -297,26 +200,25 @@ fn each_request_refused_in_turn(rt: HostRuntime) {
     ] {
         for nth in 1..4 {
             let log = Log::new();
-            {
-                let heap = Logged::new(rt.alloc(), &log);
-                let mut arena = three_texts(heap, written).or_abort(&rt);
-                let value = String::from_str(heap, text).or_abort(&rt);
-                log.refuse_once(nth);
-                let result = arena.replace(1, value);
-                log.refuse_none();
-                let refused = nth <= requests;
-                let want = if refused {
-                    Err(ArenaError::OutOfSystemMemory)
-                } else {
-                    Ok(there)
-                };
-                assert_equal!(rt; result.as_ref().map(|there| there.as_str()).map_err(|error| *error), want, "{text} at {nth}");
-                let handed = ["a", if refused { "b" } else { text }, "c"];
-                assert!(rt;
-                    are_handed(&mut arena, heap, handed).or_abort(&rt),
-                    "{text} at {nth}"
-                );
-            }
+            let heap = Logged::new(rt.alloc(), &log);
+            let mut arena = three_texts(heap, written).expect(&rt, "");
+            let value = String::from_str(heap, text).expect(&rt, "");
+            log.refuse_once(nth);
+            let result = arena.replace(1, value);
+            log.refuse_none();
+            let (want, second) = if nth <= requests {
+                (Err(ArenaError::OutOfSystemMemory), "b")
+            } else {
+                (Ok(there), text)
+            };
+            let found = result
+                .as_ref()
+                .map(|there| there.as_str())
+                .map_err(|error| *error);
+            assert_equal!(rt; found, want, "{text} at {nth}");
+            let handed = are_handed(&mut arena, heap, ["a", second, "c"]);
+            assert_equal!(rt; handed, Ok(true), "{text} at {nth}");
+            drop((arena, result));
             assert_equal!(rt; log.amiss(), 0);
         }
     }
@@ -326,26 +228,22 @@ fn each_request_refused_in_turn(rt: HostRuntime) {
 #[test]
 fn a_run_goes_on_after_a_refusal(rt: HostRuntime) {
     let log = Log::new();
-    {
-        let heap = Logged::new(rt.alloc(), &log);
-        let mut arena = three_texts(heap, false).or_abort(&rt);
-        let commands = vec![in heap;
-            DedupCommand::Replace(1, String::from_str(heap, "d").or_abort(&rt)),
-            DedupCommand::Replace(2, String::from_str(heap, "e").or_abort(&rt)),
-        ]
-        .or_abort(&rt);
-        log.refuse_once(2);
-        let replies = run_dedup(heap, &mut arena, commands).or_abort(&rt);
-        assert_equal!(rt;
-            replies.as_slice(),
-            [
-                DedupReply::Refused(ArenaError::OutOfSystemMemory),
-                DedupReply::Old(String::from_str(heap, "c").or_abort(&rt))
-            ]
-            .as_slice()
-        );
-        assert!(rt; are_handed(&mut arena, heap, ["a", "b", "e"]).or_abort(&rt));
-    }
+    let heap = Logged::new(rt.alloc(), &log);
+    let mut arena = three_texts(heap, false).expect(&rt, "");
+    let commands = vec![in heap;
+        DedupCommand::Replace(1, String::from_str(heap, "d").expect(&rt, "")),
+        DedupCommand::Replace(2, String::from_str(heap, "e").expect(&rt, "")),
+    ]
+    .expect(&rt, "");
+    log.refuse_once(2);
+    let replies = run_dedup(heap, &mut arena, commands).expect(&rt, "");
+    let wanted = [
+        DedupReply::Refused(ArenaError::OutOfSystemMemory),
+        DedupReply::Old(String::from_str(heap, "c").expect(&rt, "")),
+    ];
+    assert_equal!(rt; replies.as_slice(), wanted.as_slice());
+    assert_equal!(rt; are_handed(&mut arena, heap, ["a", "b", "e"]), Ok(true));
+    drop((arena, replies, wanted));
     assert_equal!(rt; log.amiss(), 0);
 }
 
@@ -356,29 +254,26 @@ fn a_refused_growth_changes_nothing(rt: HostRuntime) {
     let mut refused = 0u64;
     for len in 1..60u32 {
         let log = Log::new();
-        {
-            let heap = Logged::new(rt.alloc(), &log);
-            let mut arena: DedupArena<usize, u32, Logged<'_>> = DedupArena::new(heap);
-            for value in 0..len {
-                let _key = arena.alloc(value).or_abort(&rt);
-            }
-            let full = arena.index().capacity() == len as usize;
-            let asked = log.requests();
-            log.refuse_once(1);
-            let first = arena.replace(0, 99);
-            log.refuse_none();
-            assert_equal!(rt; first.is_err(), full, "of {len}");
-            if full {
-                refused = refused.wrapping_add(1);
-                assert_equal!(rt; arena.get(0), Ok(&0));
-                assert_equal!(rt; (arena.alloc(0), arena.replace(0, 99)), (Ok(0), Ok(0)));
-            }
-            assert_equal!(rt; (log.requests() != asked, arena.get(0)), (full, Ok(&99)), "of {len}");
-            for value in 1..len {
-                assert_equal!(rt; arena.alloc(value), Ok(value as usize), "of {len}");
-            }
-            assert_equal!(rt; arena.len(), len as usize);
+        let heap = Logged::new(rt.alloc(), &log);
+        let made = DedupArena::from_iter(heap, 0..len);
+        let mut arena: DedupArena<usize, u32, Logged<'_>> = made.expect(&rt, "");
+        let full = arena.index().capacity() == len as usize;
+        let asked = log.requests();
+        log.refuse_once(1);
+        let first = arena.replace(0, 99);
+        log.refuse_none();
+        assert_equal!(rt; first.is_err(), full, "of {len}");
+        if full {
+            refused = refused.wrapping_add(1);
+            assert_equal!(rt; arena.get(0), Ok(&0));
+            assert_equal!(rt; (arena.alloc(0), arena.replace(0, 99)), (Ok(0), Ok(0)));
         }
+        assert_equal!(rt; (log.requests() != asked, arena.get(0)), (full, Ok(&99)), "of {len}");
+        for value in 1..len {
+            assert_equal!(rt; arena.alloc(value), Ok(value as usize), "of {len}");
+        }
+        assert_equal!(rt; arena.len(), len as usize);
+        drop(arena);
         assert_equal!(rt; log.amiss(), 0);
     }
     assert!(rt; refused > 2);
@@ -389,10 +284,9 @@ fn a_refused_growth_changes_nothing(rt: HostRuntime) {
 fn many_calls_ask_for_one_block(rt: HostRuntime) {
     let log = Log::new();
     let heap = Logged::new(rt.alloc(), &log);
-    let mut arena: DedupArena<usize, u32, Logged<'_>> = DedupArena::new(heap);
-    for value in 0..4u32 {
-        let _key = arena.alloc(value).or_abort(&rt);
-    }
+    let mut arena: DedupArena<usize, u32, Logged<'_>> = DedupArena::from_iter(heap, 0..4u32).expect(
+        &rt, "",
+    );
     let asked = log.requests();
     for value in 4..1_004u32 {
         assert_equal!(rt; arena.replace((value % 4) as usize, value), Ok(value.wrapping_sub(4)));
@@ -406,35 +300,19 @@ fn a_refused_text_is_dropped(rt: HostRuntime) {
     let mut refused = 0u64;
     for len in 1..30u32 {
         let log = Log::new();
-        {
-            let heap = Logged::new(rt.alloc(), &log);
-            let mut arena: Texts<'_> = DedupArena::new(heap);
-            for number in 0..len {
-                let _key = arena
-                    .alloc(format!(in heap; "{number}").or_abort(&rt))
-                    .or_abort(&rt);
-            }
-            let value = String::from_str(heap, "new").or_abort(&rt);
-            log.refuse_once(2);
-            if arena.replace(0, value).is_err() {
-                refused = refused.wrapping_add(1);
-            }
-            log.refuse_none();
+        let heap = Logged::new(rt.alloc(), &log);
+        let mut arena: Texts<'_> = DedupArena::new(heap);
+        for number in 0..len {
+            let text = format!(in heap; "{number}").expect(&rt, "");
+            arena.alloc(text).expect(&rt, "");
         }
+        let value = String::from_str(heap, "new").expect(&rt, "");
+        log.refuse_once(2);
+        if arena.replace(0, value).is_err() {
+            refused = refused.wrapping_add(1);
+        }
+        drop(arena);
         assert_equal!(rt; log.amiss(), 0);
     }
     assert!(rt; refused > 1);
-}
-
-// It was handed in under another key, which it keeps.
-#[test]
-fn an_item_that_equals_another_value_makes_way(rt: HostRuntime) {
-    let mut arena: DedupArena<usize, &str> = DedupArena::from_iter(rt.alloc(), ["a", "b"]).or_abort(
-        &rt,
-    );
-    assert_equal!(rt; arena.put(0, "b").or_abort(&rt), "a");
-    assert_equal!(rt; arena.replace(0, "c"), Ok("b"));
-    for (value, key) in [("c", 0), ("b", 1), ("a", 2)] {
-        assert_equal!(rt; arena.alloc(value).or_abort(&rt), key);
-    }
 }

@@ -1,6 +1,6 @@
 //! Lists of commands to maps and sets of both backings.
-use crate::or_abort::OrAbort;
 use std::alloc::{AllocError, Global};
+use std::process::Abort;
 use wasmi_collections::arena::ArenaError;
 use wasmi_collections::hash::RandomState;
 use wasmi_collections::run::{
@@ -43,27 +43,23 @@ const MAP_REPLIES: [MapReply<&'static str>; 10] = [
     MapReply::Len(0),
 ];
 
+// The replies of a map.
+fn map_replies<M: AnyMap<u32, &'static str>>(rt: &impl Abort, alloc: Global, map: &mut M) {
+    let commands = map_commands(alloc).expect(rt, "");
+    let replies = run_map(alloc, map, commands).expect(rt, "");
+    assert_equal!(*rt; (replies.as_slice(), map.len()), (MAP_REPLIES.as_slice(), 0));
+}
+
 #[test]
 fn maps_reply_as_the_table_says(rt: HostRuntime) {
-    let mut map = ordered::Map::new(rt.alloc());
-    let replies = run_map(rt.alloc(), &mut map, map_commands(rt.alloc()).or_abort(&rt)).or_abort(
+    let state = RandomState::new(&rt).expect(&rt, "");
+    map_replies(&rt, rt.alloc(), &mut ordered::Map::new(rt.alloc()));
+    map_replies(&rt, rt.alloc(), &mut hashed::Map::new(rt.alloc()));
+    map_replies(
         &rt,
+        rt.alloc(),
+        &mut hashed::Map::with_hasher(rt.alloc(), state),
     );
-    assert_equal!(rt; replies.as_slice(), MAP_REPLIES.as_slice());
-    assert!(rt; map.is_empty());
-    let mut map = hashed::Map::new(rt.alloc());
-    let replies = run_map(rt.alloc(), &mut map, map_commands(rt.alloc()).or_abort(&rt)).or_abort(
-        &rt,
-    );
-    assert_equal!(rt; replies.as_slice(), MAP_REPLIES.as_slice());
-    assert!(rt; map.is_empty());
-    let state = RandomState::new(&rt).or_abort(&rt);
-    let mut map = hashed::Map::with_hasher(rt.alloc(), state);
-    let replies = run_map(rt.alloc(), &mut map, map_commands(rt.alloc()).or_abort(&rt)).or_abort(
-        &rt,
-    );
-    assert_equal!(rt; replies.as_slice(), MAP_REPLIES.as_slice());
-    assert!(rt; map.is_empty());
 }
 
 fn set_commands(alloc: Global) -> Result<Vec<SetCommand<u32>>, AllocError> {
@@ -96,24 +92,23 @@ const SET_REPLIES: [SetReply; 9] = [
     SetReply::Flag(false),
 ];
 
+// The replies of a set.
+fn set_replies<S: AnySet<u32>>(rt: &impl Abort, alloc: Global, set: &mut S) {
+    let commands = set_commands(alloc).expect(rt, "");
+    let replies = run_set(alloc, set, commands).expect(rt, "");
+    assert_equal!(*rt; replies.as_slice(), SET_REPLIES.as_slice());
+}
+
 #[test]
 fn sets_reply_as_the_table_says(rt: HostRuntime) {
-    let mut set = ordered::Set::new(rt.alloc());
-    let replies = run_set(rt.alloc(), &mut set, set_commands(rt.alloc()).or_abort(&rt)).or_abort(
+    let state = RandomState::new(&rt).expect(&rt, "");
+    set_replies(&rt, rt.alloc(), &mut ordered::Set::new(rt.alloc()));
+    set_replies(&rt, rt.alloc(), &mut hashed::Set::new(rt.alloc()));
+    set_replies(
         &rt,
+        rt.alloc(),
+        &mut hashed::Set::with_hasher(rt.alloc(), state),
     );
-    assert_equal!(rt; replies.as_slice(), SET_REPLIES.as_slice());
-    let mut set = hashed::Set::new(rt.alloc());
-    let replies = run_set(rt.alloc(), &mut set, set_commands(rt.alloc()).or_abort(&rt)).or_abort(
-        &rt,
-    );
-    assert_equal!(rt; replies.as_slice(), SET_REPLIES.as_slice());
-    let state = RandomState::new(&rt).or_abort(&rt);
-    let mut set = hashed::Set::with_hasher(rt.alloc(), state);
-    let replies = run_set(rt.alloc(), &mut set, set_commands(rt.alloc()).or_abort(&rt)).or_abort(
-        &rt,
-    );
-    assert_equal!(rt; replies.as_slice(), SET_REPLIES.as_slice());
 }
 
 // To insert the keys 0 to 19, by both commands for it in turn.
@@ -171,18 +166,19 @@ fn refused_in_map<M: AnyMap<u32, u32>>(
 }
 
 // The same of the elements of a set.
+fn adds<'l>(heap: Logged<'l>) -> Result<Vec<SetCommand<u32>, Logged<'l>>, AllocError> {
+    (0..20u32)
+        .map(|element| SetCommand::Insert(element))
+        .collect(heap)
+}
+
 fn refused_in_set<S: AnySet<u32>>(
     heap: Logged<'_>,
     log: &Log,
     set: &mut S,
     nth: u64,
 ) -> Result<Option<(bool, usize)>, ArenaError> {
-    let commands = (0..20u32)
-        .map(|element| SetCommand::Insert(element))
-        .collect(heap)?;
-    let again = (0..20u32)
-        .map(|element| SetCommand::Insert(element))
-        .collect(heap)?;
+    let (commands, again) = (adds(heap)?, adds(heap)?);
     log.refuse_once(nth);
     let (failed, replies) = match run_set(heap, set, commands) {
         Ok(replies) => (false, replies),
@@ -229,11 +225,8 @@ fn runs_over_maps_and_sets_go_on_after_a_refusal(rt: HostRuntime) {
         let outcome = Ok(Some(if nth == 1 { (true, 0) } else { (false, 1) }));
         for container in 0..4u8 {
             let log = Log::new();
-            {
-                let heap = Logged::new(rt.alloc(), &log);
-                let refused = refused_in(heap, &log, container, nth);
-                assert_equal!(rt; refused, outcome, "{container} at {nth}");
-            }
+            let refused = refused_in(Logged::new(rt.alloc(), &log), &log, container, nth);
+            assert_equal!(rt; refused, outcome, "{container} at {nth}");
             assert_equal!(rt; log.amiss(), 0);
         }
     }

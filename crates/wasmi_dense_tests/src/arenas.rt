@@ -1,5 +1,4 @@
 //! Arenas in one vector: worked keys and refusals, the Rust crate's own cases, and texts.
-use crate::or_abort::OrAbort;
 use std::alloc::Global;
 use std::num::NonZero;
 use std::ops::Range;
@@ -39,7 +38,7 @@ fn items_get_their_keys_in_turn(rt: HostRuntime) {
 
 #[test]
 fn a_cleared_arena_begins_at_key_0(rt: HostRuntime) {
-    let mut arena = four(rt.alloc()).or_abort(&rt);
+    let mut arena = four(rt.alloc()).expect(&rt, "");
     let slots = arena.len() + arena.room();
     arena.clear();
     assert_equal!(rt; (arena.is_empty(), arena.room()), (true, slots));
@@ -49,7 +48,7 @@ fn a_cleared_arena_begins_at_key_0(rt: HostRuntime) {
 
 #[test]
 fn a_walk_goes_from_both_ends(rt: HostRuntime) {
-    let arena = four(rt.alloc()).or_abort(&rt);
+    let arena = four(rt.alloc()).expect(&rt, "");
     let mut walk = arena.iter();
     assert_equal!(rt; (walk.len(), walk.next(), walk.next_back()), (4, Some((0, &"a")), Some((3, &"d"))));
     assert_equal!(rt; (walk.next_back(), walk.next(), walk.len()), (Some((2, &"c")), Some((1, &"b")), 0));
@@ -60,34 +59,34 @@ fn a_walk_goes_from_both_ends(rt: HostRuntime) {
 fn a_collected_arena_is_the_allocated_one(rt: HostRuntime) {
     let mut made = Arena::new(rt.alloc());
     for text in TEXTS {
-        made.alloc(text).or_abort(&rt);
+        made.alloc(text).expect(&rt, "");
     }
-    assert_equal!(rt; &made, &four(rt.alloc()).or_abort(&rt));
+    assert_equal!(rt; &made, &four(rt.alloc()).expect(&rt, ""));
     for other in [["a", "b", "c", "e"], ["d", "b", "c", "a"]] {
-        assert!(rt; made != Arena::from_iter(rt.alloc(), other).or_abort(&rt));
+        assert!(rt; made != Arena::from_iter(rt.alloc(), other).expect(&rt, ""));
     }
-    assert!(rt; made != Arena::from_iter(rt.alloc(), ["a", "b", "c"]).or_abort(&rt));
+    assert!(rt; made != Arena::from_iter(rt.alloc(), ["a", "b", "c"]).expect(&rt, ""));
 }
 
 // By `get_mut`, by index, by `put`, in pairs and by loops.
 #[test]
 fn items_are_written_under_keys(rt: HostRuntime) {
-    let mut arena: Arena<u32, i32> = Arena::from_iter(rt.alloc(), 0..10).or_abort(&rt);
-    *arena.get_mut(3).or_abort(&rt) = 30;
+    let mut arena: Arena<u32, i32> = Arena::from_iter(rt.alloc(), 0..10).expect(&rt, "");
+    *arena.get_mut(3).expect(&rt, "") = 30;
     assert!(rt; arena.len() > 4);
     arena[4] = 40;
     assert_equal!(rt; (arena.put(5, 50), arena.put(10, 0)), (Ok(5), Err(ArenaError::KeyOutOfBounds)));
     assert_equal!(rt; arena.get_mut(10).err(), Some(ArenaError::KeyOutOfBounds));
     for (first, second) in [(1, 8), (9, 2)] {
-        let (one, other) = arena.get_disjoint_mut([first, second]).or_abort(&rt);
+        let (one, other) = arena.get_disjoint_mut([first, second]).expect(&rt, "");
         assert_equal!(rt; (*one, *other), (first as i32, second as i32));
         *one = one.wrapping_neg();
         *other = other.wrapping_neg();
     }
     let wanted = [0, -1, -2, 30, 40, 50, 6, 7, -8, -9];
-    assert_equal!(rt; &arena, &Arena::from_iter(rt.alloc(), wanted).or_abort(&rt));
+    assert_equal!(rt; &arena, &Arena::from_iter(rt.alloc(), wanted).expect(&rt, ""));
     assert_equal!(rt; (arena.swap(1, 8), arena.get(1), arena.get(8)), (Ok(()), Ok(&-8), Ok(&-1)));
-    let mut arena: Arena<u32, u32> = Arena::from_iter(rt.alloc(), 0..10).or_abort(&rt);
+    let mut arena: Arena<u32, u32> = Arena::from_iter(rt.alloc(), 0..10).expect(&rt, "");
     for (key, item) in &mut arena {
         *item = item.wrapping_add(key);
     }
@@ -99,22 +98,19 @@ fn items_are_written_under_keys(rt: HostRuntime) {
     *item = key.wrapping_add(200);
     drop(walk);
     let wanted = [200, 2, 4, 6, 8, 10, 12, 14, 16, 109];
-    assert_equal!(rt; &arena, &Arena::from_iter(rt.alloc(), wanted).or_abort(&rt));
+    assert_equal!(rt; &arena, &Arena::from_iter(rt.alloc(), wanted).expect(&rt, ""));
 }
 
 // Which pairs of an arena of three items are refused, and why.
 #[test]
 fn pairs_out_of_bounds_come_before_equal_ones(rt: HostRuntime) {
-    let mut arena: Arena<usize, usize> = Arena::from_iter(rt.alloc(), 0..3).or_abort(&rt);
+    let mut arena: Arena<usize, usize> = Arena::from_iter(rt.alloc(), 0..3).expect(&rt, "");
     let room = arena.room();
-    for (first, second, error) in [
-        (5, 5, ArenaError::KeyOutOfBounds),
-        (1, 1, ArenaError::AliasingPairAccess),
-        (0, 5, ArenaError::KeyOutOfBounds),
-        (2, 3, ArenaError::KeyOutOfBounds),
-        (3, 2, ArenaError::KeyOutOfBounds),
-        (3, 3, ArenaError::KeyOutOfBounds),
-    ] {
+    for (first, second) in [(5, 5), (1, 1), (0, 5), (2, 3), (3, 2), (3, 3)] {
+        let error = match first {
+            1 => ArenaError::AliasingPairAccess,
+            _ => ArenaError::KeyOutOfBounds,
+        };
         let refused = arena.get_disjoint_mut([first, second]).err();
         assert_equal!(rt; (refused, arena.swap(first, second)), (Some(error), Err(error)), "{first} {second}");
         let found = (arena.get(0), arena.get(1), arena.get(2), arena.room());
@@ -139,12 +135,8 @@ fn four_keys_are_enough_for_four_items(rt: HostRuntime) {
     assert_equal!(rt; (numbers(arena.alloc_many(1)), arena.len()), (refused, 3));
     assert_equal!(rt; numbers(arena.alloc_many(0)), Ok((3, 3)));
     assert_equal!(rt; arena.alloc(9).map(Tiny::into_usize), Ok(3));
-    let again = (
-        arena.alloc(9).err(),
-        arena.next_key().err(),
-        numbers(arena.alloc_many(0)),
-    );
-    assert_equal!(rt; (again, arena.len()), ((refused.err(), refused.err(), refused), 4));
+    assert_equal!(rt; (arena.alloc(9).err(), arena.next_key().err()), (refused.err(), refused.err()));
+    assert_equal!(rt; (numbers(arena.alloc_many(0)), arena.len()), (refused, 4));
     let mut one: Arena<One, i32> = Arena::new(rt.alloc());
     assert_equal!(rt; numbers(one.alloc_many(0)), Ok((0, 0)));
     assert_equal!(rt; (numbers(one.alloc_many(1)), one.len()), (refused, 0));
@@ -152,7 +144,7 @@ fn four_keys_are_enough_for_four_items(rt: HostRuntime) {
 
 #[test]
 fn four_of_four_keys_are_collected(rt: HostRuntime) {
-    let four: Arena<Tiny, usize> = Arena::from_iter(rt.alloc(), 0..4).or_abort(&rt);
+    let four: Arena<Tiny, usize> = Arena::from_iter(rt.alloc(), 0..4).expect(&rt, "");
     assert_equal!(rt; four.len(), 4);
     for (number, (key, item)) in four.iter().enumerate() {
         assert_equal!(rt; (key.into_usize(), *item), (number, number));
@@ -195,15 +187,11 @@ fn replies_of<S: AnyArena<usize, i32>>(
 fn one_run_for_both_arenas(rt: HostRuntime) {
     let mut dense: Arena<usize, i32> = Arena::new(rt.alloc());
     let mut stable: StableArena<usize, i32> = StableArena::new(rt.alloc());
+    let of_dense = replies_of(rt.alloc(), &mut dense);
+    let of_stable = replies_of(rt.alloc(), &mut stable);
     for (replies, last) in [
-        (
-            replies_of(rt.alloc(), &mut dense),
-            ArenaError::KeyOutOfBounds,
-        ),
-        (
-            replies_of(rt.alloc(), &mut stable),
-            ArenaError::AliasingPairAccess,
-        ),
+        (of_dense, ArenaError::KeyOutOfBounds),
+        (of_stable, ArenaError::AliasingPairAccess),
     ] {
         let wanted = [
             ArenaReply::Key(0),
@@ -216,7 +204,7 @@ fn one_run_for_both_arenas(rt: HostRuntime) {
             ArenaReply::Refused(ArenaError::AliasingPairAccess),
             ArenaReply::Refused(last),
         ];
-        assert_equal!(rt; replies.or_abort(&rt).as_slice(), wanted.as_slice());
+        assert_equal!(rt; replies.expect(&rt, "").as_slice(), wanted.as_slice());
     }
     assert_equal!(rt; (dense.len(), dense.get(0), dense.get(1)), (2, Ok(&9), Ok(&7)));
     assert_equal!(rt; (stable.len(), stable.get(0), stable.get(1)), (2, Ok(&9), Ok(&7)));
@@ -225,10 +213,10 @@ fn one_run_for_both_arenas(rt: HostRuntime) {
 #[test]
 fn an_arena_prints_as_a_map(rt: HostRuntime) {
     let empty: Arena<usize, i32> = Arena::new(rt.alloc());
-    let none = format!(in rt.alloc(); "{empty:?}{empty:#?}").or_abort(&rt);
+    let none = format!(in rt.alloc(); "{empty:?}{empty:#?}").expect(&rt, "");
     assert_equal!(rt; none.as_str(), "{}{}");
     // The numbers of its keys.
-    let keyed: Arena<NonZero<u32>, i32> = Arena::from_iter(rt.alloc(), 7..9).or_abort(&rt);
-    let two = format!(in rt.alloc(); "{keyed:?} {keyed:#?}").or_abort(&rt);
+    let keyed: Arena<NonZero<u32>, i32> = Arena::from_iter(rt.alloc(), 7..9).expect(&rt, "");
+    let two = format!(in rt.alloc(); "{keyed:?} {keyed:#?}").expect(&rt, "");
     assert_equal!(rt; two.as_str(), "{0: 7, 1: 8} {\n    0: 7,\n    1: 8,\n}");
 }

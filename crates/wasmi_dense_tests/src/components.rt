@@ -1,5 +1,4 @@
 //! Component vectors: worked extents and refusals, the Rust crate's own cases, visits, and texts.
-use crate::or_abort::OrAbort;
 use std::alloc::{AllocError, Global};
 use std::test::Fail;
 use wasmi_arena::ArenaError;
@@ -25,8 +24,7 @@ fn it_works(rt: HostRuntime) -> Result<(), Fail> {
     }
     for number in (0..10usize).rev() {
         assert_equal!(rt; components.unset(number), Some(text(rt.alloc(), number)?));
-        assert_equal!(rt; components.unset(number), None);
-        assert_equal!(rt; components.get(number), None);
+        assert_equal!(rt; (components.unset(number), components.get(number)), (None, None));
     }
     Ok(())
 }
@@ -35,9 +33,8 @@ fn it_works(rt: HostRuntime) -> Result<(), Fail> {
 fn clear_works(rt: HostRuntime) {
     let mut components: ComponentVec<usize, String> = ComponentVec::new(rt.alloc());
     for number in 0..10usize {
-        components
-            .set(number, text(rt.alloc(), number).or_abort(&rt))
-            .or_abort(&rt);
+        let shown = text(rt.alloc(), number).expect(&rt, "");
+        components.set(number, shown).expect(&rt, "");
     }
     assert_equal!(rt; components.extent(), 10);
     components.clear();
@@ -53,24 +50,23 @@ fn clear_works(rt: HostRuntime) {
 fn debug_works(rt: HostRuntime) {
     let mut texts: ComponentVec<usize, String> = ComponentVec::new(rt.alloc());
     for number in 0..4usize {
-        texts
-            .set(number, text(rt.alloc(), number).or_abort(&rt))
-            .or_abort(&rt);
+        let shown = text(rt.alloc(), number).expect(&rt, "");
+        texts.set(number, shown).expect(&rt, "");
     }
-    let shown = format!(in rt.alloc(); "{texts:?}").or_abort(&rt);
+    let shown = format!(in rt.alloc(); "{texts:?}").expect(&rt, "");
     let wanted = r#"ComponentVec { components: {0: "0", 1: "1", 2: "2", 3: "3"} }"#;
     assert_equal!(rt; shown.as_str(), wanted);
     let mut components: ComponentVec<usize, i32> = ComponentVec::new(rt.alloc());
-    let none = format!(in rt.alloc(); "{components:?}").or_abort(&rt);
+    let none = format!(in rt.alloc(); "{components:?}").expect(&rt, "");
     assert_equal!(rt; none.as_str(), "ComponentVec { components: {} }");
     assert_equal!(rt; (components.set(3, 9), components.set(0, 7)), (Ok(None), Ok(None)));
-    let two = format!(in rt.alloc(); "{components:?}").or_abort(&rt);
+    let two = format!(in rt.alloc(); "{components:?}").expect(&rt, "");
     assert_equal!(rt; two.as_str(), "ComponentVec { components: {0: 7, 3: 9} }");
     assert_equal!(rt; (components.unset(0), components.set(70_000, 1)), (Some(7), Ok(None)));
-    let far = format!(in rt.alloc(); "{components:?} {components:#?}").or_abort(&rt);
+    let far = format!(in rt.alloc(); "{components:?} {components:#?}").expect(&rt, "");
     let plain = "ComponentVec { components: {3: 9, 70000: 1} }";
     let pretty = "ComponentVec {\n    components: {\n        3: 9,\n        70000: 1,\n    },\n}";
-    let wanted = format!(in rt.alloc(); "{plain} {pretty}").or_abort(&rt);
+    let wanted = format!(in rt.alloc(); "{plain} {pretty}").expect(&rt, "");
     assert_equal!(rt; far.as_str(), wanted.as_str());
 }
 
@@ -97,14 +93,13 @@ fn numbers_at_the_end(rt: HostRuntime) {
     let log = Log::new();
     let handle = Observed::new(rt.alloc(), &log);
     let mut components: ComponentVec<usize, i32, Observed<'_>> = ComponentVec::new(handle);
-    components.set(2, 7).or_abort(&rt);
+    components.set(2, 7).expect(&rt, "");
     let requests = log.requests();
     assert_equal!(rt; components.set(usize::MAX, 1), Err(ArenaError::KeyOutOfBounds));
     assert_equal!(rt; components.set(usize::MAX - 1, 1), Err(ArenaError::OutOfSystemMemory));
     assert_equal!(rt; (components.extent(), components.get(2)), (3, Some(&7)));
     assert_equal!(rt; components.get(usize::MAX), None);
-    assert_equal!(rt; components.unset(usize::MAX), None);
-    assert_equal!(rt; log.requests(), requests);
+    assert_equal!(rt; (components.unset(usize::MAX), log.requests()), (None, requests));
 }
 
 // The components 10, 40 and 60 at 1, 4 and 6; the extent is 8.
@@ -112,7 +107,7 @@ fn numbers_at_the_end(rt: HostRuntime) {
 fn components_are_visited_from_both_ends(rt: HostRuntime) {
     let mut components: ComponentVec<u32, u32> = ComponentVec::new(rt.alloc());
     for (key, component) in [(1, 10), (4, 40), (6, 60), (7, 70)] {
-        components.set(key, component).or_abort(&rt);
+        components.set(key, component).expect(&rt, "");
     }
     components.unset(7);
     let mut entries = components.iter();

@@ -1,6 +1,5 @@
 //! Many items and components, and ones of many sizes: dropped once each, asked for as a whole, and calls that
 //! would take minutes if they went over them.
-use crate::or_abort::OrAbort;
 use std::alloc::Global;
 use std::mem::replace;
 use wasmi_arena::{ArenaCommand, ArenaError, run_arena};
@@ -17,9 +16,8 @@ fn many_items_go_as_they_should(rt: HostRuntime) {
         let (log, tally) = (Log::new(), Tally::new());
         let items = (0..131_072u64).map(|number| Item::new(&tally, number));
         let handle = Observed::new(rt.alloc(), &log);
-        let mut arena: Arena<usize, Item<'_>, Observed<'_>> = Arena::from_iter(
-            handle, items,
-        ).or_abort(&rt);
+        let made = Arena::<usize, Item<'_>, Observed<'_>>::from_iter(handle, items);
+        let mut arena = made.expect(&rt, "");
         if is_cleared {
             arena.clear();
             assert_equal!(rt; (arena.len(), arena.room()), (0, 131_072));
@@ -81,17 +79,15 @@ fn items_of_many_sizes(rt: HostRuntime) {
 #[test]
 fn a_far_number_asks_for_its_places_alone(rt: HostRuntime) {
     let log = Log::new();
-    {
-        let handle = Observed::new(rt.alloc(), &log);
-        let mut components: ComponentVec<usize, u64, Observed<'_>> = ComponentVec::new(handle);
-        assert_equal!(rt; (components.set(999, 7), log.requests()), (Ok(None), 1));
-        let bytes = log.bytes();
-        assert_equal!(rt; (components.set(999_999, 8), log.requests()), (Ok(None), 2));
-        assert_equal!(rt; log.bytes().wrapping_sub(bytes), 16_000_000);
-        assert_equal!(rt; components.get(999_998), None);
-        assert_equal!(rt; (components.get(999), components.get(999_999)), (Some(&7), Some(&8)));
-        assert_equal!(rt; components.extent(), 1_000_000);
-    }
+    let handle = Observed::new(rt.alloc(), &log);
+    let mut components: ComponentVec<usize, u64, Observed<'_>> = ComponentVec::new(handle);
+    assert_equal!(rt; (components.set(999, 7), log.requests()), (Ok(None), 1));
+    let bytes = log.bytes();
+    assert_equal!(rt; (components.set(999_999, 8), log.requests()), (Ok(None), 2));
+    assert_equal!(rt; (log.bytes().wrapping_sub(bytes), components.get(999_998)), (16_000_000, None));
+    assert_equal!(rt; (components.get(999), components.get(999_999)), (Some(&7), Some(&8)));
+    assert_equal!(rt; components.extent(), 1_000_000);
+    drop(components);
     assert_equal!(rt; log.amiss(), 0);
 }
 
@@ -100,7 +96,7 @@ fn many_that_come_one_by_one_ask_seldom(rt: HostRuntime) {
     let log = Log::new();
     let mut arena: Arena<usize, u64, Observed<'_>> = Arena::new(Observed::new(rt.alloc(), &log));
     for number in 0..1_000usize {
-        assert_equal!(rt; arena.alloc_many(1).or_abort(&rt).start, number);
+        assert_equal!(rt; arena.alloc_many(1).expect(&rt, "").start, number);
     }
     assert_equal!(rt; log.requests(), 9);
 }
@@ -112,7 +108,7 @@ fn items_that_do_not_come_in_are_dropped(rt: HostRuntime) {
     {
         let mut arena: Arena<Tiny, Item<'_>> = Arena::new(rt.alloc());
         for number in 0..4 {
-            arena.alloc(Item::new(&kept, number)).or_abort(&rt);
+            arena.alloc(Item::new(&kept, number)).expect(&rt, "");
         }
         let error = arena.alloc(Item::new(&refused, 0)).err();
         assert_equal!(rt; (error, refused.dropped().0), (Some(ArenaError::NotEnoughKeys), 1));
@@ -125,8 +121,8 @@ fn items_that_do_not_come_in_are_dropped(rt: HostRuntime) {
             ArenaCommand::Put(3, Item::new(&refused, 0)),
             ArenaCommand::Put(0, Item::new(&kept, 4)),
         ]
-        .or_abort(&rt);
-        let replies = run_arena(rt.alloc(), &mut arena, commands).or_abort(&rt);
+        .expect(&rt, "");
+        let replies = run_arena(rt.alloc(), &mut arena, commands).expect(&rt, "");
         assert_equal!(rt; (replies.len(), arena.len(), refused.dropped().0), (3, 1, 7));
         drop(replies);
         assert_equal!(rt; (kept.dropped().0, refused.dropped().0), (0, 8));
@@ -138,38 +134,36 @@ fn items_that_do_not_come_in_are_dropped(rt: HostRuntime) {
 #[test]
 fn each_component_is_dropped_once(rt: HostRuntime) {
     let (log, tally, refused) = (Log::new(), Tally::new(), Tally::new());
-    {
-        let handle = Observed::new(rt.alloc(), &log);
-        let mut components: ComponentVec<usize, Item<'_>, Observed<'_>> = ComponentVec::new(handle);
-        for number in 0..131_072u64 {
-            components
-                .set(number as usize, Item::new(&tally, number))
-                .or_abort(&rt);
-        }
-        let old = components.set(0, Item::new(&refused, 0)).or_abort(&rt);
-        assert_equal!(rt; (old.as_ref().map(Item::number), tally.dropped().0), (Some(0), 0));
-        drop(old);
-        assert_equal!(rt; components.unset(1).as_ref().map(Item::number), Some(1));
-        assert_equal!(rt; tally.dropped(), (2, 2));
-        log.refuse_from(1);
-        for (number, error) in [
-            (1_000_000, ArenaError::OutOfSystemMemory),
-            (usize::MAX, ArenaError::KeyOutOfBounds),
-        ] {
-            assert_equal!(rt; components.set(number, Item::new(&refused, 1)).err(), Some(error));
-        }
-        assert_equal!(rt; (refused.dropped().0, components.extent()), (2, 131_072));
-        components.clear();
-        assert_equal!(rt; (tally.dropped(), refused.dropped().0), ((131_072, 131_072), 3));
+    let handle = Observed::new(rt.alloc(), &log);
+    let mut components: ComponentVec<usize, Item<'_>, Observed<'_>> = ComponentVec::new(handle);
+    for number in 0..131_072u64 {
+        let item = Item::new(&tally, number);
+        components.set(number as usize, item).expect(&rt, "");
     }
+    let old = components.set(0, Item::new(&refused, 0)).expect(&rt, "");
+    assert_equal!(rt; (old.as_ref().map(Item::number), tally.dropped().0), (Some(0), 0));
+    drop(old);
+    assert_equal!(rt; components.unset(1).as_ref().map(Item::number), Some(1));
+    assert_equal!(rt; tally.dropped(), (2, 2));
+    log.refuse_from(1);
+    for (number, error) in [
+        (1_000_000, ArenaError::OutOfSystemMemory),
+        (usize::MAX, ArenaError::KeyOutOfBounds),
+    ] {
+        assert_equal!(rt; components.set(number, Item::new(&refused, 1)).err(), Some(error));
+    }
+    assert_equal!(rt; (refused.dropped().0, components.extent()), (2, 131_072));
+    components.clear();
+    assert_equal!(rt; (tally.dropped(), refused.dropped().0), ((131_072, 131_072), 3));
+    drop(components);
     assert_equal!(rt; (tally.dropped(), log.amiss()), ((131_072, 131_072), 0));
 }
 
 #[test]
 fn calls_take_constant_time(rt: HostRuntime) {
-    let mut arena: Arena<usize, usize> = Arena::from_iter(rt.alloc(), 0..131_072).or_abort(&rt);
+    let mut arena: Arena<usize, usize> = Arena::from_iter(rt.alloc(), 0..131_072).expect(&rt, "");
     let mut components: ComponentVec<usize, usize> = ComponentVec::new(rt.alloc());
-    components.set(131_071, 7).or_abort(&rt);
+    components.set(131_071, 7).expect(&rt, "");
     let mut turns = 0u32;
     for turn in 0..262_144usize {
         let index = turn % 131_071;

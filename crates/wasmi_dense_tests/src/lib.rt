@@ -10,6 +10,4 @@ mod large;
 #[cfg(test)]
 mod no_memory;
 #[cfg(test)]
-mod or_abort;
-#[cfg(test)]
 mod refused;

@@ -1,6 +1,5 @@
 //! Calls that ask for no memory, with every request refused.
 use crate::arenas::numbers;
-use crate::or_abort::OrAbort;
 use wasmi_arena::ArenaError;
 use wasmi_dense::{Arena, ComponentVec};
 use wasmi_vectors::assert_equal;
@@ -11,17 +10,17 @@ fn nothing_needs_no_memory(rt: HostRuntime) {
     let log = Log::new();
     log.refuse_from(1);
     let handle = Observed::new(rt.alloc(), &log);
-    let none = Arena::<usize, u64, Observed<'_>>::from_iter(handle.clone().or_abort(&rt), 0..0);
-    let mut arena = none.or_abort(&rt);
-    let other = Arena::<usize, u64, Observed<'_>>::with_capacity(handle.clone().or_abort(&rt), 0);
-    assert!(rt; arena == other.or_abort(&rt));
+    let none = Arena::<usize, u64, Observed<'_>>::from_iter(handle.clone().expect(&rt, ""), 0..0);
+    let mut arena = none.expect(&rt, "");
+    let other = Arena::<usize, u64, Observed<'_>>::with_capacity(handle.clone().expect(&rt, ""), 0);
+    assert!(rt; arena == other.expect(&rt, ""));
     assert_equal!(rt; (arena.reserve(0), numbers(arena.alloc_many(0))), (Ok(()), Ok((0, 0))));
     arena.clear();
     assert_equal!(rt; arena.into_iter().len(), 0);
     let mut components: ComponentVec<usize, u64, Observed<'_>> = ComponentVec::new(handle);
     assert_equal!(rt; (components.reserve(0), components.unset(7)), (Ok(()), None));
     components.clear();
-    assert_equal!(rt; (components.clone().or_abort(&rt).extent(), log.requests()), (0, 0));
+    assert_equal!(rt; (components.clone().expect(&rt, "").extent(), log.requests()), (0, 0));
 }
 
 #[test]
@@ -39,7 +38,7 @@ fn an_arena_with_room_needs_no_memory(rt: HostRuntime) {
         assert_equal!(rt; arena.alloc(number), Ok(number as usize));
     }
     assert_equal!(rt; (arena.put(9, 90), arena.swap(0, 9)), (Ok(9), Ok(())));
-    assert_equal!(rt; arena.get_disjoint_mut([1, 0]).or_abort(&rt), (&mut 1, &mut 90));
+    assert_equal!(rt; arena.get_disjoint_mut([1, 0]).expect(&rt, ""), (&mut 1, &mut 90));
     assert_equal!(rt; arena.get_mut(9), Ok(&mut 0));
     assert_equal!(rt; (arena.get(0), arena.has(10), arena.next_key()), (Ok(&90), false, Ok(10)));
     assert_equal!(rt; (arena.iter().len(), arena.iter_mut().len()), (10, 10));
@@ -70,7 +69,7 @@ fn room_that_was_made_suffices(rt: HostRuntime) {
         let handle = Observed::new(rt.alloc(), &log);
         let mut of_capacity: Arena<usize, u64, Observed<'_>> = Arena::with_capacity(
             handle, more,
-        ).or_abort(&rt);
+        ).expect(&rt, "");
         let requests = log.requests();
         log.refuse_from(1);
         for number in 0..more {
@@ -88,13 +87,12 @@ fn components_below_the_extent_need_no_memory(rt: HostRuntime) {
     let log = Log::new();
     let handle = Observed::new(rt.alloc(), &log);
     let mut components: ComponentVec<usize, u64, Observed<'_>> = ComponentVec::new(handle);
-    components.set(39, 7).or_abort(&rt);
+    components.set(39, 7).expect(&rt, "");
     log.refuse_from(1);
     for number in 0..39usize {
         let set = (components.set(number, 1), components.set(number, 2));
         assert_equal!(rt; set, (Ok(None), Ok(Some(1))));
-        assert_equal!(rt; components.unset(number), Some(2));
-        assert_equal!(rt; components.get(number), None);
+        assert_equal!(rt; (components.unset(number), components.get(number)), (Some(2), None));
     }
     assert_equal!(rt; components.get_mut(39), Some(&mut 7));
     assert_equal!(rt; (components.has(39), components.extent()), (true, 40));
@@ -108,15 +106,4 @@ fn components_below_the_extent_need_no_memory(rt: HostRuntime) {
         assert_equal!(rt; components.set(number, 8), Ok(None));
     }
     assert_equal!(rt; log.requests(), 1);
-}
-
-#[test]
-fn items_without_size(rt: HostRuntime) {
-    let mut arena: Arena<usize, ()> = Arena::new(rt.alloc());
-    for index in 0..40 {
-        assert_equal!(rt; arena.alloc(()), Ok(index));
-    }
-    assert_equal!(rt; numbers(arena.alloc_many(60)), Ok((40, 100)));
-    assert_equal!(rt; (arena.get(99), arena.get(100)), (Ok(&()), Err(ArenaError::KeyOutOfBounds)));
-    assert_equal!(rt; arena.into_iter().len(), 100);
 }

@@ -1,5 +1,4 @@
 //! Each request for memory of a call refused in turn, and then the call made again.
-use crate::or_abort::OrAbort;
 use std::cell::Cell;
 use std::mem::size_of;
 use wasmi_arena::ArenaError;
@@ -12,22 +11,21 @@ use wasmi_vectors::tally::{Item, Tally};
 #[test]
 fn each_growth_is_refused_once(rt: HostRuntime) {
     let (log, tally, refused) = (Log::new(), Tally::new(), Tally::new());
-    {
-        let handle = Observed::new(rt.alloc(), &log);
-        let mut arena: Arena<usize, Item<'_>, Observed<'_>> = Arena::new(handle);
-        for number in 0..131_073u64 {
-            if arena.room() == 0 {
-                log.refuse_once(1);
-                let error = arena.alloc(Item::new(&refused, 0)).err();
-                assert_equal!(rt; error, Some(ArenaError::OutOfSystemMemory), "at {number}");
-                assert_equal!(rt; (arena.len() as u64, arena.room()), (number, 0));
-                assert!(rt; arena.iter().all(|(key, item)| item.number() == key as u64));
-            }
-            assert_equal!(rt; arena.alloc(Item::new(&tally, number)), Ok(number as usize));
+    let handle = Observed::new(rt.alloc(), &log);
+    let mut arena: Arena<usize, Item<'_>, Observed<'_>> = Arena::new(handle);
+    for number in 0..131_073u64 {
+        if arena.room() == 0 {
+            log.refuse_once(1);
+            let error = arena.alloc(Item::new(&refused, 0)).err();
+            assert_equal!(rt; error, Some(ArenaError::OutOfSystemMemory), "at {number}");
+            assert_equal!(rt; (arena.len() as u64, arena.room()), (number, 0));
+            assert!(rt; arena.iter().all(|(key, item)| item.number() == key as u64));
         }
-        assert_equal!(rt; (log.requests(), log.given(), log.returned()), (34, 17, 16));
-        assert_equal!(rt; (arena.room(), refused.dropped().0, tally.dropped()), (131_071, 17, (0, 0)));
+        assert_equal!(rt; arena.alloc(Item::new(&tally, number)), Ok(number as usize));
     }
+    assert_equal!(rt; (log.requests(), log.given(), log.returned()), (34, 17, 16));
+    assert_equal!(rt; (arena.room(), refused.dropped().0, tally.dropped()), (131_071, 17, (0, 0)));
+    drop(arena);
     assert_equal!(rt; (tally.dropped(), log.amiss()), ((131_073, 131_073), 0));
 }
 
@@ -74,12 +72,8 @@ fn call_arena<'a>(
         Call::Collect => *arena = Arena::from_iter(alloc, 0..9)?,
     }
     let is_item = |(key, item): (usize, &usize)| *item == if key < 32 { key } else { 0 };
-    Ok(
-        arena
-            .iter()
-            .all(is_item)
-            .then_some((arena.len(), arena.room())),
-    )
+    let has_items = arena.iter().all(is_item);
+    Ok(has_items.then_some((arena.len(), arena.room())))
 }
 
 // A call, how many requests it makes, and the least length and room that there is to be.
@@ -94,24 +88,21 @@ fn an_arena_goes_on_after_each_refusal(rt: HostRuntime) {
     ] {
         for nth in 1..requests + 2 {
             let log = Log::new();
-            {
-                let handle = Observed::new(rt.alloc(), &log);
-                let mut arena: Arena<usize, usize, Observed<'_>> = Arena::from_iter(
-                    handle,
-                    0..32,
-                ).or_abort(&rt);
-                assert_equal!(rt; arena.room(), 0);
-                log.refuse_once(nth);
-                let mut made = call_arena(call, &mut arena, Observed::new(rt.alloc(), &log));
-                if nth <= requests {
-                    assert_equal!(rt; made, Err(ArenaError::OutOfSystemMemory), "{call:?} {nth}");
-                    assert_equal!(rt; (arena.len(), arena.room()), (32, 0), "{call:?} {nth}");
-                    assert!(rt; arena.iter().all(|(key, item)| key == *item));
-                    made = call_arena(call, &mut arena, Observed::new(rt.alloc(), &log));
-                }
-                let (found, then) = made.or_abort(&rt).expect(&rt, "other items");
-                assert_equal!(rt; (found, then >= room), (len, true), "{call:?} {nth}");
+            let handle = Observed::new(rt.alloc(), &log);
+            let first = Arena::<usize, usize, Observed<'_>>::from_iter(handle, 0..32);
+            let mut arena = first.expect(&rt, "");
+            assert_equal!(rt; arena.room(), 0);
+            log.refuse_once(nth);
+            let mut made = call_arena(call, &mut arena, Observed::new(rt.alloc(), &log));
+            if nth <= requests {
+                assert_equal!(rt; made, Err(ArenaError::OutOfSystemMemory), "{call:?} {nth}");
+                assert_equal!(rt; (arena.len(), arena.room()), (32, 0), "{call:?} {nth}");
+                assert!(rt; arena.iter().all(|(key, item)| key == *item));
+                made = call_arena(call, &mut arena, Observed::new(rt.alloc(), &log));
             }
+            let (found, then) = made.expect(&rt, "").expect(&rt, "other items");
+            assert_equal!(rt; (found, then >= room), (len, true), "{call:?} {nth}");
+            drop(arena);
             assert_equal!(rt; log.amiss(), 0, "{call:?} {nth}");
         }
     }
@@ -136,60 +127,54 @@ fn has_the_even_ones(
 #[test]
 fn each_growth_of_components_is_refused_once(rt: HostRuntime) {
     let (log, tally, refused) = (Log::new(), Tally::new(), Tally::new());
-    {
-        let handle = Observed::new(rt.alloc(), &log);
-        let mut components: ComponentVec<usize, Item<'_>, Observed<'_>> = ComponentVec::new(handle);
-        for half in 0..65_537usize {
-            let (number, extent) = (half.wrapping_mul(2), components.extent());
-            log.refuse_once(1);
-            if let Err(error) = components.set(number, Item::new(&refused, 0)) {
-                assert_equal!(rt; error, ArenaError::OutOfSystemMemory);
-                assert!(rt; has_the_even_ones(&components, extent), "at {number}");
-            }
-            log.refuse_none();
-            drop(
-                components
-                    .set(number, Item::new(&tally, number as u64))
-                    .or_abort(&rt),
-            );
+    let handle = Observed::new(rt.alloc(), &log);
+    let mut components: ComponentVec<usize, Item<'_>, Observed<'_>> = ComponentVec::new(handle);
+    for half in 0..65_537usize {
+        let (number, extent) = (half.wrapping_mul(2), components.extent());
+        log.refuse_once(1);
+        if let Err(error) = components.set(number, Item::new(&refused, 0)) {
+            assert_equal!(rt; error, ArenaError::OutOfSystemMemory);
+            assert!(rt; has_the_even_ones(&components, extent), "at {number}");
         }
-        assert!(rt; has_the_even_ones(&components, 131_073));
-        // There were several refusals, and few.
-        assert!(rt; log.given() > 9 && log.given() < 20);
-        assert_equal!(rt; log.requests(), log.given().wrapping_mul(2));
-        assert_equal!(rt; (refused.dropped().0, tally.dropped().0), (65_537, 0));
+        log.refuse_none();
+        let set = components.set(number, Item::new(&tally, number as u64));
+        assert!(rt; set.is_ok_and(|old| old.is_none()));
     }
+    assert!(rt; has_the_even_ones(&components, 131_073));
+    // There were several refusals, and few.
+    assert!(rt; log.given() > 9 && log.given() < 20);
+    assert_equal!(rt; log.requests(), log.given().wrapping_mul(2));
+    assert_equal!(rt; (refused.dropped().0, tally.dropped().0), (65_537, 0));
+    drop(components);
     assert_equal!(rt; (tally.dropped().0, log.amiss()), (65_537, 0));
 }
 
 #[test]
 fn a_refused_clone_or_reserve_changes_nothing(rt: HostRuntime) {
     let (log, tally) = (Log::new(), Tally::new());
-    {
-        let handle = Observed::new(rt.alloc(), &log);
-        let mut components: ComponentVec<usize, Item<'_>, Observed<'_>> = ComponentVec::new(handle);
-        for number in [0, 2, 4u64] {
-            components
-                .set(number as usize, Item::new(&tally, number))
-                .or_abort(&rt);
-        }
-        let error = ArenaError::OutOfSystemMemory;
-        log.refuse_from(1);
-        assert_equal!(rt; (components.reserve(70_000), components.clone().err()), (Err(error), Some(error)));
-        assert!(rt; has_the_even_ones(&components, 5));
-        log.refuse_none();
-        tally.refuse_clone_of(4);
-        assert_equal!(rt; components.clone().err(), Some(error));
-        assert!(rt; has_the_even_ones(&components, 5));
-        assert_equal!(rt; (tally.cloned(), tally.dropped().0, components.reserve(70_000)), (2, 2, Ok(())));
-        tally.refuse_clone_of(9);
-        let (requests, bytes) = (log.requests().wrapping_add(1), log.bytes());
-        let other = components.clone().or_abort(&rt);
-        assert!(rt; has_the_even_ones(&other, 5) && has_the_even_ones(&components, 5));
-        let places = (size_of::<Option<Item<'_>>>() as u64).wrapping_mul(5);
-        assert_equal!(rt; (log.requests(), log.bytes()), (requests, bytes.wrapping_add(places)));
-        drop(other);
-        assert_equal!(rt; (tally.cloned(), tally.dropped().0), (5, 5));
+    let handle = Observed::new(rt.alloc(), &log);
+    let mut components: ComponentVec<usize, Item<'_>, Observed<'_>> = ComponentVec::new(handle);
+    for number in [0, 2, 4u64] {
+        let item = Item::new(&tally, number);
+        components.set(number as usize, item).expect(&rt, "");
     }
+    let error = ArenaError::OutOfSystemMemory;
+    log.refuse_from(1);
+    assert_equal!(rt; (components.reserve(70_000), components.clone().err()), (Err(error), Some(error)));
+    assert!(rt; has_the_even_ones(&components, 5));
+    log.refuse_none();
+    tally.refuse_clone_of(4);
+    assert_equal!(rt; components.clone().err(), Some(error));
+    assert!(rt; has_the_even_ones(&components, 5));
+    assert_equal!(rt; (tally.cloned(), tally.dropped().0, components.reserve(70_000)), (2, 2, Ok(())));
+    tally.refuse_clone_of(9);
+    let (requests, bytes) = (log.requests().wrapping_add(1), log.bytes());
+    let other = components.clone().expect(&rt, "");
+    assert!(rt; has_the_even_ones(&other, 5) && has_the_even_ones(&components, 5));
+    let places = (size_of::<Option<Item<'_>>>() as u64).wrapping_mul(5);
+    assert_equal!(rt; (log.requests(), log.bytes()), (requests, bytes.wrapping_add(places)));
+    drop(other);
+    assert_equal!(rt; (tally.cloned(), tally.dropped().0), (5, 5));
+    drop(components);
     assert_equal!(rt; (tally.dropped().0, log.amiss()), (8, 0));
 }

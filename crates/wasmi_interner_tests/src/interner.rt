@@ -1,10 +1,10 @@
 //! Interners: worked texts, and how many texts a search compares.
-use crate::or_abort::OrAbort;
 use std::alloc::Global;
 use std::process::Abort;
-use wasmi_arena::ArenaError;
 use wasmi_interner::{InternHint, LenOrder, Steps, StringInterner, Sym};
 use wasmi_vectors::assert_equal;
+use wasmi_vectors::logged::Logged;
+use wasmi_vectors::observed::Log;
 
 pub(crate) const HINTS: [InternHint; 3] = [
     InternHint::None,
@@ -12,70 +12,31 @@ pub(crate) const HINTS: [InternHint; 3] = [
     InternHint::LikelyNew,
 ];
 
-fn five_texts(alloc: Global) -> Result<StringInterner, ArenaError> {
-    let mut interner = StringInterner::new(alloc);
-    for text in ["b", "a", "bb", "", "é"] {
-        let _symbol = interner.get_or_intern(text)?;
-    }
-    Ok(interner)
-}
-
+// Five texts; one again under each hint; their symbols; and how many texts a look-up compares.
 #[test]
-fn five_texts_have_the_first_symbols(rt: HostRuntime) {
+fn five_texts(rt: HostRuntime) {
     let mut interner = StringInterner::new(rt.alloc());
     assert!(rt; interner.is_empty());
     for (text, number) in [("b", 0), ("a", 1), ("bb", 2), ("", 3), ("é", 4)] {
         let symbol = Sym::from_u32(number);
-        assert!(rt; interner.get(text).is_none(), "of {text}");
-        assert_equal!(rt; interner.get_or_intern(text).or_abort(&rt), symbol, "of {text}");
+        assert_equal!(rt; interner.get(text), None, "of {text}");
+        assert_equal!(rt; interner.get_or_intern(text), Ok(symbol), "of {text}");
         assert_equal!(rt; interner.get(text), Some(symbol), "of {text}");
     }
-    assert_equal!(rt; (interner.len(), interner.is_empty()), (5, false));
-}
-
-#[test]
-fn a_hint_changes_nothing(rt: HostRuntime) {
-    let mut interner = five_texts(rt.alloc()).or_abort(&rt);
     for hint in HINTS {
-        let symbol = interner.get_or_intern_with_hint("b", hint).or_abort(&rt);
-        assert_equal!(rt; (symbol.into_u32(), interner.len()), (0, 5));
+        assert_equal!(rt; interner.get_or_intern_with_hint("b", hint), Ok(Sym::from_u32(0)));
     }
-}
-
-#[test]
-fn a_symbol_has_its_text(rt: HostRuntime) {
-    let interner = five_texts(rt.alloc()).or_abort(&rt);
+    assert_equal!(rt; (interner.len(), interner.is_empty()), (5, false));
     for (number, text) in [(0, Some("b")), (4, Some("é")), (5, None), (u32::MAX, None)] {
         assert_equal!(rt; interner.resolve(Sym::from_u32(number)), text);
     }
-}
-
-#[test]
-fn five_texts_take_three_steps_at_most(rt: HostRuntime) {
-    let interner = five_texts(rt.alloc()).or_abort(&rt);
     for text in ["", "a", "b", "c", "aa", "bb", "bc", "é", "zz", "bbb"] {
         let mut steps = Steps::new();
         assert_equal!(rt; interner.get_counted(text, &mut steps), interner.get(text));
         assert!(rt; 1 <= steps.count() && steps.count() <= 3, "of {text}");
     }
-}
-
-// A hundred more are shown as those of a vector.
-#[test]
-fn texts_are_shown_as_a_list(rt: HostRuntime) {
-    let mut interner = five_texts(rt.alloc()).or_abort(&rt);
-    let text = format!(in rt.alloc(); "{interner:?}").or_abort(&rt);
+    let text = format!(in rt.alloc(); "{interner:?}").expect(&rt, "");
     assert_equal!(rt; text.as_str(), "[\"b\", \"a\", \"bb\", \"\", \"é\"]");
-    interner.clear();
-    let mut texts = Vec::new(rt.alloc());
-    for number in 0..100 {
-        let text = numbered(&rt, rt.alloc(), APART, number);
-        let _symbol = interner.get_or_intern(text.as_str()).or_abort(&rt);
-        texts.push(text).or_abort(&rt);
-    }
-    let shown = format!(in rt.alloc(); "{interner:?} {interner:#?}").or_abort(&rt);
-    let wanted = format!(in rt.alloc(); "{texts:?} {texts:#?}").or_abort(&rt);
-    assert_equal!(rt; shown.as_str(), wanted.as_str());
 }
 
 #[test]
@@ -87,8 +48,7 @@ fn shorter_texts_come_first(rt: HostRuntime) {
             assert_equal!(rt; order, i.cmp(&j), "of {a} and {b}");
         }
     }
-    assert_equal!(rt; "é".as_bytes(), [0xc3, 0xa9].as_slice());
-    assert_equal!(rt; LenOrder::new("bb").as_str(), "bb");
+    assert_equal!(rt; ("é".as_bytes(), LenOrder::new("bb").as_str()), ([0xc3, 0xa9].as_slice(), "bb"));
 }
 
 // Symbols are numbers, in their order.
@@ -96,11 +56,7 @@ fn shorter_texts_come_first(rt: HostRuntime) {
 fn symbols_are_numbers(rt: HostRuntime) {
     for number in [0, 1, u32::MAX] {
         let symbol = Sym::from_u32(number);
-        assert_equal!(rt;
-            (symbol.into_u32(), symbol.into_usize()),
-            (number, number as usize)
-        );
-        assert_equal!(rt; Sym::from_usize(symbol.into_usize()), symbol);
+        assert_equal!(rt; (symbol.into_u32(), Sym::from_usize(symbol.into_usize())), (number, symbol));
     }
     assert!(rt; Sym::from_u32(2) < Sym::from_u32(10));
     let mut steps = Steps::new();
@@ -131,24 +87,21 @@ pub(crate) fn numbered(
     number: u32,
 ) -> String {
     let (head, tail) = around;
-    format!(in alloc; "{head}{number:05}{tail}").or_abort(rt)
+    format!(in alloc; "{head}{number:05}{tail}").expect(rt, "")
 }
 
 // A text of a letter. There are 32 bytes behind the head of a number of one hash.
 fn lettered(rt: &impl Abort, alloc: Global, around: (&str, &str), letter: &str) -> String {
     let (head, _) = around;
-    format!(in alloc; "{head}----{letter}").or_abort(rt)
+    format!(in alloc; "{head}----{letter}").expect(rt, "")
 }
 
 // An interner of texts of one letter, whose order isn't that of the letters.
 fn letters(rt: &impl Abort, alloc: Global, around: (&str, &str), count: usize) -> StringInterner {
     let mut interner = StringInterner::new(alloc);
-    for letter in ["h", "b", "p", "d", "n", "f", "l", "j", "r"]
-        .iter()
-        .take(count)
-    {
+    for letter in "h b p d n f l j r".split(' ').take(count) {
         let text = lettered(rt, alloc, around, letter);
-        let _symbol = interner.get_or_intern(text.as_str()).or_abort(rt);
+        interner.get_or_intern(text.as_str()).expect(rt, "");
     }
     interner
 }
@@ -156,26 +109,12 @@ fn letters(rt: &impl Abort, alloc: Global, around: (&str, &str), count: usize) -
 // Among texts of one hash, as many are compared as their number has binary digits; among others, one.
 #[test]
 fn a_search_is_binary(rt: HostRuntime) {
-    for (count, most) in [
-        (0, 0),
-        (1, 1),
-        (2, 2),
-        (3, 2),
-        (4, 3),
-        (5, 3),
-        (6, 3),
-        (7, 3),
-        (8, 4),
-        (9, 4),
-    ] {
+    for (count, most) in [0, 1, 2, 2, 3, 3, 3, 3, 4, 4].into_iter().enumerate() {
         for (around, wanted) in [(ONE_HASH, most), (APART, most.min(1))] {
             let interner = letters(&rt, rt.alloc(), around, count);
             assert_equal!(rt; interner.len(), count);
             let mut greatest = 0;
-            for letter in [
-                "a", "b", "c", "d", "e", "f", "g", "h", "i", "j", "k", "l", "m", "n", "o", "p",
-                "q", "r", "s",
-            ] {
+            for letter in "a b c d e f g h i j k l m n o p q r s".split(' ') {
                 let text = lettered(&rt, rt.alloc(), around, letter);
                 let mut steps = Steps::new();
                 let _symbol = interner.get_counted(text.as_str(), &mut steps);
@@ -187,38 +126,11 @@ fn a_search_is_binary(rt: HostRuntime) {
     }
 }
 
-// One counter goes on through all of them.
-#[test]
-fn the_middle_is_compared_first(rt: HostRuntime) {
-    let interner = letters(&rt, rt.alloc(), ONE_HASH, 7);
-    let mut steps = Steps::new();
-    for (letter, count) in [
-        ("h", 1),
-        ("d", 3),
-        ("n", 5),
-        ("b", 8),
-        ("f", 11),
-        ("l", 14),
-        ("p", 17),
-    ] {
-        let text = lettered(&rt, rt.alloc(), ONE_HASH, letter);
-        assert!(rt; steps.count() < 17, "of {letter}");
-        let _symbol = interner.get_counted(text.as_str(), &mut steps);
-        assert_equal!(rt; steps.count(), count, "of {letter}");
-    }
-}
-
 // The first three of the first order have one hash, and so have the two behind them, and the last three.
-const ORDERS: [[&str; 8]; 3] = [
-    [
-        "fatilu", "kuvutuge", "sidisene", "vuva", "dolafo", "vosunu", "biganike", "fologobi",
-    ],
-    [
-        "fologobi", "sidisene", "dolafo", "biganike", "kuvutuge", "vuva", "vosunu", "fatilu",
-    ],
-    [
-        "biganike", "vuva", "kuvutuge", "fologobi", "fatilu", "dolafo", "sidisene", "vosunu",
-    ],
+const ORDERS: [&str; 3] = [
+    "fatilu kuvutuge sidisene vuva dolafo vosunu biganike fologobi",
+    "fologobi sidisene dolafo biganike kuvutuge vuva vosunu fatilu",
+    "biganike vuva kuvutuge fologobi fatilu dolafo sidisene vosunu",
 ];
 
 // A text behind each of them, and more behind all. A search of eight entries compares four texts at the most.
@@ -227,21 +139,21 @@ fn texts_of_one_hash_are_told_apart(rt: HostRuntime) {
     let mut interner = StringInterner::new(rt.alloc());
     for order in ORDERS {
         interner.clear();
-        for (number, text) in (0u32..).zip(order) {
+        for (number, text) in (0u32..).zip(order.split(' ')) {
             let symbol = Sym::from_u32(number.wrapping_mul(2));
             assert_equal!(rt; interner.get(text), None, "of {text}");
             assert_equal!(rt; interner.get_or_intern(text), Ok(symbol), "of {text}");
             let other = numbered(&rt, rt.alloc(), APART, number);
-            let _symbol = interner.get_or_intern(other.as_str()).or_abort(&rt);
+            interner.get_or_intern(other.as_str()).expect(&rt, "");
         }
         for more in [8..8, 8..100] {
             for number in more {
                 let other = numbered(&rt, rt.alloc(), APART, number);
-                let _symbol = interner.get_or_intern(other.as_str()).or_abort(&rt);
+                interner.get_or_intern(other.as_str()).expect(&rt, "");
             }
-            let copy = interner.clone().or_abort(&rt);
+            let copy = interner.clone().expect(&rt, "");
             let mut greatest = 0;
-            for (number, text) in (0u32..).zip(order) {
+            for (number, text) in (0u32..).zip(order.split(' ')) {
                 let symbol = Sym::from_u32(number.wrapping_mul(2));
                 let mut steps = Steps::new();
                 assert_equal!(rt; copy.get_counted(text, &mut steps), Some(symbol), "of {text}");
@@ -269,9 +181,9 @@ fn texts_that_find_no_slot_are_found(rt: HostRuntime) {
         for more in [0..0, 0..1000u32] {
             for number in more {
                 let other = numbered(&rt, rt.alloc(), APART, number);
-                let _symbol = interner.get_or_intern(other.as_str()).or_abort(&rt);
+                interner.get_or_intern(other.as_str()).expect(&rt, "");
             }
-            let copy = interner.clone().or_abort(&rt);
+            let copy = interner.clone().expect(&rt, "");
             let mut greatest = 0;
             for number in 0..300u32 {
                 let text = numbered(&rt, rt.alloc(), around, number);
@@ -290,7 +202,7 @@ fn texts_that_find_no_slot_are_found(rt: HostRuntime) {
 
 // A text of its own for each number below 100,003, in no order.
 pub(crate) fn scattered(rt: &impl Abort, alloc: Global, number: u32) -> String {
-    format!(in alloc; "{}", number.wrapping_mul(7919) % 100003).or_abort(rt)
+    format!(in alloc; "{}", number.wrapping_mul(7919) % 100003).expect(rt, "")
 }
 
 // Each has a hash of its own, but for few, and finds a slot, so one text is compared.
@@ -306,7 +218,7 @@ fn a_hundred_thousand_texts_are_found(rt: HostRuntime) {
             assert_equal!(rt; interner.extend([text.as_str()]), Ok(()), "at {number}");
         }
     }
-    let copy = interner.clone().or_abort(&rt);
+    let copy = interner.clone().expect(&rt, "");
     let mut steps = Steps::new();
     for number in 0..100_003 {
         let text = scattered(&rt, rt.alloc(), number);
@@ -328,14 +240,18 @@ fn more_texts_of_one_hash_than_a_short_number_tells(rt: HostRuntime) {
     }
 }
 
+// What is there needs no memory, however long it is.
 #[test]
 fn long_texts_are_kept(rt: HostRuntime) {
-    let mut interner = StringInterner::new(rt.alloc());
+    let log = Log::new();
+    let mut interner = StringInterner::new(Logged::new(rt.alloc(), &log));
     for (number, len) in (0u32..).zip([4096, 4097, 65_536, 65_537, 1_048_577, 5]) {
-        let text = "x".repeat(rt.alloc(), len).or_abort(&rt);
+        let text = "x".repeat(rt.alloc(), len).expect(&rt, "");
         let symbol = Sym::from_u32(number);
         assert_equal!(rt; interner.get_or_intern(text.as_str()), Ok(symbol), "of {len}");
-        assert_equal!(rt; interner.get(text.as_str()), Some(symbol), "of {len}");
+        log.refuse_from(1);
+        assert_equal!(rt; interner.get_or_intern(text.as_str()), Ok(symbol), "of {len}");
+        log.refuse_none();
         assert!(rt; interner.resolve(symbol) == Some(text.as_str()), "of {len}");
     }
 }

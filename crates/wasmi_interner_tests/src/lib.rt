@@ -6,8 +6,6 @@ mod interner;
 #[cfg(test)]
 mod memory;
 #[cfg(test)]
-mod or_abort;
-#[cfg(test)]
 mod searches;
 #[cfg(test)]
 mod texts;

@@ -1,6 +1,5 @@
 //! The memory of interners: how much is asked for, and each request refused in turn.
 use crate::interner::{APART, HINTS, ONE_HASH, ONE_HOME, numbered};
-use crate::or_abort::OrAbort;
 use std::alloc::Global;
 use std::process::Abort;
 use wasmi_arena::ArenaError;
@@ -41,19 +40,17 @@ fn a_refused_text_changes_nothing(rt: HostRuntime) {
     let mut refusals = 0u64;
     for nth in 1..30 {
         let log = Log::new();
-        {
-            let handle = Logged::new(rt.alloc(), &log);
-            let mut interner = StringInterner::new(handle);
-            log.refuse_once(nth);
-            for (len, name) in NAMES.into_iter().enumerate() {
-                if let Err(error) = interner.get_or_intern(name) {
-                    assert_equal!(rt; error, ArenaError::OutOfSystemMemory);
-                    assert!(rt; goes_on(&mut interner, len, name).or_abort(&rt), "at {nth}");
-                    refusals = refusals.wrapping_add(1);
-                }
+        let mut interner = StringInterner::new(Logged::new(rt.alloc(), &log));
+        log.refuse_once(nth);
+        for (len, name) in NAMES.into_iter().enumerate() {
+            if let Err(error) = interner.get_or_intern(name) {
+                assert_equal!(rt; error, ArenaError::OutOfSystemMemory);
+                assert_equal!(rt; goes_on(&mut interner, len, name), Ok(true), "at {nth}");
+                refusals = refusals.wrapping_add(1);
             }
-            assert!(rt; has_first(&interner, 10), "at {nth}");
         }
+        assert!(rt; has_first(&interner, 10), "at {nth}");
+        drop(interner);
         assert_equal!(rt; log.amiss(), 0);
     }
     // Four for the bytes of the texts as they grow, and three for the list of where they lie. That slots are refused
@@ -74,10 +71,10 @@ fn refused_among(
         let text = numbered(rt, alloc, around, number);
         let len = interner.len();
         match interner.get_or_intern(text.as_str()) {
-            Ok(symbol) => assert_equal!(*rt;
-                (interner.get(text.as_str()), interner.resolve(symbol)),
-                (Some(symbol), Some(text.as_str()))
-            ),
+            Ok(symbol) => {
+                let found = (interner.get(text.as_str()), interner.resolve(symbol));
+                assert_equal!(*rt; found, (Some(symbol), Some(text.as_str())));
+            }
             Err(error) => {
                 assert_equal!(*rt; error, ArenaError::OutOfSystemMemory);
                 assert_equal!(*rt; (interner.get(text.as_str()), interner.len()), (None, len));
@@ -94,33 +91,33 @@ fn refused_among(
 // beside the list of blocks five as the first block gets its 256 entries, and one for the second.
 #[test]
 fn each_request_refused_as_slots_are_doubled(rt: HostRuntime) {
-    for (around, texts, requests, errors) in [
+    let cases = [
         (APART, 41, 17, 12),
         (ONE_HOME, 41, 19, 14),
         (ONE_HASH, 300, 32, 25),
-    ] {
+    ];
+    for (around, texts, requests, errors) in cases {
         let (mut met, mut refused) = (0u64, 0u64);
         for nth in 1..35u64 {
             for is_last in [true, false] {
                 let log = Log::new();
-                {
-                    let mut interner = StringInterner::new(Logged::new(rt.alloc(), &log));
-                    if is_last {
-                        log.refuse_once(nth);
-                    } else {
-                        log.refuse_from(nth);
-                    }
-                    let count = refused_among(&rt, &mut interner, rt.alloc(), around, texts);
-                    if is_last {
-                        met = met.wrapping_add(u64::from(nth <= log.requests()));
-                        refused = refused.wrapping_add(count);
-                    }
-                    log.refuse_none();
-                    for _ in 0..2 {
-                        let count = refused_among(&rt, &mut interner, rt.alloc(), around, texts);
-                        assert_equal!(rt; (count, interner.len()), (0, texts as usize), "at {nth}");
-                    }
+                let mut interner = StringInterner::new(Logged::new(rt.alloc(), &log));
+                if is_last {
+                    log.refuse_once(nth);
+                } else {
+                    log.refuse_from(nth);
                 }
+                let count = refused_among(&rt, &mut interner, rt.alloc(), around, texts);
+                if is_last {
+                    met = met.wrapping_add(u64::from(nth <= log.requests()));
+                    refused = refused.wrapping_add(count);
+                }
+                log.refuse_none();
+                for _ in 0..2 {
+                    let count = refused_among(&rt, &mut interner, rt.alloc(), around, texts);
+                    assert_equal!(rt; (count, interner.len()), (0, texts as usize), "at {nth}");
+                }
+                drop(interner);
                 assert_equal!(rt; log.amiss(), 0);
             }
         }
@@ -134,16 +131,15 @@ fn each_request_refused_as_slots_are_doubled(rt: HostRuntime) {
 fn slots_are_doubled_in_turn(rt: HostRuntime) {
     let log = Log::new();
     let mut interner = with_texts(&rt, Logged::new(rt.alloc(), &log), rt.alloc(), APART, 100);
-    for (refused, doubled) in [
-        (
-            0..0,
-            [(0, 39), (5, 47), (10, 63), (20, 95), (40, 159), (80, 287)],
-        ),
-        (
-            1..32,
-            [(0, 39), (32, 47), (33, 63), (34, 95), (40, 159), (80, 287)],
-        ),
-    ] {
+    for (refused, fifth, tenth, twentieth) in [(0..0, 5, 10, 20), (1..32, 32, 33, 34)] {
+        let ends = [
+            (0, 39),
+            (fifth, 47),
+            (tenth, 63),
+            (twentieth, 95),
+            (40, 159),
+            (80, 287),
+        ];
         interner.clear();
         for number in 0..100u32 {
             let is_refused = refused.contains(&number);
@@ -154,18 +150,18 @@ fn slots_are_doubled_in_turn(rt: HostRuntime) {
             }
             let text = numbered(&rt, rt.alloc(), APART, number);
             let (bytes, clones) = (log.bytes(), log.clones());
-            let symbol = interner.get_or_intern(text.as_str()).or_abort(&rt);
+            let symbol = interner.get_or_intern(text.as_str()).expect(&rt, "");
             assert_equal!(rt; symbol.into_u32(), number);
-            let slots: u64 = doubled
+            let slots: u64 = ends
                 .iter()
                 .find(|row| row.0 == number)
                 .map_or(0, |row| row.1);
             if !is_refused {
-                let asked = (
+                let (bytes, clones) = (
                     log.bytes().wrapping_sub(bytes),
                     log.clones().wrapping_sub(clones),
                 );
-                assert_equal!(rt; asked, (slots.wrapping_mul(8), u64::from(slots != 0)), "behind {number}");
+                assert_equal!(rt; (bytes, clones), (slots.wrapping_mul(8), u64::from(slots != 0)), "behind {number}");
             }
         }
         for number in 0..100 {
@@ -186,7 +182,7 @@ fn with_texts<'l>(
     let mut interner = StringInterner::new(handle);
     for number in 0..texts {
         let text = numbered(rt, alloc, around, number);
-        let _symbol = interner.get_or_intern(text.as_str()).or_abort(rt);
+        interner.get_or_intern(text.as_str()).expect(rt, "");
     }
     interner
 }
@@ -198,27 +194,25 @@ fn refused_blocks_of_the_rest_are_joined_later(rt: HostRuntime) {
     let mut refusals = 0u64;
     for nth in 1..15 {
         let log = Log::new();
-        {
-            let handle = Logged::new(rt.alloc(), &log);
-            let mut interner = with_texts(&rt, handle, rt.alloc(), ONE_HASH, 4096);
-            let more = numbered(&rt, rt.alloc(), ONE_HASH, 4096);
-            log.refuse_once(nth);
-            if interner.get_or_intern(more.as_str()).is_err() {
-                assert_equal!(rt; (interner.get(more.as_str()), interner.len()), (None, 4096));
-                refusals = refusals.wrapping_add(1);
-            }
-            let symbol = interner.get_or_intern(more.as_str()).or_abort(&rt);
-            assert_equal!(rt; symbol.into_u32(), 4096);
-            // Each of them once, and then each 64th.
-            for number in 0..4096 {
-                if 1 < nth && number % 64 != 0 {
-                    continue;
-                }
-                let text = numbered(&rt, rt.alloc(), ONE_HASH, number);
-                let found = interner.get(text.as_str());
-                assert_equal!(rt; found, Some(Sym::from_u32(number)), "at {nth}");
-            }
+        let handle = Logged::new(rt.alloc(), &log);
+        let mut interner = with_texts(&rt, handle, rt.alloc(), ONE_HASH, 4096);
+        let more = numbered(&rt, rt.alloc(), ONE_HASH, 4096);
+        log.refuse_once(nth);
+        if interner.get_or_intern(more.as_str()).is_err() {
+            assert_equal!(rt; (interner.get(more.as_str()), interner.len()), (None, 4096));
+            refusals = refusals.wrapping_add(1);
         }
+        assert_equal!(rt; interner.get_or_intern(more.as_str()), Ok(Sym::from_u32(4096)));
+        // Each of them once, and then each 64th.
+        for number in 0..4096 {
+            if 1 < nth && number % 64 != 0 {
+                continue;
+            }
+            let text = numbered(&rt, rt.alloc(), ONE_HASH, number);
+            let found = interner.get(text.as_str());
+            assert_equal!(rt; found, Some(Sym::from_u32(number)), "at {nth}");
+        }
+        drop(interner);
         assert_equal!(rt; log.amiss(), 0);
     }
     assert_equal!(rt; refusals, 13);
@@ -237,27 +231,26 @@ fn blocks_of_the_rest_widen_in_turn(rt: HostRuntime) {
         (16_384, (21, 1_714_816, 18), 21),
     ] {
         let log = Log::new();
-        {
-            let handle = Logged::new(rt.alloc(), &log);
-            let mut interner = with_texts(&rt, handle, rt.alloc(), ONE_HASH, texts);
-            let more = numbered(&rt, rt.alloc(), ONE_HASH, texts);
-            let (requests, bytes, clones) = (log.requests(), log.bytes(), log.clones());
-            let _symbol = interner.get_or_intern(more.as_str()).or_abort(&rt);
-            let made = (
-                log.requests().wrapping_sub(requests),
-                log.bytes().wrapping_sub(bytes),
-                log.clones().wrapping_sub(clones),
-            );
-            let blocks = log.given().wrapping_sub(log.returned());
-            assert_equal!(rt; (made, blocks), (asked, held), "behind {texts}");
-            interner.clear();
-            for (number, size) in [(0, 312), (1, 128)] {
-                let text = numbered(&rt, rt.alloc(), ONE_HASH, number);
-                let bytes = log.bytes();
-                let _symbol = interner.get_or_intern(text.as_str()).or_abort(&rt);
-                assert_equal!(rt; log.bytes().wrapping_sub(bytes), size, "after {texts}");
-            }
+        let handle = Logged::new(rt.alloc(), &log);
+        let mut interner = with_texts(&rt, handle, rt.alloc(), ONE_HASH, texts);
+        let more = numbered(&rt, rt.alloc(), ONE_HASH, texts);
+        let (requests, bytes, clones) = (log.requests(), log.bytes(), log.clones());
+        interner.get_or_intern(more.as_str()).expect(&rt, "");
+        let made = (
+            log.requests().wrapping_sub(requests),
+            log.bytes().wrapping_sub(bytes),
+            log.clones().wrapping_sub(clones),
+        );
+        let blocks = log.given().wrapping_sub(log.returned());
+        assert_equal!(rt; (made, blocks), (asked, held), "behind {texts}");
+        interner.clear();
+        for (number, size) in [(0, 312), (1, 128)] {
+            let text = numbered(&rt, rt.alloc(), ONE_HASH, number);
+            let bytes = log.bytes();
+            interner.get_or_intern(text.as_str()).expect(&rt, "");
+            assert_equal!(rt; log.bytes().wrapping_sub(bytes), size, "after {texts}");
         }
+        drop(interner);
         assert_equal!(rt; log.amiss(), 0);
     }
 }
@@ -278,46 +271,40 @@ fn with_names<'l>(handle: Logged<'l>) -> Result<StringInterner<Logged<'l>>, Aren
 fn a_text_that_is_there_needs_no_memory(rt: HostRuntime) {
     for nth in 1..30 {
         let log = Log::new();
-        {
-            let handle = Logged::new(rt.alloc(), &log);
-            log.refuse_once(nth);
-            let mut interner = with_names(handle).or_abort(&rt);
-            log.refuse_from(1);
-            let asked = log.requests();
-            for hint in HINTS {
-                let symbol = interner.get_or_intern_with_hint("global", hint);
-                assert_equal!(rt; (symbol, log.requests()), (Ok(Sym::from_u32(3)), asked));
-            }
-            assert!(rt; interner.get_or_intern(LONG).is_err());
-            assert!(rt; has_first(&interner, 10), "at {nth}");
+        log.refuse_once(nth);
+        let mut interner = with_names(Logged::new(rt.alloc(), &log)).expect(&rt, "");
+        log.refuse_from(1);
+        let asked = log.requests();
+        for hint in HINTS {
+            let symbol = interner.get_or_intern_with_hint("global", hint);
+            assert_equal!(rt; (symbol, log.requests()), (Ok(Sym::from_u32(3)), asked));
         }
+        assert!(rt; interner.get_or_intern(LONG).is_err());
+        assert!(rt; has_first(&interner, 10), "at {nth}");
+        drop(interner);
         assert_equal!(rt; log.amiss(), 0);
     }
 }
 
+// The request for its bytes is refused. One for where it lies is in `a_refused_text_changes_nothing`.
 #[test]
 fn a_third_text_is_refused(rt: HostRuntime) {
     let log = Log::new();
-    let handle = Logged::new(rt.alloc(), &log);
-    let mut interner = StringInterner::new(handle);
-    let _a = interner.get_or_intern("a").or_abort(&rt);
-    let _b = interner.get_or_intern("b").or_abort(&rt);
+    let mut interner = StringInterner::new(Logged::new(rt.alloc(), &log));
+    interner.extend(["a", "b"]).expect(&rt, "");
     log.refuse_from(1);
-    assert_equal!(rt;
-        interner.get_or_intern(LONG),
-        Err(ArenaError::OutOfSystemMemory)
-    );
+    assert_equal!(rt; interner.get_or_intern(LONG), Err(ArenaError::OutOfSystemMemory));
     assert_equal!(rt; (interner.get(LONG), interner.len()), (None, 2));
     log.refuse_none();
-    assert_equal!(rt; interner.get_or_intern(LONG).or_abort(&rt), Sym::from_u32(2));
+    assert_equal!(rt; interner.get_or_intern(LONG), Ok(Sym::from_u32(2)));
 }
 
 // An interner of the names and two texts of one hash.
 fn with_rest<'l>(rt: &impl Abort, handle: Logged<'l>, alloc: Global) -> StringInterner<Logged<'l>> {
-    let mut interner = with_names(handle).or_abort(rt);
+    let mut interner = with_names(handle).expect(rt, "");
     for number in 0..2 {
         let text = numbered(rt, alloc, ONE_HASH, number);
-        let _symbol = interner.get_or_intern(text.as_str()).or_abort(rt);
+        interner.get_or_intern(text.as_str()).expect(rt, "");
     }
     interner
 }
@@ -328,40 +315,27 @@ fn a_clone_asks_for_five_blocks(rt: HostRuntime) {
     let log = Log::new();
     let handle = Logged::new(rt.alloc(), &log);
     for (interner, blocks) in [
-        (with_names(handle).or_abort(&rt), 3),
+        (with_names(handle).expect(&rt, ""), 3),
         (with_rest(&rt, handle, rt.alloc()), 5),
     ] {
         let before = log.requests();
-        let copy = interner.clone().or_abort(&rt);
-        assert_equal!(rt; log.requests().wrapping_sub(before), blocks);
-        assert_equal!(rt; &copy, &interner);
+        let copy = interner.clone().expect(&rt, "");
+        assert_equal!(rt; (log.requests().wrapping_sub(before), &copy), (blocks, &interner));
     }
-}
-
-#[test]
-fn a_clone_has_texts_of_its_own(rt: HostRuntime) {
-    let log = Log::new();
-    let handle = Logged::new(rt.alloc(), &log);
-    let interner = with_names(handle).or_abort(&rt);
-    let mut copy = interner.clone().or_abort(&rt);
-    let _more = copy.get_or_intern("import").or_abort(&rt);
-    assert!(rt; copy != interner && has_first(&interner, 10));
 }
 
 #[test]
 fn a_refused_clone_leaves_its_source(rt: HostRuntime) {
     let log = Log::new();
-    {
-        let handle = Logged::new(rt.alloc(), &log);
-        let interner = with_rest(&rt, handle, rt.alloc());
-        for nth in 1..6 {
-            log.refuse_once(nth);
-            let refused = interner.clone().err();
-            assert_equal!(rt; refused, Some(ArenaError::OutOfSystemMemory), "at {nth}");
-            assert!(rt; has_first(&interner, 12), "at {nth}");
-        }
-        assert_equal!(rt; &interner.clone().or_abort(&rt), &interner);
+    let interner = with_rest(&rt, Logged::new(rt.alloc(), &log), rt.alloc());
+    for nth in 1..6 {
+        log.refuse_once(nth);
+        let refused = interner.clone().err();
+        assert_equal!(rt; refused, Some(ArenaError::OutOfSystemMemory), "at {nth}");
+        assert!(rt; has_first(&interner, 12), "at {nth}");
     }
+    assert_equal!(rt; &interner.clone().expect(&rt, ""), &interner);
+    drop(interner);
     assert_equal!(rt; log.amiss(), 0);
 }
 
@@ -369,13 +343,13 @@ fn a_refused_clone_leaves_its_source(rt: HostRuntime) {
 fn an_empty_interner_is_cloned(rt: HostRuntime) {
     let log = Log::new();
     let mut interner = StringInterner::new(Logged::new(rt.alloc(), &log));
-    interner.get_or_intern("a").or_abort(&rt);
+    interner.get_or_intern("a").expect(&rt, "");
     interner.clear();
     log.refuse_from(1);
-    let mut copy = interner.clone().or_abort(&rt);
+    let mut copy = interner.clone().expect(&rt, "");
     assert_equal!(rt; &copy, &interner);
     log.refuse_none();
-    assert_equal!(rt; copy.get_or_intern("b").or_abort(&rt), Sym::from_u32(0));
+    assert_equal!(rt; copy.get_or_intern("b").expect(&rt, ""), Sym::from_u32(0));
 }
 
 // Nor does a new one, whatever the hint, but for slots or a block that it opens.
@@ -386,7 +360,7 @@ fn a_text_clones_no_handle(rt: HostRuntime) {
     let before = (log.requests(), log.clones());
     for (hint, text) in HINTS.into_iter().zip(["import", "export", "x"]) {
         for _ in 0..2 {
-            interner.get_or_intern_with_hint(text, hint).or_abort(&rt);
+            interner.get_or_intern_with_hint(text, hint).expect(&rt, "");
         }
     }
     assert_equal!(rt; (log.requests(), log.clones()), before);
@@ -404,7 +378,7 @@ fn refused_slots_are_asked_for_once(rt: HostRuntime) {
             log.refuse_from(1);
         }
         let asked = log.requests();
-        let _symbol = interner.get_or_intern(text.as_str()).or_abort(&rt);
+        interner.get_or_intern(text.as_str()).expect(&rt, "");
         let wanted = u64::from(number == 0 || 5 <= number);
         assert_equal!(rt; log.requests().wrapping_sub(asked), wanted, "behind {number}");
     }
@@ -414,21 +388,10 @@ fn refused_slots_are_asked_for_once(rt: HostRuntime) {
 #[test]
 fn slots_are_doubled_beside_a_long_rest(rt: HostRuntime) {
     let log = Log::new();
-    let mut interner = with_texts(
-        &rt,
-        Logged::new(rt.alloc(), &log),
-        rt.alloc(),
-        ONE_HASH,
-        5120,
-    );
+    let handle = Logged::new(rt.alloc(), &log);
+    let mut interner = with_texts(&rt, handle, rt.alloc(), ONE_HASH, 5120);
     let more = numbered(&rt, rt.alloc(), APART, 0);
     let (requests, bytes) = (log.requests(), log.bytes());
-    let _symbol = interner.get_or_intern(more.as_str()).or_abort(&rt);
-    assert_equal!(rt;
-        (
-            log.requests().wrapping_sub(requests),
-            log.bytes().wrapping_sub(bytes)
-        ),
-        (1, 131_320)
-    );
+    interner.get_or_intern(more.as_str()).expect(&rt, "");
+    assert_equal!(rt; (log.requests().wrapping_sub(requests), log.bytes().wrapping_sub(bytes)), (1, 131_320));
 }

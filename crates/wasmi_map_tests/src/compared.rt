@@ -1,5 +1,4 @@
 //! How often calls of maps and sets compare and clone.
-use crate::or_abort::OrAbort;
 use std::alloc::Global;
 use wasmi_arena::ArenaError;
 use wasmi_hashed as hashed;
@@ -35,7 +34,7 @@ fn a_call_compares_as_a_read_does(rt: HostRuntime) {
         let key = number / 2;
         let keys = (Noted::new(key, &notes), Noted::new(key, &notes));
         assert!(rt;
-            compares_as_a_read(&mut map, &mut set, &notes, keys).or_abort(&rt),
+            compares_as_a_read(&mut map, &mut set, &notes, keys).expect(&rt, ""),
             "of {number}"
         );
     }
@@ -92,12 +91,12 @@ fn elements<'a>(
 #[test]
 fn a_set_of_two_clones_what_it_has(rt: HostRuntime) {
     let notes = Notes::new();
-    let one = elements(rt.alloc(), 0, 100, &notes).or_abort(&rt);
-    let other = elements(rt.alloc(), 50, 100, &notes).or_abort(&rt);
-    assert_equal!(rt; (one.bitor(&other).or_abort(&rt).len(), notes.cloned()), (150, 150));
-    assert_equal!(rt; (one.bitand(&other).or_abort(&rt).len(), notes.cloned()), (50, 50));
-    assert_equal!(rt; (one.bitxor(&other).or_abort(&rt).len(), notes.cloned()), (100, 100));
-    assert_equal!(rt; (one.sub(&other).or_abort(&rt).len(), notes.cloned()), (50, 50));
+    let one = elements(rt.alloc(), 0, 100, &notes).expect(&rt, "");
+    let other = elements(rt.alloc(), 50, 100, &notes).expect(&rt, "");
+    assert_equal!(rt; (one.bitor(&other).expect(&rt, "").len(), notes.cloned()), (150, 150));
+    assert_equal!(rt; (one.bitand(&other).expect(&rt, "").len(), notes.cloned()), (50, 50));
+    assert_equal!(rt; (one.bitxor(&other).expect(&rt, "").len(), notes.cloned()), (100, 100));
+    assert_equal!(rt; (one.sub(&other).expect(&rt, "").len(), notes.cloned()), (50, 50));
 }
 
 #[test]
@@ -106,19 +105,19 @@ fn each_key_is_cloned_once(rt: HostRuntime) {
     let mut map = Map::new(rt.alloc());
     let mut other: hashed::Map<Noted<'_>, u32> = hashed::Map::new(rt.alloc());
     for key in 0..100u32 {
-        map.insert(Noted::new(key, &notes), key).or_abort(&rt);
-        other.insert(Noted::new(key, &notes), key).or_abort(&rt);
+        map.insert(Noted::new(key, &notes), key).expect(&rt, "");
+        other.insert(Noted::new(key, &notes), key).expect(&rt, "");
     }
-    assert_equal!(rt; (map.clone().or_abort(&rt).len(), notes.cloned()), (100, 100));
-    assert_equal!(rt; (other.clone().or_abort(&rt).len(), notes.cloned()), (100, 100));
+    assert_equal!(rt; (map.clone().expect(&rt, "").len(), notes.cloned()), (100, 100));
+    assert_equal!(rt; (other.clone().expect(&rt, "").len(), notes.cloned()), (100, 100));
 }
 
 #[test]
 fn a_test_of_two_sets_is_linear(rt: HostRuntime) {
     let notes = Notes::new();
-    let one = elements(rt.alloc(), 0, 100, &notes).or_abort(&rt);
-    let other = elements(rt.alloc(), 0, 101, &notes).or_abort(&rt);
-    let behind = elements(rt.alloc(), 100, 100, &notes).or_abort(&rt);
+    let one = elements(rt.alloc(), 0, 100, &notes).expect(&rt, "");
+    let other = elements(rt.alloc(), 0, 101, &notes).expect(&rt, "");
+    let behind = elements(rt.alloc(), 100, 100, &notes).expect(&rt, "");
     notes.compared();
     let answers = (one.is_subset(&other), notes.compared() <= 201);
     assert_equal!(rt; answers, (true, true));

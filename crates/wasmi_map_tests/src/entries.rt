@@ -1,116 +1,93 @@
-//! What entries of both backings drop, how often they search, and when they ask for memory.
-use crate::or_abort::OrAbort;
+//! What entries and refused calls of both backings drop, and how often they search.
 use std::cell::Cell;
 use std::rc::Rc;
 use std::test::Fail;
 use wasmi_hashed::hash::FixedState;
-use wasmi_hashed::{Set, map as hashed};
-use wasmi_ordered::map as ordered;
+use wasmi_hashed::{Set as HashSet, map as hashed};
+use wasmi_ordered::{Set as TreeSet, map as ordered};
 use wasmi_vectors::assert_equal;
 use wasmi_vectors::counted::Counted;
+use wasmi_vectors::logged::Logged;
 use wasmi_vectors::noted::{Noted, Notes};
-use wasmi_vectors::observed::{Log, Observed};
-
-type Tree<'a> = ordered::Map<Noted<'a>, u32, Observed<'a>>;
-
-type Table<'a> = hashed::Map<Noted<'a>, u32, FixedState, Observed<'a>>;
+use wasmi_vectors::observed::Log;
 
 #[test]
-fn an_ordered_entry_that_is_refused_drops_its_key(rt: HostRuntime) {
-    let (notes, blocks) = (Notes::new(), Log::new());
-    blocks.refuse_from(1);
-    let mut map: Tree<'_> = ordered::Map::new(Observed::new(rt.alloc(), &blocks));
-    assert!(rt; map.entry(Noted::new(1, &notes)).is_err());
+fn what_finds_no_memory_is_dropped(rt: HostRuntime) {
+    let (log, notes) = (Log::new(), Notes::new());
+    let heap = Logged::new(rt.alloc(), &log);
+    let mut tree: TreeSet<Noted<'_>, Logged<'_>> = TreeSet::new(heap);
+    let mut hash: HashSet<Noted<'_>, FixedState, Logged<'_>> = HashSet::new(heap);
+    let mut ordered: ordered::Map<Noted<'_>, u32, Logged<'_>> = ordered::Map::new(heap);
+    let mut hashed: hashed::Map<Noted<'_>, u32, FixedState, Logged<'_>> = hashed::Map::new(heap);
+    log.refuse_from(1);
+    let key = || Noted::new(1, &notes);
+    let refused = (tree.replace(key()).is_err(), hash.replace(key()).is_err());
+    assert_equal!(rt; (refused, notes.dropped()), ((true, true), 2));
+    let refused = (tree.insert(key()).is_err(), hash.insert(key()).is_err());
+    assert_equal!(rt; (refused, notes.dropped()), ((true, true), 2));
+    assert!(rt; ordered.entry(key()).is_err());
+    assert_equal!(rt; notes.dropped(), 1);
+    assert!(rt; hashed.entry(key()).is_err());
     assert_equal!(rt; notes.dropped(), 1);
 }
 
-#[test]
-fn a_hashed_entry_that_is_refused_drops_its_key(rt: HostRuntime) {
-    let (notes, blocks) = (Notes::new(), Log::new());
-    blocks.refuse_from(1);
-    let mut map: Table<'_> = hashed::Map::new(Observed::new(rt.alloc(), &blocks));
-    assert!(rt; map.entry(Noted::new(1, &notes)).is_err());
-    assert_equal!(rt; notes.dropped(), 1);
+// Values that an entry doesn't keep.
+macro_rules! values {
+    ($rt:ident, $map:expr, $drops:ident) => {{
+        let mut map = $map;
+        map.entry(1)?.or_insert(Counted::new(&$drops))?;
+        assert_equal!($rt; $drops.get(), 0);
+        map.entry(1)?.or_insert(Counted::new(&$drops))?;
+        assert_equal!($rt; $drops.get(), 1);
+        let held = Counted::new(&$drops);
+        map.entry(1)?.or_insert_with(move || held)?;
+        assert_equal!($rt; $drops.get(), 2);
+        let held = Counted::new(&$drops);
+        map.entry(1)?.or_insert_with_key(move |_| held)?;
+        assert_equal!($rt; $drops.get(), 3);
+        let held = Counted::new(&$drops);
+        drop(map.entry(2)?.and_modify(move |value| *value = held));
+        assert_equal!($rt; $drops.get(), 4);
+        drop(map);
+        assert_equal!($rt; $drops.get(), 5);
+        Ok(())
+    }};
 }
 
 #[test]
 fn an_ordered_entry_drops_the_values_that_it_does_not_keep(rt: HostRuntime) -> Result<(), Fail> {
     let drops = Cell::new(0);
-    let mut map: ordered::Map<u32, Counted<'_>> = ordered::Map::new(rt.alloc());
-    map.entry(1)?.or_insert(Counted::new(&drops))?;
-    assert_equal!(rt; drops.get(), 0);
-    map.entry(1)?.or_insert(Counted::new(&drops))?;
-    assert_equal!(rt; drops.get(), 1);
-    let held = Counted::new(&drops);
-    map.entry(1)?.or_insert_with(move || held)?;
-    assert_equal!(rt; drops.get(), 2);
-    let held = Counted::new(&drops);
-    map.entry(1)?.or_insert_with_key(move |_| held)?;
-    assert_equal!(rt; drops.get(), 3);
-    let held = Counted::new(&drops);
-    drop(map.entry(2)?.and_modify(move |value| *value = held));
-    assert_equal!(rt; drops.get(), 4);
-    drop(map);
-    assert_equal!(rt; drops.get(), 5);
-    Ok(())
+    let map: ordered::Map<u32, Counted<'_>> = ordered::Map::new(rt.alloc());
+    values!(rt, map, drops)
 }
 
 #[test]
 fn a_hashed_entry_drops_the_values_that_it_does_not_keep(rt: HostRuntime) -> Result<(), Fail> {
     let drops = Cell::new(0);
-    let mut map: hashed::Map<u32, Counted<'_>> = hashed::Map::new(rt.alloc());
-    map.entry(1)?.or_insert(Counted::new(&drops))?;
-    assert_equal!(rt; drops.get(), 0);
-    map.entry(1)?.or_insert(Counted::new(&drops))?;
-    assert_equal!(rt; drops.get(), 1);
-    let held = Counted::new(&drops);
-    map.entry(1)?.or_insert_with(move || held)?;
-    assert_equal!(rt; drops.get(), 2);
-    let held = Counted::new(&drops);
-    map.entry(1)?.or_insert_with_key(move |_| held)?;
-    assert_equal!(rt; drops.get(), 3);
-    let held = Counted::new(&drops);
-    drop(map.entry(2)?.and_modify(move |value| *value = held));
-    assert_equal!(rt; drops.get(), 4);
-    drop(map);
-    assert_equal!(rt; drops.get(), 5);
-    Ok(())
+    let map: hashed::Map<u32, Counted<'_>> = hashed::Map::new(rt.alloc());
+    values!(rt, map, drops)
+}
+
+// The key that was there, and the one that was asked for.
+macro_rules! removed {
+    ($rt:ident, $backing:ident) => {{
+        let seven = Rc::new($rt.alloc(), 7u32).expect(&$rt, "");
+        let mut map = $backing::Map::new($rt.alloc());
+        let key = seven.clone().expect(&$rt, "");
+        map.entry(key).expect(&$rt, "").or_insert(10).expect(&$rt, "");
+        assert_equal!($rt; Rc::strong_count(&seven), 2);
+        let key = seven.clone().expect(&$rt, "");
+        if let $backing::Entry::Occupied(occupied) = map.entry(key).expect(&$rt, "") {
+            assert_equal!($rt; occupied.remove(), 10);
+        }
+        assert_equal!($rt; (map.len(), Rc::strong_count(&seven)), (0, 1));
+    }};
 }
 
 #[test]
-fn an_ordered_entry_that_is_removed_drops_its_key(rt: HostRuntime) {
-    let seven = Rc::new(rt.alloc(), 7u32).or_abort(&rt);
-    let mut map = ordered::Map::new(rt.alloc());
-    map.entry(seven.clone().or_abort(&rt))
-        .or_abort(&rt)
-        .or_insert(10)
-        .or_abort(&rt);
-    assert_equal!(rt; Rc::strong_count(&seven), 2);
-    if let ordered::Entry::Occupied(occupied) = map
-        .entry(seven.clone().or_abort(&rt))
-        .or_abort(&rt)
-    {
-        assert_equal!(rt; occupied.remove(), 10);
-    }
-    assert_equal!(rt; (map.len(), Rc::strong_count(&seven)), (0, 1));
-}
-
-#[test]
-fn a_hashed_entry_that_is_removed_drops_its_key(rt: HostRuntime) {
-    let seven = Rc::new(rt.alloc(), 7u32).or_abort(&rt);
-    let mut map = hashed::Map::new(rt.alloc());
-    map.entry(seven.clone().or_abort(&rt))
-        .or_abort(&rt)
-        .or_insert(10)
-        .or_abort(&rt);
-    assert_equal!(rt; Rc::strong_count(&seven), 2);
-    if let hashed::Entry::Occupied(occupied) = map
-        .entry(seven.clone().or_abort(&rt))
-        .or_abort(&rt)
-    {
-        assert_equal!(rt; occupied.remove(), 10);
-    }
-    assert_equal!(rt; (map.len(), Rc::strong_count(&seven)), (0, 1));
+fn an_entry_that_is_removed_drops_its_key(rt: HostRuntime) {
+    removed!(rt, ordered);
+    removed!(rt, hashed);
 }
 
 #[test]
@@ -122,7 +99,10 @@ fn an_ordered_entry_compares_as_a_read_does(rt: HostRuntime) {
             let key = Noted::new(number, &notes);
             assert_equal!(rt; map.contains_key(&key), kept);
             let read = notes.compared();
-            map.entry(key).or_abort(&rt).or_insert(number).or_abort(&rt);
+            map.entry(key)
+                .expect(&rt, "")
+                .or_insert(number)
+                .expect(&rt, "");
             assert_equal!(rt; notes.compared(), read, "at {number}");
         }
     }
@@ -132,17 +112,20 @@ fn an_ordered_entry_compares_as_a_read_does(rt: HostRuntime) {
 fn a_hashed_call_hashes_its_key_once(rt: HostRuntime) {
     let notes = Notes::new();
     let mut map: hashed::Map<Noted<'_>, u32> = hashed::Map::new(rt.alloc());
-    let mut set: Set<Noted<'_>> = Set::new(rt.alloc());
+    let mut set: HashSet<Noted<'_>> = HashSet::new(rt.alloc());
     // Each key comes new and once more, by either call.
     for number in 0..200u32 {
         let key = Noted::new(number / 2, &notes);
         if number % 4 == 0 || number % 4 == 3 {
-            map.entry(key).or_abort(&rt).or_insert(number).or_abort(&rt);
+            map.entry(key)
+                .expect(&rt, "")
+                .or_insert(number)
+                .expect(&rt, "");
         } else {
-            map.insert(key, number).or_abort(&rt);
+            map.insert(key, number).expect(&rt, "");
         }
         assert_equal!(rt; notes.hashed(), 1, "at {number}");
-        set.insert(Noted::new(number / 2, &notes)).or_abort(&rt);
+        set.insert(Noted::new(number / 2, &notes)).expect(&rt, "");
         assert_equal!(rt; notes.hashed(), 1, "at {number}");
     }
 }

@@ -1,97 +1,10 @@
 //! Which of two equal elements or keys a call keeps.
-ghost use Rattle.std.specs.Prelude.{Some, refl};
-ghost use Rattle.std.specs.Cmp.{on_equiv, on_per, on_po, on_total, partial_equiv_from_equiv, partial_order_from_total};
-ghost use Rattle.std.specs.Cmp.Rules.{hashing};
-ghost use Rattle.std.specs.Hash as fed;
-ghost use Rattle.std.specs.Iterator.{IsFinite};
-ghost use Rattle.std.specs.Ordering.{eq_by_cmp, nat_cmp};
-ghost use Rattle.std.proofs.Common.{rules};
-ghost use Rattle.std.proofs.lemmas.Cmp.{eq_by_cmp_equiv, nat_cmp_total};
-
-use std::cmp::Ordering;
-use std::hash::{Hash, Hasher};
+use std::alloc::Global;
+use wasmi_arena::ArenaError;
+use wasmi_hashed as hashed;
+use wasmi_ordered as ordered;
 use wasmi_vectors::assert_equal;
-
-// A place of a number with a digit in it, which equals any digit in the same place.
-#[derive(Clone, Copy)]
-struct Digit {
-    place: u32,
-    digit: u32,
-}
-
-impl PartialEq for Digit {
-    ghost eq = { λ a b. eq_by_cmp nat_cmp a.place b.place };
-
-    ghost laws = { on_per (λ x. x.place) (partial_equiv_from_equiv (eq_by_cmp_equiv nat_cmp_total)) };
-
-    fn eq(&self, other: &Self) -> bool {
-        self.place.cmp(&other.place) == Ordering::Equal
-    }
-}
-
-impl Eq for Digit {
-    ghost laws = { on_equiv (λ x. x.place) (eq_by_cmp_equiv nat_cmp_total) };
-}
-
-impl PartialOrd for Digit {
-    ghost partial_cmp = { λ a b. Some (nat_cmp a.place b.place) };
-
-    ghost laws = { on_po (λ x. x.place) (partial_order_from_total nat_cmp_total) };
-
-    fn partial_cmp(&self, other: &Self) -> Option<Ordering> {
-        Some(self.cmp(other))
-    }
-}
-
-impl Ord for Digit {
-    ghost cmp = { λ a b. nat_cmp a.place b.place };
-
-    ghost total = { on_total (λ x. x.place) nat_cmp_total };
-
-    ghost matches_partial_cmp = { λ a b. refl };
-
-    ghost matches_eq = { λ a b. refl };
-
-    fn cmp(&self, other: &Self) -> Ordering {
-        self.place.cmp(&other.place)
-    }
-}
-
-impl Hash for Digit {
-    ghost hash_input = { λ x. fed.u32 x.place };
-
-    ghost respects_eq = { Prim.search (hashing, rules) };
-
-    fn hash<H: Hasher>(&self, state: &mut H) {
-        self.place.hash(state);
-    }
-}
-
-// The same digit in three places, from this one on.
-fn three(first: u32, digit: u32) -> [Digit; 3] {
-    [0, 1, 2].map(|more| Digit {
-        place: first.wrapping_add(more),
-        digit,
-    })
-}
-
-impl Digit {
-    // What it adds to a number.
-    fn worth(&self) -> u32 {
-        self.digit.wrapping_mul(10u32.wrapping_pow(self.place))
-    }
-}
-
-// The number that these digits make.
-fn number<'a, I: Iterator<Item = &'a Digit>>(digits: I) -> u32
-    requires { I.can_next digits × IsFinite (I.remaining digits) }
-{
-    let mut sum: u32 = 0;
-    for digit in digits {
-        sum = sum.wrapping_add(digit.worth());
-    }
-    sum
-}
+use wasmi_vectors::digit::{Digit, number, three};
 
 // Calls of these names on a set, with a 2 in places 1 to 3. In place of the set comes what a call makes of the two.
 macro_rules! change {
@@ -148,118 +61,100 @@ fn pairs() -> (Pairs, Pairs) {
     )
 }
 
-mod ordered {
-    use super::{Digit, number, pairs, three};
-    use std::alloc::Global;
-    use wasmi_arena::ArenaError;
-    use wasmi_ordered::{Map, Set};
-
-    // As `change!` says.
-    fn change(one: &mut Set<Digit>, other: &Set<Digit>, call: &str) -> Result<(), ArenaError> {
-        change!(call, one, other,
-            "bitor" => one.bitor(other),
-            "bitand" => one.bitand(other)
-        )
-    }
-
-    // What a walk over both gives, of those that make no set.
-    fn walked(one: &Set<Digit>, other: &Set<Digit>, call: &str) -> Option<u32> {
-        Some(match call {
-            "difference" => number(one.difference(other)),
-            "symmetric_difference" => number(one.symmetric_difference(other)),
-            "union" => number(one.union(other)),
-            "intersection" => number(one.intersection(other)),
-            _ => return None,
-        })
-    }
-
-    // The number of a set with a 1 in places 0 to 2 after a call, or of what the call walks over.
-    pub(super) fn kept(alloc: Global, call: &str) -> Result<u32, ArenaError> {
-        let mut one: Set<Digit> = Set::from_iter(alloc, three(0, 1))?;
-        let other: Set<Digit> = Set::from_iter(alloc, three(1, 2))?;
-        if let Some(number) = walked(&one, &other, call) {
+// The number of a set with a 1 in places 0 to 2 after a call, where the other has a 2 in places 1 to 3.
+macro_rules! kept {
+    ($backing:ident, $alloc:ident, $call:ident, $walked:ident, $change:ident) => {{
+        let mut one = $backing::Set::from_iter($alloc, three(0, 1))?;
+        let other = $backing::Set::from_iter($alloc, three(1, 2))?;
+        if let Some(number) = $walked(&one, &other, $call) {
             return Ok(number);
         }
-        change(&mut one, &other, call)?;
+        $change(&mut one, &other, $call)?;
         Ok(number(one.iter()))
-    }
+    }};
+}
 
-    // As `change_keys!` says.
-    fn change_keys(
-        map: &mut Map<Digit, u32>,
-        others: &Map<Digit, u32>,
-        call: &str,
-    ) -> Result<(), ArenaError> {
-        change_keys!(call, map, others)
-    }
-
-    pub(super) fn kept_key(alloc: Global, call: &str) -> Result<u32, ArenaError> {
+// The same of the keys of a map.
+macro_rules! kept_key {
+    ($backing:ident, $alloc:ident, $call:ident, $change:ident) => {{
         let (pairs, more) = pairs();
-        let mut map: Map<Digit, u32> = Map::from_iter(alloc, pairs)?;
-        let others: Map<Digit, u32> = Map::from_iter(alloc, more)?;
-        change_keys(&mut map, &others, call)?;
+        let mut map = $backing::Map::from_iter($alloc, pairs)?;
+        let others = $backing::Map::from_iter($alloc, more)?;
+        $change(&mut map, &others, $call)?;
         Ok(number(map.keys()))
-    }
+    }};
+}
 
-    pub(super) fn collected(alloc: Global) -> Result<u32, ArenaError> {
-        let set: Set<Digit> = Set::from_iter(alloc, three(0, 1).into_iter().chain(three(1, 2)))?;
-        Ok(number(set.iter()))
-    }
+fn change_ordered(
+    one: &mut ordered::Set<Digit>,
+    other: &ordered::Set<Digit>,
+    call: &str,
+) -> Result<(), ArenaError> {
+    change!(call, one, other, "bitor" => one.bitor(other), "bitand" => one.bitand(other))
 }
 
 // The calls that make a set of what two have may keep either.
-mod hashed {
-    use super::{Digit, number, pairs, three};
-    use std::alloc::Global;
-    use wasmi_arena::ArenaError;
-    use wasmi_hashed::{Map, Set};
+fn change_hashed(
+    one: &mut hashed::Set<Digit>,
+    other: &hashed::Set<Digit>,
+    call: &str,
+) -> Result<(), ArenaError> {
+    change!(call, one, other,)
+}
 
-    // As `change!` says.
-    fn change(one: &mut Set<Digit>, other: &Set<Digit>, call: &str) -> Result<(), ArenaError> {
-        change!(call, one, other,)
-    }
+// What a walk over both gives, of those that make no set.
+fn walked_ordered(
+    one: &ordered::Set<Digit>,
+    other: &ordered::Set<Digit>,
+    call: &str,
+) -> Option<u32> {
+    Some(match call {
+        "difference" => number(one.difference(other)),
+        "symmetric_difference" => number(one.symmetric_difference(other)),
+        "union" => number(one.union(other)),
+        "intersection" => number(one.intersection(other)),
+        _ => return None,
+    })
+}
 
-    // What a walk over both gives, of those that make no set.
-    fn walked(one: &Set<Digit>, other: &Set<Digit>, call: &str) -> Option<u32> {
-        Some(match call {
-            "difference" => number(one.difference(other)),
-            "symmetric_difference" => number(one.symmetric_difference(other)),
-            _ => return None,
-        })
-    }
+fn walked_hashed(one: &hashed::Set<Digit>, other: &hashed::Set<Digit>, call: &str) -> Option<u32> {
+    Some(match call {
+        "difference" => number(one.difference(other)),
+        "symmetric_difference" => number(one.symmetric_difference(other)),
+        _ => return None,
+    })
+}
 
-    // The same of hashed ones.
-    pub(super) fn kept(alloc: Global, call: &str) -> Result<u32, ArenaError> {
-        let mut one: Set<Digit> = Set::from_iter(alloc, three(0, 1))?;
-        let other: Set<Digit> = Set::from_iter(alloc, three(1, 2))?;
-        if let Some(number) = walked(&one, &other, call) {
-            return Ok(number);
-        }
-        change(&mut one, &other, call)?;
-        Ok(number(one.iter()))
-    }
+fn kept_ordered(alloc: Global, call: &str) -> Result<u32, ArenaError> {
+    kept!(ordered, alloc, call, walked_ordered, change_ordered)
+}
 
-    // As `change_keys!` says.
-    fn change_keys(
-        map: &mut Map<Digit, u32>,
-        others: &Map<Digit, u32>,
-        call: &str,
-    ) -> Result<(), ArenaError> {
-        change_keys!(call, map, others)
-    }
+fn kept_hashed(alloc: Global, call: &str) -> Result<u32, ArenaError> {
+    kept!(hashed, alloc, call, walked_hashed, change_hashed)
+}
 
-    pub(super) fn kept_key(alloc: Global, call: &str) -> Result<u32, ArenaError> {
-        let (pairs, more) = pairs();
-        let mut map: Map<Digit, u32> = Map::from_iter(alloc, pairs)?;
-        let others: Map<Digit, u32> = Map::from_iter(alloc, more)?;
-        change_keys(&mut map, &others, call)?;
-        Ok(number(map.keys()))
-    }
+fn change_ordered_keys(
+    map: &mut ordered::Map<Digit, u32>,
+    others: &ordered::Map<Digit, u32>,
+    call: &str,
+) -> Result<(), ArenaError> {
+    change_keys!(call, map, others)
+}
 
-    pub(super) fn collected(alloc: Global) -> Result<u32, ArenaError> {
-        let set: Set<Digit> = Set::from_iter(alloc, three(0, 1).into_iter().chain(three(1, 2)))?;
-        Ok(number(set.iter()))
-    }
+fn change_hashed_keys(
+    map: &mut hashed::Map<Digit, u32>,
+    others: &hashed::Map<Digit, u32>,
+    call: &str,
+) -> Result<(), ArenaError> {
+    change_keys!(call, map, others)
+}
+
+fn kept_ordered_key(alloc: Global, call: &str) -> Result<u32, ArenaError> {
+    kept_key!(ordered, alloc, call, change_ordered_keys)
+}
+
+fn kept_hashed_key(alloc: Global, call: &str) -> Result<u32, ArenaError> {
+    kept_key!(hashed, alloc, call, change_hashed_keys)
 }
 
 #[test]
@@ -274,8 +169,8 @@ fn a_set_keeps_its_own_element(rt: HostRuntime) {
         ("difference", 1),
         ("symmetric_difference", 2001),
     ] {
-        assert_equal!(rt; ordered::kept(rt.alloc(), call), Ok(number), "ordered {call}");
-        assert_equal!(rt; hashed::kept(rt.alloc(), call), Ok(number), "hashed {call}");
+        assert_equal!(rt; kept_ordered(rt.alloc(), call), Ok(number), "ordered {call}");
+        assert_equal!(rt; kept_hashed(rt.alloc(), call), Ok(number), "hashed {call}");
     }
     for (call, number) in [
         ("union", 2111),
@@ -283,17 +178,21 @@ fn a_set_keeps_its_own_element(rt: HostRuntime) {
         ("intersection", 110),
         ("bitand", 110),
     ] {
-        assert_equal!(rt; ordered::kept(rt.alloc(), call), Ok(number), "{call}");
+        assert_equal!(rt; kept_ordered(rt.alloc(), call), Ok(number), "{call}");
     }
-    assert_equal!(rt; ordered::collected(rt.alloc()), Ok(2111));
-    assert_equal!(rt; hashed::collected(rt.alloc()), Ok(2111));
+    let six = three(0, 1).into_iter().chain(three(1, 2));
+    let set = ordered::Set::from_iter(rt.alloc(), six).expect(&rt, "");
+    assert_equal!(rt; number(set.iter()), 2111);
+    let six = three(0, 1).into_iter().chain(three(1, 2));
+    let set = hashed::Set::from_iter(rt.alloc(), six).expect(&rt, "");
+    assert_equal!(rt; number(set.iter()), 2111);
 }
 
 // Whatever is put under it.
 #[test]
 fn a_map_keeps_its_own_key(rt: HostRuntime) {
     for call in ["insert", "or_insert", "extend", "extend_ref"] {
-        assert_equal!(rt; ordered::kept_key(rt.alloc(), call), Ok(2111), "ordered {call}");
-        assert_equal!(rt; hashed::kept_key(rt.alloc(), call), Ok(2111), "hashed {call}");
+        assert_equal!(rt; kept_ordered_key(rt.alloc(), call), Ok(2111), "ordered {call}");
+        assert_equal!(rt; kept_hashed_key(rt.alloc(), call), Ok(2111), "hashed {call}");
     }
 }

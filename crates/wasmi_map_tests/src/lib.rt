@@ -4,24 +4,22 @@
 #[cfg(test)]
 mod compared;
 #[cfg(test)]
-mod dropped;
-#[cfg(test)]
 mod entries;
-#[cfg(test)]
-mod hashed;
 #[cfg(test)]
 mod kept;
 #[cfg(test)]
 mod large;
 #[cfg(test)]
-mod or_abort;
-#[cfg(test)]
-mod ordered;
+mod parts;
 #[cfg(test)]
 mod refused;
 #[cfg(test)]
+mod room;
+#[cfg(test)]
 mod rows;
 #[cfg(test)]
-mod small;
-#[cfg(test)]
 mod table;
+#[cfg(test)]
+mod texts;
+#[cfg(test)]
+mod walks;

@@ -1,12 +1,11 @@
 //! Each request for memory of a call refused in turn, and then the call made again.
-use crate::or_abort::OrAbort;
-use crate::table::{Answer, Call, Done, Item, Made, Make, More, Number, Table, Truth};
+use crate::table::{
+    Answer, Call, Done, Hash, HashOfSet, Item, Made, Make, More, Number, Table, Tree, TreeOfSet,
+    Truth,
+};
 use std::alloc::Global;
 use std::process::Abort;
 use wasmi_arena::ArenaError;
-use wasmi_hashed::hash::FixedState;
-use wasmi_hashed::{Map as HashMap, Set as HashSet};
-use wasmi_ordered::{Map as TreeMap, Set as TreeSet};
 use wasmi_vectors::assert_equal;
 use wasmi_vectors::observed::{Log, Observed};
 
@@ -31,7 +30,7 @@ fn table<'l, T: Made<'l>>(rt: &impl Abort, alloc: Global, log: &'l Log, from: u3
     for key in from..to {
         table
             .ask(Call::Insert, key, key, &More::new(&[]))
-            .or_abort(rt);
+            .expect(rt, "");
     }
     table
 }
@@ -43,7 +42,7 @@ fn front<'l, T: Made<'l>>(rt: &impl Abort, alloc: Global, log: &'l Log, requests
     for key in 0..100 {
         table
             .ask(Call::Insert, key, key, &More::new(&[]))
-            .or_abort(rt);
+            .expect(rt, "");
         if log.requests() >= until {
             return key;
         }
@@ -59,7 +58,7 @@ fn change<'l, T: Made<'l>>(
     (call, want): (Call, Answer),
     len: u32,
 ) -> u64 {
-    let keys: Vec<u32> = (0..100u32).collect(alloc).or_abort(rt);
+    let keys: Vec<u32> = (0..100u32).collect(alloc).expect(rt, "");
     let more = More::new(&keys);
     let is_bulk = call == Call::Extend || call == Call::ExtendRef;
     let want = if let Item(Some(_)) = want {
@@ -129,7 +128,7 @@ fn make<'l, T: Made<'l>>(
     make: Make,
     want: [(u32, u32); 2],
 ) {
-    let keys: Vec<u32> = (0..100u32).collect(alloc).or_abort(rt);
+    let keys: Vec<u32> = (0..100u32).collect(alloc).expect(rt, "");
     let more = More::new(&keys);
     let mut one: T = table(rt, alloc, log, 0, 100);
     let mut other: T = table(rt, alloc, log, 50, 150);
@@ -150,7 +149,7 @@ fn make<'l, T: Made<'l>>(
                 let drawn = more.counted();
                 assert_equal!(*rt; drawn == 0 || drawn == front.wrapping_add(1) as u64, true, "{make:?} {nth}");
                 let heap = Observed::new(alloc, log);
-                one.make(&other, heap, make, &more).or_abort(rt)
+                one.make(&other, heap, make, &more).expect(rt, "")
             }
         };
         more.counted();
@@ -216,7 +215,7 @@ fn make_none<'l, T: Made<'l>>(
         let other = if *other { &some } else { &none };
         let mut made = one
             .make(other, Observed::new(alloc, log), *make, &More::new(&[]))
-            .or_abort(rt);
+            .expect(rt, "");
         assert_equal!(*rt; holds(&mut made, [(0, 0); 2]), true, "{make:?}");
     }
     log.refuse_none();
@@ -238,49 +237,30 @@ fn what_is_empty_needs_no_memory(rt: HostRuntime) {
         (Make::Sub, true, true),
         (Make::Sub, false, true),
     ];
-    make_none::<TreeMap<u32, u32, Observed<'_>>>(&rt, rt.alloc(), &log, &of_maps);
-    make_none::<HashMap<u32, u32, FixedState, Observed<'_>>>(&rt, rt.alloc(), &log, &of_maps);
-    make_none::<TreeSet<u32, Observed<'_>>>(&rt, rt.alloc(), &log, &of_sets);
-    make_none::<HashSet<u32, FixedState, Observed<'_>>>(&rt, rt.alloc(), &log, &of_sets);
+    make_none::<Tree<'_>>(&rt, rt.alloc(), &log, &of_maps);
+    make_none::<Hash<'_>>(&rt, rt.alloc(), &log, &of_maps);
+    make_none::<TreeOfSet<'_>>(&rt, rt.alloc(), &log, &of_sets);
+    make_none::<HashOfSet<'_>>(&rt, rt.alloc(), &log, &of_sets);
+    assert_equal!(rt; log.amiss(), 0);
+}
+
+// Of hashed ones. It makes one at one of these lengths.
+const RESERVES: [(Call, Answer, u32); 1] = [(Call::Reserve, Done, 10)];
+
+#[test]
+fn a_map_goes_on_after_each_refusal(rt: HostRuntime) {
+    let log = Log::new();
+    of_maps::<Tree<'_>>(&rt, rt.alloc(), &log);
+    of_maps::<Hash<'_>>(&rt, rt.alloc(), &log);
+    changes::<Hash<'_>>(&rt, rt.alloc(), &log, &RESERVES);
     assert_equal!(rt; log.amiss(), 0);
 }
 
 #[test]
-fn an_ordered_map_goes_on_after_each_refusal(rt: HostRuntime) {
+fn a_set_goes_on_after_each_refusal(rt: HostRuntime) {
     let log = Log::new();
-    of_maps::<TreeMap<u32, u32, Observed<'_>>>(&rt, rt.alloc(), &log);
-    assert_equal!(rt; log.amiss(), 0);
-}
-
-#[test]
-fn a_hashed_map_goes_on_after_each_refusal(rt: HostRuntime) {
-    let log = Log::new();
-    of_maps::<HashMap<u32, u32, FixedState, Observed<'_>>>(&rt, rt.alloc(), &log);
-    changes::<HashMap<u32, u32, FixedState, Observed<'_>>>(
-        &rt,
-        rt.alloc(),
-        &log,
-        &[(Call::Reserve, Done, 10)],
-    );
-    assert_equal!(rt; log.amiss(), 0);
-}
-
-#[test]
-fn an_ordered_set_goes_on_after_each_refusal(rt: HostRuntime) {
-    let log = Log::new();
-    of_sets::<TreeSet<u32, Observed<'_>>>(&rt, rt.alloc(), &log);
-    assert_equal!(rt; log.amiss(), 0);
-}
-
-#[test]
-fn a_hashed_set_goes_on_after_each_refusal(rt: HostRuntime) {
-    let log = Log::new();
-    of_sets::<HashSet<u32, FixedState, Observed<'_>>>(&rt, rt.alloc(), &log);
-    changes::<HashSet<u32, FixedState, Observed<'_>>>(
-        &rt,
-        rt.alloc(),
-        &log,
-        &[(Call::Reserve, Done, 10)],
-    );
+    of_sets::<TreeOfSet<'_>>(&rt, rt.alloc(), &log);
+    of_sets::<HashOfSet<'_>>(&rt, rt.alloc(), &log);
+    changes::<HashOfSet<'_>>(&rt, rt.alloc(), &log, &RESERVES);
     assert_equal!(rt; log.amiss(), 0);
 }

@@ -1,6 +1,5 @@
 //! Calls beside their answers: first with memory, then with every request refused.
-use crate::or_abort::OrAbort;
-use crate::table::{Answer, Call, Done, Item, More, Number, Other, Pair, Table, Truth};
+use crate::table::{Answer, Call, Done, Item, More, Number, Other, Pair, Table, Tree, Truth};
 use std::process::Abort;
 use wasmi_hashed::hash::RandomState;
 use wasmi_hashed::{Map as HashMap, Set as HashSet};
@@ -132,20 +131,13 @@ const SET_NEEDS_NO_MEMORY: [Row; 19] = [
 const RESERVES: [Row; 1] = [(Call::Reserve, 0, 1000, Done)];
 
 // Carries out the rows, the second ones with every request refused.
-fn answers<T: Table>(
-    rt: &impl Abort,
-    log: &Log,
-    mut table: T,
-    grows: &[Row],
-    needs_no_memory: &[Row],
-) {
+fn answers<T: Table>(rt: &impl Abort, log: &Log, mut table: T, grows: &[Row], rest: &[Row]) {
     let more = More::new(&[1]);
-    for (call, key, value, want) in grows {
-        assert_equal!(*rt; table.ask(*call, *key, *value, &more), Ok(*want), "{call:?} {key}");
-    }
-    log.refuse_from(1);
-    for (call, key, value, want) in needs_no_memory {
-        assert_equal!(*rt; table.ask(*call, *key, *value, &more), Ok(*want), "{call:?} {key}");
+    for rows in [grows, rest] {
+        for (call, key, value, want) in rows {
+            assert_equal!(*rt; table.ask(*call, *key, *value, &more), Ok(*want), "{call:?} {key}");
+        }
+        log.refuse_from(1);
     }
     log.refuse_none();
 }
@@ -153,10 +145,10 @@ fn answers<T: Table>(
 #[test]
 fn a_map_answers(rt: HostRuntime) {
     let log = Log::new();
-    let state = RandomState::new(&rt).or_abort(&rt);
-    let tree: TreeMap<u32, u32, Observed<'_>> = TreeMap::new(Observed::new(rt.alloc(), &log));
+    let state = RandomState::new(&rt).expect(&rt, "");
+    let tree: Tree<'_> = TreeMap::new(Observed::new(rt.alloc(), &log));
     answers(&rt, &log, tree, &MAP_GROWS, &MAP_NEEDS_NO_MEMORY);
-    let tree: TreeMap<u32, u32, Observed<'_>> = TreeMap::new(Observed::new(rt.alloc(), &log));
+    let tree: Tree<'_> = TreeMap::new(Observed::new(rt.alloc(), &log));
     answers(&rt, &log, tree, &[], &RESERVES);
     let map = HashMap::new(Observed::new(rt.alloc(), &log));
     answers(&rt, &log, map, &MAP_GROWS, &MAP_NEEDS_NO_MEMORY);
@@ -168,7 +160,7 @@ fn a_map_answers(rt: HostRuntime) {
 #[test]
 fn a_set_answers(rt: HostRuntime) {
     let log = Log::new();
-    let state = RandomState::new(&rt).or_abort(&rt);
+    let state = RandomState::new(&rt).expect(&rt, "");
     let tree = TreeSet::new(Observed::new(rt.alloc(), &log));
     answers(&rt, &log, tree, &SET_GROWS, &SET_NEEDS_NO_MEMORY);
     let tree = TreeSet::new(Observed::new(rt.alloc(), &log));
@@ -182,12 +174,12 @@ fn a_set_answers(rt: HostRuntime) {
 
 #[test]
 fn keys_are_hashed_by_the_state_handed_in(rt: HostRuntime) {
-    let state = RandomState::new(&rt).or_abort(&rt);
+    let state = RandomState::new(&rt).expect(&rt, "");
     let mut map: HashMap<u32, u32, RandomState> = HashMap::with_hasher(rt.alloc(), state);
     for key in 0..200u32 {
-        map.insert(key, key.wrapping_mul(3)).or_abort(&rt);
+        map.insert(key, key.wrapping_mul(3)).expect(&rt, "");
     }
-    let copy = map.clone().or_abort(&rt);
+    let copy = map.clone().expect(&rt, "");
     for key in 0..200u32 {
         assert_equal!(rt; (map.get(&key), copy.get(&key)), (Some(&key.wrapping_mul(3)), Some(&key.wrapping_mul(3))));
     }

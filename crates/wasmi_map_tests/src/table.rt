@@ -80,6 +80,10 @@ pub type Asked<T> = Result<T, ArenaError>;
 pub struct More<'m> {
     keys: &'m [u32],
     count: Cell<u64>,
+    // Of the keys that `retain` went over: their sum, whether each was above those before, and the least that is.
+    sum: Cell<u64>,
+    ascends: Cell<bool>,
+    least: Cell<u64>,
 }
 
 impl<'m> More<'m> {
@@ -88,12 +92,29 @@ impl<'m> More<'m> {
         More {
             keys,
             count: Cell::new(0),
+            sum: Cell::new(0),
+            ascends: Cell::new(true),
+            least: Cell::new(0),
         }
     }
 
     /// How often closures were called, and items drawn, since it was asked for last.
     pub fn counted(&self) -> u64 {
         self.count.replace(0)
+    }
+
+    /// The sum of the keys that `retain` went over, and whether these ascended.
+    pub fn visited(&self) -> (u64, bool) {
+        (self.sum.get(), self.ascends.get())
+    }
+
+    // Notes a key that `retain` comes to.
+    fn visit(&self, key: u32) {
+        let key = u64::from(self.count(key));
+        self.sum.set(self.sum.get().wrapping_add(key));
+        self.ascends
+            .set(self.ascends.get() && self.least.get() <= key);
+        self.least.set(key.wrapping_add(1));
     }
 
     // Counts, and hands the item on.
@@ -124,31 +145,10 @@ fn read(value: Result<&mut u32, ArenaError>) -> Asked<Answer> {
     }
 }
 
-fn done(done: Result<(), ArenaError>) -> Asked<Answer> {
-    match done {
-        Ok(()) => Ok(Done),
-        Err(error) => Err(error),
-    }
-}
-
-fn item(old: Result<Option<u32>, ArenaError>) -> Asked<Answer> {
-    match old {
-        Ok(old) => Ok(Item(old)),
-        Err(error) => Err(error),
-    }
-}
-
-fn truth(is_new: Result<bool, ArenaError>) -> Asked<Answer> {
-    match is_new {
-        Ok(is_new) => Ok(Truth(is_new)),
-        Err(error) => Err(error),
-    }
-}
-
 macro_rules! ask_map {
     ($map:ident, $call:ident, $key:ident, $value:ident, $more:ident, $ask_entry:ident) => {{
         Ok(match $call {
-            Call::Insert => return item($map.insert($key, $value)),
+            Call::Insert => Item($map.insert($key, $value)?),
             Call::Get => Item($map.get(&$key).copied()),
             Call::GetMut => Item(match $map.get_mut(&$key) {
                 Some(value) => Some(mem::replace(value, $value)),
@@ -168,21 +168,25 @@ macro_rules! ask_map {
                 $map.clear();
                 Done
             }
-            Call::Reserve => return done($map.reserve($value as usize)),
+            Call::Reserve => {
+                $map.reserve($value as usize)?;
+                Done
+            }
             Call::Retain => {
                 $map.retain(|key, value| {
                     *value = value.wrapping_add($value);
-                    $more.count(*key != $key)
+                    $more.visit(*key);
+                    *key != $key
                 });
                 Done
             }
             Call::Extend => {
-                let pairs = $more.keys.iter().map(|key| $more.count((*key, *key)));
-                return done($map.extend(pairs));
+                $map.extend($more.keys.iter().map(|key| $more.count((*key, *key))))?;
+                Done
             }
             Call::ExtendRef => {
-                let pairs = $more.keys.iter().map(|key| $more.count((key, key)));
-                return done($map.extend_ref(pairs));
+                $map.extend_ref($more.keys.iter().map(|key| $more.count((key, key))))?;
+                Done
             }
             Call::Counted => Number($more.counted()),
             Call::Index | Call::Replace | Call::Take => Other,
@@ -232,8 +236,8 @@ macro_rules! ask_entry {
 macro_rules! ask_set {
     ($set:ident, $call:ident, $key:ident, $value:ident, $more:ident) => {{
         Ok(match $call {
-            Call::Insert => return truth($set.insert($key)),
-            Call::Replace => return item($set.replace($key)),
+            Call::Insert => Truth($set.insert($key)?),
+            Call::Replace => Item($set.replace($key)?),
             Call::Get => Item($set.get(&$key).copied()),
             Call::Contains => Truth($set.contains(&$key)),
             Call::Remove => Truth($set.remove(&$key)),
@@ -244,16 +248,24 @@ macro_rules! ask_set {
                 $set.clear();
                 Done
             }
-            Call::Reserve => return done($set.reserve($value as usize)),
+            Call::Reserve => {
+                $set.reserve($value as usize)?;
+                Done
+            }
             Call::Retain => {
-                $set.retain(|element| $more.count(*element != $key));
+                $set.retain(|element| {
+                    $more.visit(*element);
+                    *element != $key
+                });
                 Done
             }
             Call::Extend => {
-                return done($set.extend($more.keys.iter().map(|key| $more.count(*key))));
+                $set.extend($more.keys.iter().map(|key| $more.count(*key)))?;
+                Done
             }
             Call::ExtendRef => {
-                return done($set.extend_ref($more.keys.iter().map(|key| $more.count(key))));
+                $set.extend_ref($more.keys.iter().map(|key| $more.count(key)))?;
+                Done
             }
             Call::Counted => Number($more.counted()),
             _ => Other,
@@ -286,7 +298,14 @@ macro_rules! make_set {
     };
 }
 
-type Tree<'l> = ordered::Map<u32, u32, Observed<'l>>;
+/// The four types under the state with a fixed seed.
+pub type Tree<'l> = ordered::Map<u32, u32, Observed<'l>>;
+
+pub type Hash<'l> = HashMap<'l, FixedState>;
+
+pub type TreeOfSet<'l> = TreeSet<u32, Observed<'l>>;
+
+pub type HashOfSet<'l> = HashSet<u32, FixedState, Observed<'l>>;
 
 type HashMap<'l, S> = hashed::Map<u32, u32, S, Observed<'l>>;
 
@@ -322,7 +341,7 @@ impl<S: BuildHasher + Drop> Table for HashMap<'_, S> {
     }
 }
 
-impl Table for TreeSet<u32, Observed<'_>> {
+impl Table for TreeOfSet<'_> {
     fn ask(&mut self, call: Call, key: u32, value: u32, more: &More<'_>) -> Asked<Answer> {
         ask_set!(self, call, key, value, more)
     }
@@ -344,7 +363,7 @@ impl<'l> Made<'l> for Tree<'l> {
     }
 }
 
-impl<'l> Made<'l> for HashMap<'l, FixedState> {
+impl<'l> Made<'l> for Hash<'l> {
     fn empty(heap: Observed<'l>) -> Self {
         Self::new(heap)
     }
@@ -354,7 +373,7 @@ impl<'l> Made<'l> for HashMap<'l, FixedState> {
     }
 }
 
-impl<'l> Made<'l> for TreeSet<u32, Observed<'l>> {
+impl<'l> Made<'l> for TreeOfSet<'l> {
     fn empty(heap: Observed<'l>) -> Self {
         Self::new(heap)
     }
@@ -364,7 +383,7 @@ impl<'l> Made<'l> for TreeSet<u32, Observed<'l>> {
     }
 }
 
-impl<'l> Made<'l> for HashSet<u32, FixedState, Observed<'l>> {
+impl<'l> Made<'l> for HashOfSet<'l> {
     fn empty(heap: Observed<'l>) -> Self {
         Self::new(heap)
     }

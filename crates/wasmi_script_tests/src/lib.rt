@@ -4,8 +4,6 @@
 #[cfg(test)]
 mod memory;
 #[cfg(test)]
-mod or_abort;
-#[cfg(test)]
 mod scripts;
 #[cfg(test)]
 mod store;

@@ -1,11 +1,10 @@
 //! Memory: each request refused in turn, of the store and of a script, and what asks for none.
-use crate::or_abort::OrAbort;
-use std::io::{self, Read};
 use wasmi_arena::{ArenaError, ArenaKey};
 use wasmi_script_lib::{EntityKey, EntityStore, ScriptError, answer, run};
 use wasmi_vectors::assert_equal;
 use wasmi_vectors::logged::Logged;
 use wasmi_vectors::observed::{Log, Observed};
+use wasmi_vectors::streams::Trickle;
 
 type Store<'a, 'l> = EntityStore<&'a Observed<'l>>;
 
@@ -68,7 +67,7 @@ fn an_entity_that_was_refused_is_added_again(rt: HostRuntime) {
             let heap = Observed::new(rt.alloc(), &log);
             let mut store = EntityStore::new(&heap);
             log.refuse_once(nth);
-            refused = refused.wrapping_add(refused_entities(&mut store).or_abort(&rt));
+            refused = refused.wrapping_add(refused_entities(&mut store).expect(&rt, ""));
             assert_equal!(rt; (has_first(&store, 2), store.names(), store.kinds()), (Ok(true), 2, 2), "{nth}");
             requests = log.requests();
         }
@@ -99,13 +98,13 @@ fn a_kind_that_was_refused_a_name_is_renamed_again(rt: HostRuntime) {
         let log = Log::new();
         {
             let heap = Observed::new(rt.alloc(), &log);
-            let mut store = two_entities(&heap).or_abort(&rt);
+            let mut store = two_entities(&heap).expect(&rt, "");
             log.refuse_once(nth);
-            if was_refused_a_name(&mut store).or_abort(&rt) {
+            if was_refused_a_name(&mut store).expect(&rt, "") {
                 refused = refused.wrapping_add(1);
             }
-            let bob = key(1).or_abort(&rt);
-            assert_equal!(rt; (store.get(bob).or_abort(&rt).1, store.names(), store.kinds()), ("admin", 2, 2));
+            let bob = key(1).expect(&rt, "");
+            assert_equal!(rt; (store.get(bob).expect(&rt, "").1, store.names(), store.kinds()), ("admin", 2, 2));
         }
         assert_equal!(rt; log.amiss(), 0);
     }
@@ -133,13 +132,9 @@ fn what_is_there_needs_no_memory(rt: HostRuntime) {
     let log = Log::new();
     {
         let heap = Observed::new(rt.alloc(), &log);
-        let store: Store<'_, '_> = EntityStore::new(&heap);
-        assert_equal!(rt; (store.len(), log.requests()), (0, 0));
-    }
-    {
-        let heap = Observed::new(rt.alloc(), &log);
-        let mut store = two_entities(&heap).or_abort(&rt);
-        let ann = key(0).or_abort(&rt);
+        assert_equal!(rt; (EntityStore::new(&heap).len(), log.requests()), (0, 0));
+        let mut store = two_entities(&heap).expect(&rt, "");
+        let ann = key(0).expect(&rt, "");
         assert_equal!(rt; store.set(ann, 1), Ok(None));
         let asked = log.requests();
         log.refuse_from(1);
@@ -155,17 +150,17 @@ fn a_script_without_lines_needs_no_memory(rt: HostRuntime) {
     let log = Log::new();
     let heap = Observed::new(rt.alloc(), &log);
     log.refuse_from(1);
-    assert_equal!(rt; answer(&heap, "").or_abort(&rt).as_str(), "");
+    assert_equal!(rt; answer(&heap, "").expect(&rt, "").as_str(), "");
 }
 
 // The replies double their block, and so do the buckets of entities. A text that is there is not copied.
 #[test]
 fn lines_of_texts_that_are_there_ask_for_their_replies_alone(rt: HostRuntime) {
     for line in ["d a text\n", "i a text\n", "e name kind\n"] {
-        let script = line.repeat(rt.alloc(), 1000).or_abort(&rt);
+        let script = line.repeat(rt.alloc(), 1000).expect(&rt, "");
         let log = Log::new();
         let heap = Observed::new(rt.alloc(), &log);
-        let replies = answer(&heap, script.as_str()).or_abort(&rt);
+        let replies = answer(&heap, script.as_str()).expect(&rt, "");
         assert_equal!(rt; replies.lines().count(), 1000);
         assert!(rt; log.requests() < 40, "{line}: {}", log.requests());
     }
@@ -224,33 +219,12 @@ fn a_program_that_is_refused_memory_writes_nothing(rt: HostRuntime) {
     assert_equal!(rt; (refused, requests), (30, 32));
 }
 
-// A reader that gives one byte at a time.
-#[derive(Drop)]
-struct OneByOne<'a> {
-    rest: &'a [u8],
-}
-
-impl Read for OneByOne<'_> {
-    fn read(&mut self, buffer: &mut [u8]) -> io::Result<usize> {
-        let Some((first, rest)) = self.rest.split_first() else {
-            return Ok(0);
-        };
-        let Some(place) = buffer.first_mut() else {
-            return Ok(0);
-        };
-        *place = *first;
-        self.rest = rest;
-        Ok(1)
-    }
-}
-
 // A line of a thousand bytes: the input doubles its block, and the reply is short.
 #[test]
 fn bytes_that_come_one_by_one_ask_for_few_blocks(rt: HostRuntime) {
     let log = Log::new();
-    let line = [b'x'; 1_000];
     let mut output = Vec::new(rt.alloc());
-    let mut input = OneByOne { rest: &line };
+    let mut input = Trickle { left: 1_000 };
     assert_equal!(rt; run(Logged::new(rt.alloc(), &log), &mut input, &mut output), Ok(()));
     assert_equal!(rt; output.as_slice(), b"bad line 1\n".as_slice());
     assert!(rt; log.requests() < 20);

@@ -1,5 +1,4 @@
 //! Scripts: worked replies, texts and statuses of errors, long scripts.
-use crate::or_abort::OrAbort;
 use wasmi_script_lib::{ScriptError, answer};
 use wasmi_vectors::assert_equal;
 
@@ -60,7 +59,7 @@ fn replies(rt: HostRuntime) {
         ),
     ];
     for (script, wanted) in cases {
-        let replies = answer(rt.alloc(), script).or_abort(&rt);
+        let replies = answer(rt.alloc(), script).expect(&rt, "");
         assert_equal!(rt; replies.as_str(), wanted);
     }
 }
@@ -74,7 +73,7 @@ fn errors_have_texts_and_statuses(rt: HostRuntime) {
         (ScriptError::NotUtf8, "not UTF-8", 2),
     ];
     for (error, text, status) in cases {
-        assert_equal!(rt; error.to_string(rt.alloc()).or_abort(&rt).as_str(), text);
+        assert_equal!(rt; error.to_string(rt.alloc()).expect(&rt, "").as_str(), text);
         assert_equal!(rt; error.status(), status, "of {text}");
     }
 }
@@ -82,22 +81,16 @@ fn errors_have_texts_and_statuses(rt: HostRuntime) {
 // 200,000 lines, and 17 MiB of replies.
 #[test]
 fn long_scripts(rt: HostRuntime) {
-    let mut script = String::new(rt.alloc());
-    for _ in 0..200_000u32 {
-        script.push_str("n\n").or_abort(&rt);
-    }
-    let replies = answer(rt.alloc(), &script).or_abort(&rt);
+    let script = "n\n".repeat(rt.alloc(), 200_000).expect(&rt, "");
+    let replies = answer(rt.alloc(), script.as_str()).expect(&rt, "");
     assert_equal!(rt; replies.lines().count(), 200_000);
     assert!(rt; replies.lines().all(|line| line == "counts 0 0 0 0"));
-    let mut script = String::new(rt.alloc());
-    script.push_str("a ").or_abort(&rt);
-    for _ in 0..65_536u32 {
-        script.push_str("0123456789abcdef").or_abort(&rt);
-    }
-    for _ in 0..17u32 {
-        script.push_str("\ng 0").or_abort(&rt);
-    }
-    let replies = answer(rt.alloc(), &script).or_abort(&rt);
+    let text = "0123456789abcdef"
+        .repeat(rt.alloc(), 65_536)
+        .expect(&rt, "");
+    let reads = "\ng 0".repeat(rt.alloc(), 17).expect(&rt, "");
+    let script = format!(in rt.alloc(); "a {text}{reads}").expect(&rt, "");
+    let replies = answer(rt.alloc(), script.as_str()).expect(&rt, "");
     assert_equal!(rt; replies.len(), 6 + 17 * (6 + (1 << 20)));
 }
 
@@ -106,13 +99,13 @@ fn long_scripts(rt: HostRuntime) {
 fn many_entities(rt: HostRuntime) {
     let mut script = String::new(rt.alloc());
     for number in 0..5_000u32 {
-        writeln!(script, "e name_{number} kind_{number}").or_abort(&rt);
+        writeln!(script, "e name_{number} kind_{number}").expect(&rt, "");
     }
-    writeln!(script, "v 4999 1").or_abort(&rt);
+    writeln!(script, "v 4999 1").expect(&rt, "");
     for number in 0..5_000u32 {
-        writeln!(script, "v {number} {number}\nq {number}").or_abort(&rt);
+        writeln!(script, "v {number} {number}\nq {number}").expect(&rt, "");
     }
-    let replies = answer(rt.alloc(), &script).or_abort(&rt);
+    let replies = answer(rt.alloc(), &script).expect(&rt, "");
     assert_equal!(rt; replies.lines().count(), 15_001);
     assert!(rt; replies.lines().all(|line| !line.starts_with("error")));
     assert!(rt; replies.ends_with("\nwas 1\nis 4999 name_4999 kind_4999\n"));
@@ -121,16 +114,11 @@ fn many_entities(rt: HostRuntime) {
 // A name and a kind of 5,000 characters.
 #[test]
 fn long_names_and_kinds(rt: HostRuntime) {
-    let mut long = String::new(rt.alloc());
-    for _ in 0..500u32 {
-        long.push_str("0123456789").or_abort(&rt);
-    }
-    let script = format!(in rt.alloc(); "e {long} {long}\nq 0\nv 0 7\nk 0 x{long}\nq 0").or_abort(
-        &rt,
-    );
+    let long = "0123456789".repeat(rt.alloc(), 500).expect(&rt, "");
+    let script = format!(in rt.alloc(); "e {long} {long}\nq 0\nv 0 7\nk 0 x{long}\nq 0");
     let wanted = format!(in rt.alloc();
         "entity 0\nis none {long} {long}\nwas none\ndone\nis 7 {long} x{long}\n"
-    ).or_abort(&rt);
-    let replies = answer(rt.alloc(), &script).or_abort(&rt);
-    assert_equal!(rt; replies.as_str(), wanted.as_str());
+    );
+    let replies = answer(rt.alloc(), script.expect(&rt, "").as_str()).expect(&rt, "");
+    assert_equal!(rt; replies.as_str(), wanted.expect(&rt, "").as_str());
 }

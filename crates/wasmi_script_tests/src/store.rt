@@ -1,5 +1,4 @@
 //! The entity store: worked examples.
-use crate::or_abort::OrAbort;
 use wasmi_arena::{ArenaError, ArenaKey};
 use wasmi_script_lib::{EntityKey, EntityStore};
 use wasmi_vectors::assert_equal;
@@ -17,7 +16,7 @@ fn entities_are_added(rt: HostRuntime) {
         ("ann", "group", 2, (3, 2, 2)),
         ("", "", 3, (4, 3, 3)),
     ] {
-        assert_equal!(rt; store.add(name, kind).or_abort(&rt).into_usize(), number);
+        assert_equal!(rt; store.add(name, kind).expect(&rt, "").into_usize(), number);
         assert_equal!(rt; (store.len(), store.names(), store.kinds()), counts);
     }
 }
@@ -25,28 +24,25 @@ fn entities_are_added(rt: HostRuntime) {
 #[test]
 fn properties_are_set_and_taken_out(rt: HostRuntime) {
     let mut store = EntityStore::new(rt.alloc());
-    let ann = store.add("ann", "user").or_abort(&rt);
-    let bob = store.add("bob", "user").or_abort(&rt);
-    assert_equal!(rt; store.set(bob, 42), Ok(None));
-    assert_equal!(rt; store.set(bob, 7), Ok(Some(42)));
+    let ann = store.add("ann", "user").expect(&rt, "");
+    let bob = store.add("bob", "user").expect(&rt, "");
+    assert_equal!(rt; (store.set(bob, 42), store.set(bob, 7)), (Ok(None), Ok(Some(42))));
     for (key, name, property) in [(ann, "ann", None), (bob, "bob", Some(7))] {
         assert_equal!(rt; store.get(key), Ok((name, "user", property)));
     }
-    assert_equal!(rt; store.unset(bob), Ok(Some(7)));
-    assert_equal!(rt; store.unset(bob), Ok(None));
-    assert_equal!(rt; store.set(bob, 8), Ok(None));
-    assert_equal!(rt; store.unset(bob), Ok(Some(8)));
-    let nobody = key(2).or_abort(&rt);
-    assert_equal!(rt; store.get(nobody), Err(ArenaError::KeyOutOfBounds));
-    assert_equal!(rt; store.set(nobody, 1), Err(ArenaError::KeyOutOfBounds));
-    assert_equal!(rt; store.unset(nobody), Err(ArenaError::KeyOutOfBounds));
+    assert_equal!(rt; (store.unset(bob), store.unset(bob)), (Ok(Some(7)), Ok(None)));
+    assert_equal!(rt; (store.set(bob, 8), store.unset(bob)), (Ok(None), Ok(Some(8))));
+    let nobody = key(2).expect(&rt, "");
+    let refused = Err(ArenaError::KeyOutOfBounds);
+    assert_equal!(rt; (store.set(nobody, 1), store.unset(nobody)), (refused, refused));
+    assert_equal!(rt; store.get(nobody).err(), refused.err());
 }
 
 #[test]
 fn kinds_are_renamed(rt: HostRuntime) {
     let mut store = EntityStore::new(rt.alloc());
     for (name, kind) in [("ann", "user"), ("bob", "user"), ("ann", "group")] {
-        let _key = store.add(name, kind).or_abort(&rt);
+        let _key = store.add(name, kind).expect(&rt, "");
     }
     for (number, kind, done) in [
         (0, "admin", Ok(())),
@@ -55,10 +51,10 @@ fn kinds_are_renamed(rt: HostRuntime) {
         (5, "admin", Err(ArenaError::KeyOutOfBounds)),
         (2, "user", Ok(())),
     ] {
-        assert_equal!(rt; store.rename_kind(key(number).or_abort(&rt), kind), done);
+        assert_equal!(rt; store.rename_kind(key(number).expect(&rt, ""), kind), done);
     }
     for (number, name, kind) in [(0, "ann", "admin"), (1, "bob", "admin"), (2, "ann", "user")] {
-        assert_equal!(rt; store.get(key(number).or_abort(&rt)), Ok((name, kind, None)));
+        assert_equal!(rt; store.get(key(number).expect(&rt, "")), Ok((name, kind, None)));
     }
     assert_equal!(rt; store.kinds(), 2);
 }

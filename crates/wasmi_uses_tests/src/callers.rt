@@ -1,6 +1,5 @@
 //! Each caller on its happy path.
 
-use crate::or_abort::OrAbort;
 use wasmi_arena::{StableArena, StableVec};
 use wasmi_collections::string_interner::Sym;
 use wasmi_collections::{DedupArena, HeadVec, StringInterner, hashed, ordered};
@@ -30,45 +29,42 @@ use wasmi_vectors::assert_equal;
 #[test]
 fn a_store_of_two_functions(rt: HostRuntime) {
     let mut store = FuncStore::new(rt.alloc());
-    let first = store.put("add").or_abort(&rt);
-    let second = store.put("sub").or_abort(&rt);
+    let first = store.put("add").expect(&rt, "");
+    let second = store.put("sub").expect(&rt, "");
     assert!(rt; first != second);
-    assert_equal!(rt; store.count(), 2);
-    assert_equal!(rt; store.get(first), Some(&"add"));
-    assert_equal!(rt; store.get(second), Some(&"sub"));
+    let found = (store.count(), store.get(first), store.get(second));
+    assert_equal!(rt; found, (2, Some(&"add"), Some(&"sub")));
 }
 
 #[test]
 fn symbols_of_three_names(rt: HostRuntime) {
     let mut symbols = Symbols::new(rt.alloc());
     for (name, symbol) in [("memory", 0), ("table", 1), ("memory", 0), ("", 2)] {
-        assert_equal!(rt; symbols.intern(rt.alloc(), name).or_abort(&rt), symbol, "of {name}");
+        assert_equal!(rt; symbols.intern(rt.alloc(), name).expect(&rt, ""), symbol, "of {name}");
     }
-    assert_equal!(rt; symbols.find("table"), Some(1));
-    assert_equal!(rt; symbols.find("tables"), None);
-    assert_equal!(rt; intern_both(&mut symbols, rt.alloc(), "", "start").or_abort(&rt), (2, 3));
+    assert_equal!(rt; (symbols.find("table"), symbols.find("tables")), (Some(1), None));
+    assert_equal!(rt; intern_both(&mut symbols, rt.alloc(), "", "start").expect(&rt, ""), (2, 3));
 }
 
 #[test]
 fn look_ups_by_the_keys_of_a_walk(rt: HostRuntime) {
     let mut one: StableArena<u32, u64> = StableArena::new(rt.alloc());
     for i in 0..40u64 {
-        one.alloc(i * 2).or_abort(&rt);
+        one.alloc(i * 2).expect(&rt, "");
     }
-    let mut other = one.clone().or_abort(&rt);
+    let mut other = one.clone().expect(&rt, "");
     if one.len() <= other.len() {
         assert!(rt; !any_differs(&one, &other));
     }
-    other.put(35, 1).or_abort(&rt);
+    other.put(35, 1).expect(&rt, "");
     if one.len() <= other.len() {
         assert!(rt; any_differs(&one, &other));
     }
-    assert_equal!(rt; first_above(&one, 65), Some((33, 66)));
-    assert_equal!(rt; first_above(&one, 78), None);
+    assert_equal!(rt; (first_above(&one, 65), first_above(&one, 78)), (Some((33, 66)), None));
     assert_equal!(rt; read(&one, 39).ok(), Some(78));
     let text = match read(&one, 40) {
         Ok(_) => String::new(rt.alloc()),
-        Err(error) => format!(in rt.alloc(); "{error:#}").or_abort(&rt),
+        Err(error) => format!(in rt.alloc(); "{error:#}").expect(&rt, ""),
     };
     assert_equal!(rt; text.as_str(), "key 40 of an arena of 40 items: encounteded out of bounds key");
 }
@@ -77,19 +73,17 @@ fn look_ups_by_the_keys_of_a_walk(rt: HostRuntime) {
 fn a_search_across_buckets(rt: HostRuntime) {
     let mut vec = StableVec::new(rt.alloc());
     for i in 0..100u64 {
-        vec.push(i * 2).or_abort(&rt);
+        vec.push(i * 2).expect(&rt, "");
     }
-    assert_equal!(rt; position_of(&vec, &140), Some(70));
-    assert_equal!(rt; position_of(&vec, &141), None);
-    assert_equal!(rt; push_and_find(&mut vec, 141), Ok(Some(100)));
-    assert_equal!(rt; push_and_find(&mut vec, 140), Ok(Some(70)));
+    assert_equal!(rt; (position_of(&vec, &140), position_of(&vec, &141)), (Some(70), None));
+    let found = (push_and_find(&mut vec, 141), push_and_find(&mut vec, 140));
+    assert_equal!(rt; found, (Ok(Some(100)), Ok(Some(70))));
 }
 
 #[test]
 fn a_property_is_set_once(rt: HostRuntime) {
     let mut names: ComponentVec<u32, &str> = ComponentVec::new(rt.alloc());
-    assert!(rt; set_once(&mut names, 3, "add").or_abort(&rt));
-    assert!(rt; !set_once(&mut names, 3, "sub").or_abort(&rt));
+    assert_equal!(rt; (set_once(&mut names, 3, "add"), set_once(&mut names, 3, "sub")), (Ok(true), Ok(false)));
     assert_equal!(rt; (names.get(3), names.extent()), (Some(&"add"), 4));
 }
 
@@ -97,13 +91,9 @@ fn a_property_is_set_once(rt: HostRuntime) {
 fn a_tail_call_takes_the_place(rt: HostRuntime) {
     let mut frames = HeadVec::new(rt.alloc());
     assert_equal!(rt; tail_call(&mut frames, "f"), None);
-    frames.push("main").or_abort(&rt);
-    frames.push("f").or_abort(&rt);
+    assert_equal!(rt; (frames.push("main"), frames.push("f")), (Ok(()), Ok(())));
     assert_equal!(rt; tail_call(&mut frames, "g"), Some("f"));
-    assert_equal!(rt;
-        (frames.pop(), frames.pop(), frames.pop()),
-        (Some("g"), Some("main"), None)
-    );
+    assert_equal!(rt; (frames.pop(), frames.pop(), frames.pop()), (Some("g"), Some("main"), None));
 }
 
 #[test]
@@ -111,38 +101,28 @@ fn a_write_into_either_arena(rt: HostRuntime) {
     let mut dense: Arena<u32, &'static str> = Arena::new(rt.alloc());
     let mut stable: StableArena<u32, &'static str> = StableArena::new(rt.alloc());
     for (key, text, at) in [(5, "a", 0), (5, "b", 1), (0, "c", 0), (1, "d", 1)] {
-        assert_equal!(rt; put_or_alloc(&mut dense, key, text).or_abort(&rt), at, "of {text}");
-        assert_equal!(rt; put_or_alloc(&mut stable, key, text).or_abort(&rt), at, "of {text}");
+        assert_equal!(rt; put_or_alloc(&mut dense, key, text).expect(&rt, ""), at, "of {text}");
+        assert_equal!(rt; put_or_alloc(&mut stable, key, text).expect(&rt, ""), at, "of {text}");
     }
-    assert_equal!(rt;
-        (dense.len(), dense.get(0), dense.get(1)),
-        (2, Ok(&"c"), Ok(&"d"))
-    );
-    assert_equal!(rt;
-        (stable.len(), stable.get(0), stable.get(1)),
-        (2, Ok(&"c"), Ok(&"d"))
-    );
+    assert_equal!(rt; (dense.len(), dense.get(0), dense.get(1)), (2, Ok(&"c"), Ok(&"d")));
+    assert_equal!(rt; (stable.len(), stable.get(0), stable.get(1)), (2, Ok(&"c"), Ok(&"d")));
 }
 
 #[test]
 fn two_items_go_in_together(rt: HostRuntime) {
     let mut arena: Arena<usize, u64> = Arena::new(rt.alloc());
-    put_both(&mut arena, 1, 2).or_abort(&rt);
-    put_both(&mut arena, 3, 4).or_abort(&rt);
-    assert_equal!(rt;
-        (arena.len(), arena.get(1), arena.get(2)),
-        (4, Ok(&2), Ok(&3))
-    );
+    put_both(&mut arena, 1, 2).expect(&rt, "");
+    put_both(&mut arena, 3, 4).expect(&rt, "");
+    assert_equal!(rt; (arena.len(), arena.get(1), arena.get(2)), (4, Ok(&2), Ok(&3)));
 }
 
 #[test]
 fn a_table_of_counts(rt: HostRuntime) {
     let mut counts: Map<u32, u64> = Map::new(rt.alloc());
-    assert!(rt; add_once(&mut counts, 7, 3).or_abort(&rt));
-    assert!(rt; add_once(&mut counts, 8, 4).or_abort(&rt));
-    assert!(rt; !add_once(&mut counts, 7, 9).or_abort(&rt));
-    assert_equal!(rt; reset(&mut counts, &7), Some(3));
-    assert_equal!(rt; reset(&mut counts, &9), None);
+    for (key, value, is_new) in [(7, 3, true), (8, 4, true), (7, 9, false)] {
+        assert_equal!(rt; add_once(&mut counts, key, value), Ok(is_new));
+    }
+    assert_equal!(rt; (reset(&mut counts, &7), reset(&mut counts, &9)), (Some(3), None));
     assert_equal!(rt; (counts.get(&7), counts.get(&8)), (Some(&0), Some(&4)));
     assert_equal!(rt; reset_all(&mut counts), 2);
     assert_equal!(rt; (counts.get(&7), counts.get(&8)), (Some(&0), Some(&0)));
@@ -151,53 +131,48 @@ fn a_table_of_counts(rt: HostRuntime) {
 #[test]
 fn a_hashed_table_keeps_the_first_value(rt: HostRuntime) {
     let mut table: hashed::Map<u32, u64> = hashed::Map::new(rt.alloc());
-    assert!(rt; add_once_hashed(&mut table, 7, 3).or_abort(&rt));
-    assert!(rt; !add_once_hashed(&mut table, 7, 9).or_abort(&rt));
+    assert_equal!(rt; (add_once_hashed(&mut table, 7, 3), add_once_hashed(&mut table, 7, 9)), (Ok(true), Ok(false)));
     assert_equal!(rt; (table.get(&7), table.len()), (Some(&3), 1));
-    assert!(rt; add_once_hashed(&mut table, 8, 4).or_abort(&rt));
+    assert!(rt; add_once_hashed(&mut table, 8, 4).expect(&rt, ""));
     assert_equal!(rt; (settle(&mut table), table.len()), (7, 0));
 }
 
 #[test]
 fn what_is_offered_is_taken(rt: HostRuntime) {
-    let offered = ordered::Set::from_iter(rt.alloc(), [1, 2]).or_abort(&rt);
+    let offered = ordered::Set::from_iter(rt.alloc(), [1, 2]).expect(&rt, "");
     let mut taken = ordered::Set::new(rt.alloc());
-    assert!(rt; take_offered(&mut taken, &offered, 2).or_abort(&rt));
-    assert!(rt; !take_offered(&mut taken, &offered, 3).or_abort(&rt));
+    for (element, is_taken) in [(2, true), (3, false)] {
+        assert_equal!(rt; take_offered(&mut taken, &offered, element), Ok(is_taken));
+    }
     assert_equal!(rt; (taken.contains(&2), taken.len()), (true, 1));
-    let offered = hashed::Set::from_iter(rt.alloc(), [1, 2]).or_abort(&rt);
+    let offered = hashed::Set::from_iter(rt.alloc(), [1, 2]).expect(&rt, "");
     let mut taken = hashed::Set::new(rt.alloc());
-    assert!(rt; take_offered_hashed(&mut taken, &offered, 2).or_abort(&rt));
-    assert!(rt; !take_offered_hashed(&mut taken, &offered, 3).or_abort(&rt));
+    for (element, is_taken) in [(2, true), (3, false)] {
+        assert_equal!(rt; take_offered_hashed(&mut taken, &offered, element), Ok(is_taken));
+    }
     assert_equal!(rt; (taken.contains(&2), taken.len()), (true, 1));
 }
 
 #[test]
 fn names_are_defined_once(rt: HostRuntime) {
     let mut sorted = ordered::Map::new(rt.alloc());
-    assert_equal!(rt; define(&mut sorted, 1, "one").or_abort(&rt), 1);
-    assert_equal!(rt; define(&mut sorted, 2, "two").or_abort(&rt), 2);
-    assert_equal!(rt; define(&mut sorted, 1, "uno").or_abort(&rt), 2);
+    for (key, name, len) in [(1, "one", 1), (2, "two", 2), (1, "uno", 2)] {
+        assert_equal!(rt; define(&mut sorted, key, name), Ok(len));
+    }
     assert_equal!(rt; sorted.get(&1), Some(&"one"));
     let mut scattered = hashed::Map::new(rt.alloc());
-    assert_equal!(rt; define(&mut scattered, 1, "one").or_abort(&rt), 1);
-    assert_equal!(rt; define(&mut scattered, 1, "uno").or_abort(&rt), 1);
+    assert_equal!(rt; (define(&mut scattered, 1, "one"), define(&mut scattered, 1, "uno")), (Ok(1), Ok(1)));
     assert_equal!(rt; scattered.get(&1), Some(&"one"));
 }
 
 #[test]
 fn a_name_is_exported_once(rt: HostRuntime) {
     let mut names = StringInterner::new(rt.alloc());
-    for (name, was_new) in [
-        ("memory", true),
-        ("table", true),
-        ("memory", false),
-        ("", true),
-    ] {
-        assert_equal!(rt; export(&mut names, name).or_abort(&rt), was_new, "of {name}");
+    for (name, was_new) in [("memory", true), ("table", true), ("memory", false)] {
+        assert_equal!(rt; export(&mut names, name).expect(&rt, ""), was_new, "of {name}");
     }
-    assert_equal!(rt; import(&names, "table"), Some(Sym::from_u32(1)));
-    assert_equal!(rt; import(&names, "global"), None);
+    let found = (import(&names, "table"), import(&names, "global"));
+    assert_equal!(rt; found, (Some(Sym::from_u32(1)), None));
 }
 
 #[test]
@@ -216,16 +191,11 @@ fn a_name_has_one_symbol(rt: HostRuntime) {
 fn what_names_stand_for(rt: HostRuntime) {
     let mut names = StringInterner::new(rt.alloc());
     let mut noted = ComponentVec::new(rt.alloc());
-    names.get_or_intern("start").or_abort(&rt);
+    names.get_or_intern("start").expect(&rt, "");
     for (name, value) in [("memory", 1), ("table", 2), ("memory", 3)] {
-        note(&mut names, &mut noted, name, value).or_abort(&rt);
+        note(&mut names, &mut noted, name, value).expect(&rt, "");
     }
-    for (name, value) in [
-        ("memory", Some(&3)),
-        ("table", Some(&2)),
-        ("start", None),
-        ("elem", None),
-    ] {
+    for (name, value) in [("memory", Some(&3)), ("table", Some(&2)), ("elem", None)] {
         assert_equal!(rt; noted_of(&names, &noted, name), value, "of {name}");
     }
     assert_equal!(rt; noted.get(Sym::from_u32(2)), Some(&2));
@@ -235,12 +205,11 @@ fn what_names_stand_for(rt: HostRuntime) {
 fn a_text_has_a_slot(rt: HostRuntime) {
     let mut table = DedupArena::new(rt.alloc());
     for text in ["memory", "table"] {
-        table
-            .alloc(String::from_str(rt.alloc(), text).or_abort(&rt))
-            .or_abort(&rt);
+        let text = String::from_str(rt.alloc(), text).expect(&rt, "");
+        table.alloc(text).expect(&rt, "");
     }
     for (text, slot) in [("memory", Some(0)), ("table", Some(1)), ("elem", None)] {
-        let text = String::from_str(rt.alloc(), text).or_abort(&rt);
+        let text = String::from_str(rt.alloc(), text).expect(&rt, "");
         assert_equal!(rt; slot_of_text(&table, &text), slot, "of {text}");
     }
 }
@@ -257,27 +226,27 @@ fn a_constant_has_one_slot(rt: HostRuntime) {
 
 #[test]
 fn a_folded_constant_has_one_slot(rt: HostRuntime) {
-    let mut table: DedupArena<u32, u64> = DedupArena::from_iter(rt.alloc(), [40, 2, 42]).or_abort(
-        &rt,
+    let mut table: DedupArena<u32, u64> = DedupArena::from_iter(rt.alloc(), [40, 2, 42]).expect(
+        &rt, "",
     );
     for (slot, folded, want) in [(0, 43, 0), (1, 42, 2), (2, 42, 2)] {
-        assert_equal!(rt; fold(&mut table, slot, folded).or_abort(&rt), want, "{folded} at {slot}");
+        assert_equal!(rt; fold(&mut table, slot, folded).expect(&rt, ""), want, "{folded} at {slot}");
     }
     assert!(rt; fold(&mut table, 3, 1).is_err());
     for (slot, item) in [43, 2, 42, 40].iter().enumerate() {
-        assert_equal!(rt; table.alloc(*item).or_abort(&rt), slot as u32);
+        assert_equal!(rt; table.alloc(*item).expect(&rt, ""), slot as u32);
     }
 }
 
 #[test]
 fn tables_of_a_module(rt: HostRuntime) {
     let mut tables = Tables::new(rt.alloc());
-    let (first, symbol) = tables.declare("start", 7).or_abort(&rt);
-    let (second, other) = tables.declare("stop", 9).or_abort(&rt);
+    let (first, symbol) = tables.declare("start", 7).expect(&rt, "");
+    let (second, other) = tables.declare("stop", 9).expect(&rt, "");
     assert!(rt; first != second && symbol != other);
     assert_equal!(rt; tables.name_and_line(second), Some((other, Some(9))));
     for (constant, slot) in [(40, 0), (2, 1), (40, 0)] {
-        assert_equal!(rt; tables.constant(constant).or_abort(&rt), slot);
+        assert_equal!(rt; tables.constant(constant).expect(&rt, ""), slot);
     }
 }
 
@@ -290,7 +259,7 @@ fn functions_by_name(rt: HostRuntime) {
         ("start", 8, 0, false),
     ] {
         let key = FunctionKey::from_u32(number);
-        assert_equal!(rt; functions.define(name, value).or_abort(&rt), (key, is_new), "of {name}");
+        assert_equal!(rt; functions.define(name, value).expect(&rt, ""), (key, is_new), "of {name}");
     }
     let stop = FunctionKey::from_u32(1);
     assert_equal!(rt; functions.find("stop"), Some((stop, 9)));
@@ -302,7 +271,7 @@ fn functions_by_name(rt: HostRuntime) {
 #[test]
 fn an_entity_has_a_property_at_once(rt: HostRuntime) {
     let mut store = EntityStore::new(rt.alloc());
-    let key = spawn(&mut store, "ann", "cat", 7).or_abort(&rt);
+    let key = spawn(&mut store, "ann", "cat", 7).expect(&rt, "");
     assert_equal!(rt; store.get(key), Ok(("ann", "cat", Some(7))));
 }
 
@@ -310,7 +279,7 @@ fn an_entity_has_a_property_at_once(rt: HostRuntime) {
 fn two_items_are_written_at_once(rt: HostRuntime) {
     let mut arena: StableArena<u32, u64> = StableArena::new(rt.alloc());
     for i in 0..40u64 {
-        arena.alloc(i).or_abort(&rt);
+        arena.alloc(i).expect(&rt, "");
     }
     for (from, to, done, source, target) in [
         (39, 3, true, Some(0), Some(42)),

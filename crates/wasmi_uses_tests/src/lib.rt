@@ -3,5 +3,3 @@
 
 #[cfg(test)]
 mod callers;
-#[cfg(test)]
-mod or_abort;

@@ -1,0 +1,140 @@
+//! The ends of ordered maps and sets, their parts, and what is joined.
+use std::alloc::Global;
+use std::cell::Cell;
+use std::process::Abort;
+use wasmi_arena::ArenaError;
+use wasmi_ordered::{Map, Set};
+use wasmi_vectors::assert_equal;
+use wasmi_vectors::counted::Counted;
+use wasmi_vectors::noted::{Noted, Notes};
+use wasmi_vectors::observed::{Log, Observed};
+
+// Of a map of 1 to 4, which is empty before it is cut.
+fn take_pairs(rt: &impl Abort, alloc: Global) {
+    let mut map = Map::from_iter(alloc, [(2, "b"), (1, "a"), (3, "c")]).expect(rt, "");
+    map.append(&mut Map::from_iter(alloc, [(2, "d"), (4, "e")]).expect(rt, ""))
+        .expect(rt, "");
+    assert_equal!(*rt; (map.first_key_value(), map.last_key_value()), (Some((&1, &"a")), Some((&4, &"e"))));
+    assert_equal!(*rt;
+        [map.pop_first(), map.pop_last(), map.pop_last(), map.pop_first(), map.pop_first()],
+        [Some((1, "a")), Some((4, "e")), Some((3, "c")), Some((2, "d")), None]
+    );
+    assert_equal!(*rt; map.first_key_value(), None);
+    let mut rest = map.split_off(&2).expect(rt, "");
+    map.append(&mut rest).expect(rt, "");
+    assert_equal!(*rt; map.len(), 0);
+}
+
+// The same of a set.
+fn take_elements(rt: &impl Abort, alloc: Global) {
+    let mut set = Set::from_iter(alloc, [2, 1, 3]).expect(rt, "");
+    set.append(&mut Set::from_iter(alloc, [2, 4]).expect(rt, ""))
+        .expect(rt, "");
+    assert_equal!(*rt; (set.first(), set.last()), (Some(&1), Some(&4)));
+    assert_equal!(*rt;
+        [set.pop_first(), set.pop_last(), set.pop_last(), set.pop_first(), set.pop_last()],
+        [Some(1), Some(4), Some(3), Some(2), None]
+    );
+    assert_equal!(*rt; set.last(), None);
+    let mut others = set.split_off(&2).expect(rt, "");
+    set.append(&mut others).expect(rt, "");
+    assert_equal!(*rt; set.len(), 0);
+}
+
+#[test]
+fn ends_are_read_and_taken(rt: HostRuntime) {
+    take_pairs(&rt, rt.alloc());
+    take_elements(&rt, rt.alloc());
+}
+
+#[test]
+fn a_range_is_walked_from_both_ends(rt: HostRuntime) {
+    let map = Map::from_iter(rt.alloc(), (0..10u32).map(|key| (key, key))).expect(&rt, "");
+    let set = Set::from_iter(rt.alloc(), 0..10u32).expect(&rt, "");
+    let mut part = map.range(3..6);
+    assert_equal!(rt; part.next(), Some((&3, &3)));
+    assert_equal!(rt; part.next_back(), Some((&5, &5)));
+    assert_equal!(rt; part.next(), Some((&4, &4)));
+    assert_equal!(rt; (part.next_back(), set.range(7..).count(), set.range(..=3).count()), (None, 3, 4));
+}
+
+// A map of 0 to 59 with a request refused in the cut at 45, or in the join of both parts.
+fn cut_pairs(rt: &impl Abort, alloc: Global, log: &Log, nth: u64) {
+    let mut map: Map<u32, u32, Observed<'_>> = Map::new(Observed::new(alloc, log));
+    map.extend((0..60u32).map(|key| (key, key))).expect(rt, "");
+    log.refuse_once(nth);
+    match map.split_off(&45) {
+        Ok(mut rest) => {
+            assert_equal!(*rt; (map.len(), rest.len()), (45, 15), "at {nth}");
+            if let Err(error) = map.append(&mut rest) {
+                assert_equal!(*rt; error, ArenaError::OutOfSystemMemory);
+            }
+            assert_equal!(*rt; map.len().wrapping_add(rest.len()), 60, "at {nth}");
+        }
+        Err(error) => {
+            assert_equal!(*rt; (error, map.len()), (ArenaError::OutOfSystemMemory, 60), "at {nth}");
+        }
+    }
+    log.refuse_none();
+}
+
+// Whether each of 0 to 59 is in one of both.
+fn have_all(one: &Set<u32, Observed<'_>>, other: &Set<u32, Observed<'_>>) -> bool {
+    for key in 0..60u32 {
+        if !one.contains(&key) && !other.contains(&key) {
+            return false;
+        }
+    }
+    true
+}
+
+// Sets of 0 to 39 and 30 to 59 with a request refused in their join, or in the cut at 20 after it.
+fn join_elements(rt: &impl Abort, alloc: Global, log: &Log, nth: u64) {
+    let mut set: Set<u32, Observed<'_>> = Set::new(Observed::new(alloc, log));
+    let mut other: Set<u32, Observed<'_>> = Set::new(Observed::new(alloc, log));
+    set.extend(0..40u32).expect(rt, "");
+    other.extend(30..60u32).expect(rt, "");
+    log.refuse_once(nth);
+    if let Err(error) = set.append(&mut other) {
+        assert_equal!(*rt; (error, other.is_empty()), (ArenaError::OutOfSystemMemory, false), "at {nth}");
+    } else {
+        assert_equal!(*rt; (set.len(), other.len()), (60, 0), "at {nth}");
+    }
+    assert!(*rt; have_all(&set, &other));
+    if let Ok(rest) = set.split_off(&20) {
+        assert_equal!(*rt; (set.len(), rest.is_empty()), (20, false), "at {nth}");
+    }
+}
+
+// Each request refused in turn: then both are as before, or all that left one is in the other.
+#[test]
+fn a_cut_and_a_join_lose_nothing(rt: HostRuntime) {
+    for nth in 1..40 {
+        let log = Log::new();
+        cut_pairs(&rt, rt.alloc(), &log, nth);
+        join_elements(&rt, rt.alloc(), &log, nth);
+        assert_equal!(rt; log.amiss(), 0);
+    }
+}
+
+// Of 0 to 4, 3 to 7 and 6 to 10, four are there when they come again.
+#[test]
+fn what_is_in_both_is_dropped_once(rt: HostRuntime) {
+    let (keys, elements, values) = (Notes::new(), Notes::new(), Cell::new(0));
+    let mut map: Map<Noted<'_>, Counted<'_>> = Map::new(rt.alloc());
+    let mut set: Set<Noted<'_>> = Set::new(rt.alloc());
+    for first in [0u32, 3, 6] {
+        let mut pairs: Map<Noted<'_>, Counted<'_>> = Map::new(rt.alloc());
+        let mut others: Set<Noted<'_>> = Set::new(rt.alloc());
+        for number in first..first.wrapping_add(5) {
+            pairs
+                .insert(Noted::new(number, &keys), Counted::new(&values))
+                .expect(&rt, "");
+            others.insert(Noted::new(number, &elements)).expect(&rt, "");
+        }
+        map.append(&mut pairs).expect(&rt, "");
+        set.append(&mut others).expect(&rt, "");
+    }
+    assert_equal!(rt; (map.len(), set.len()), (11, 11));
+    assert_equal!(rt; (keys.dropped(), values.get(), elements.dropped()), (4, 4, 4));
+}

@@ -1,0 +1,109 @@
+//! Keys that are texts or vectors, looked up by a `&str` or a slice, without memory.
+use wasmi_hashed as hashed;
+use wasmi_ordered as ordered;
+use wasmi_vectors::assert_equal;
+use wasmi_vectors::logged::Logged;
+use wasmi_vectors::observed::Log;
+
+// Of a new map and a new set. Every request is refused once three texts are in.
+macro_rules! by_text {
+    ($rt:ident, $log:ident, $heap:ident, $map:expr, $set:expr) => {{
+        let (mut map, mut set) = ($map, $set);
+        for (text, value) in [("a", 1), ("", 0), ("ab", 3)] {
+            map.insert(String::from_str($heap, text).expect(&$rt, ""), value)
+                .expect(&$rt, "");
+            set.insert(String::from_str($heap, text).expect(&$rt, ""))
+                .expect(&$rt, "");
+        }
+        $log.refuse_from(1);
+        if let Some(value) = map.get_mut_str("a") {
+            *value = 11;
+        }
+        assert_equal!($rt; (map.get_str("a"), map.get_str("b")), (Some(&11), None));
+        assert_equal!($rt; (map.contains_key_str(""), map.contains_key_str("ba")), (true, false));
+        if map.contains_key_str("a") {
+            assert_equal!($rt; map["a"], 11);
+        }
+        let entry = map.get_key_value_str("ab").map(|(key, value)| (key.as_str(), *value));
+        assert_equal!($rt; entry, Some(("ab", 3)));
+        assert_equal!($rt; (map.remove_str(""), map.remove_str("b")), (Some(0), None));
+        assert!($rt; map.remove_entry_str("ab").is_some_and(|(_, value)| value == 3));
+        assert_equal!($rt; (map.len(), map.get_key_value_str("ab").is_some()), (1, false));
+        assert_equal!($rt; (set.contains_str("a"), set.contains_str("b")), (true, false));
+        assert!($rt; set.get_str("ab").is_some_and(|there| there.as_str() == "ab"));
+        assert!($rt; set.take_str("ab").is_some_and(|taken| taken.as_str() == "ab"));
+        assert_equal!($rt; (set.remove_str(""), set.remove_str("b"), set.len()), (true, false, 1));
+        $log.refuse_none();
+    }};
+}
+
+#[test]
+fn a_text_finds_its_key_without_memory(rt: HostRuntime) {
+    let log = Log::new();
+    let heap = Logged::new(rt.alloc(), &log);
+    by_text!(
+        rt,
+        log,
+        heap,
+        ordered::Map::new(heap),
+        ordered::Set::new(heap)
+    );
+    by_text!(
+        rt,
+        log,
+        heap,
+        hashed::Map::new(heap),
+        hashed::Set::new(heap)
+    );
+    assert_equal!(rt; log.amiss(), 0);
+}
+
+// The same of vectors, by a slice.
+macro_rules! by_slice {
+    ($rt:ident, $log:ident, $heap:ident, $map:expr, $set:expr) => {{
+        let (mut map, mut set) = ($map, $set);
+        for (key, value) in [([1, 1u8], 1), ([1, 2], 3)] {
+            map.insert(Vec::from_array($heap, key).expect(&$rt, ""), value)
+                .expect(&$rt, "");
+            set.insert(Vec::from_array($heap, key).expect(&$rt, ""))
+                .expect(&$rt, "");
+        }
+        let (one, other, none) = ([1, 1u8].as_slice(), [1, 2].as_slice(), [1].as_slice());
+        $log.refuse_from(1);
+        if let Some(value) = map.get_mut_slice(one) {
+            *value = 11;
+        }
+        assert_equal!($rt; (map.get_slice(one), map.get_slice(none)), (Some(&11), None));
+        assert_equal!($rt; (map.contains_key_slice(other), map.contains_key_slice(none)), (true, false));
+        let entry = map.get_key_value_slice(other).map(|(key, value)| (key.as_slice(), *value));
+        assert_equal!($rt; entry, Some((other, 3)));
+        assert_equal!($rt; (map.remove_slice(one), map.remove_slice(none)), (Some(11), None));
+        assert!($rt; map.remove_entry_slice(other).is_some_and(|(_, value)| value == 3));
+        assert_equal!($rt; (map.len(), set.contains_slice(one), set.contains_slice(none)), (0, true, false));
+        assert!($rt; set.get_slice(other).is_some_and(|there| there.as_slice() == other));
+        assert!($rt; set.take_slice(other).is_some_and(|taken| taken.as_slice() == other));
+        assert_equal!($rt; (set.remove_slice(one), set.remove_slice(none), set.len()), (true, false, 0));
+        $log.refuse_none();
+    }};
+}
+
+#[test]
+fn a_slice_finds_its_key_without_memory(rt: HostRuntime) {
+    let log = Log::new();
+    let heap = Logged::new(rt.alloc(), &log);
+    by_slice!(
+        rt,
+        log,
+        heap,
+        ordered::Map::new(heap),
+        ordered::Set::new(heap)
+    );
+    by_slice!(
+        rt,
+        log,
+        heap,
+        hashed::Map::new(heap),
+        hashed::Set::new(heap)
+    );
+    assert_equal!(rt; log.amiss(), 0);
+}
