@@ -18,7 +18,7 @@ fn nothing_needs_no_memory(rt: HostRuntime) {
     arena.clear();
     assert_equal!(rt; arena.into_iter().len(), 0);
     let mut components: ComponentVec<usize, u64, Observed<'_>> = ComponentVec::new(handle);
-    assert_equal!(rt; (components.reserve(0), components.unset(7)), (Ok(()), None));
+    assert_equal!(rt; components.unset(7), None);
     components.clear();
     assert_equal!(rt; (components.clone().expect(&rt, "").extent(), log.requests()), (0, 0));
 }
@@ -65,7 +65,9 @@ fn room_that_was_made_suffices(rt: HostRuntime) {
         for number in 0..held {
             assert_equal!(rt; (arena.alloc(7), components.set(number, 7)), (Ok(number), Ok(None)));
         }
-        assert_equal!(rt; (arena.reserve(more), components.reserve(more)), (Ok(()), Ok(())));
+        let last = held.wrapping_add(more).wrapping_sub(1);
+        assert_equal!(rt; (arena.reserve(more), components.set(last, 7)), (Ok(()), Ok(None)));
+        assert_equal!(rt; components.unset(last), Some(7));
         let handle = Observed::new(rt.alloc(), &log);
         let mut of_capacity: Arena<usize, u64, Observed<'_>> = Arena::with_capacity(
             handle, more,

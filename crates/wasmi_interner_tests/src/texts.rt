@@ -73,5 +73,6 @@ fn texts_of_an_iterator_are_interned(rt: HostRuntime) {
         assert_equal!(rt; interner.text(Sym::from_u32(1)), "");
     }
     drop(interner);
+    drop(handle);
     assert_equal!(rt; log.amiss(), 0);
 }
