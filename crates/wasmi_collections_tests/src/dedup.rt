@@ -48,8 +48,7 @@ fn equal_values_of_an_iterator_have_one_key(rt: HostRuntime) {
         rt.alloc(),
         ["a", "b", "a"],
     ).expect(&rt, "");
-    assert_equal!(rt; made.len(), 2);
-    assert_equal!(rt; made.alloc("a").expect(&rt, ""), 0);
+    assert_equal!(rt; (made.len(), made.alloc("a").expect(&rt, "")), (2, 0));
     assert_equal!(rt; (made.get(1), made.get(2)), (Ok(&"b"), Err(ArenaError::KeyOutOfBounds)));
 }
 

@@ -66,8 +66,8 @@ fn room_that_was_made_suffices(rt: HostRuntime) {
             assert_equal!(rt; (arena.alloc(7), components.set(number, 7)), (Ok(number), Ok(None)));
         }
         let last = held.wrapping_add(more).wrapping_sub(1);
-        assert_equal!(rt; (arena.reserve(more), components.set(last, 7)), (Ok(()), Ok(None)));
-        assert_equal!(rt; components.unset(last), Some(7));
+        let set = (components.set(last, 7), components.unset(last));
+        assert_equal!(rt; (arena.reserve(more), set), (Ok(()), (Ok(None), Some(7))));
         let handle = Observed::new(rt.alloc(), &log);
         let mut of_capacity: Arena<usize, u64, Observed<'_>> = Arena::with_capacity(
             handle, more,

@@ -182,8 +182,7 @@ fn a_name_has_one_symbol(rt: HostRuntime) {
     assert_equal!(rt; export(&mut names, "memory"), Ok(true));
     assert_equal!(rt; symbol_and_text(&mut names, "table"), Ok((table, true)));
     assert_equal!(rt; symbol_again(&mut names, "table", "start"), Ok((table, table)));
-    assert_equal!(rt; names.len(), 3);
-    assert_equal!(rt; symbol_of_new(&mut names, "start"), Ok(None));
+    assert_equal!(rt; (names.len(), symbol_of_new(&mut names, "start")), (3, Ok(None)));
     assert_equal!(rt; symbol_of_new(&mut names, "elem"), Ok(Some(Sym::from_u32(3))));
 }
 
@@ -220,8 +219,7 @@ fn a_constant_has_one_slot(rt: HostRuntime) {
     assert_equal!(rt; share_a_slot(&mut table, 7, 8), Ok(false));
     assert_equal!(rt; share_a_slot(&mut table, 8, 8), Ok(true));
     assert_equal!(rt; slot_again(&mut table, 8, 9), Ok((1, 1)));
-    assert_equal!(rt; in_its_slot(&mut table, 9), Ok(9));
-    assert_equal!(rt; table.len(), 3);
+    assert_equal!(rt; (in_its_slot(&mut table, 9), table.len()), (Ok(9), 3));
 }
 
 #[test]
@@ -262,8 +260,7 @@ fn functions_by_name(rt: HostRuntime) {
         assert_equal!(rt; functions.define(name, value).expect(&rt, ""), (key, is_new), "of {name}");
     }
     let stop = FunctionKey::from_u32(1);
-    assert_equal!(rt; functions.find("stop"), Some((stop, 9)));
-    assert_equal!(rt; functions.find("step"), None);
+    assert_equal!(rt; (functions.find("stop"), functions.find("step")), (Some((stop, 9)), None));
     assert_equal!(rt; (functions.name_of(stop), functions.get(stop)), (Some("stop"), Some(9)));
     assert_equal!(rt; functions.get(FunctionKey::from_u32(2)), None);
 }
