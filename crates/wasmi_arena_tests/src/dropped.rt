@@ -195,8 +195,7 @@ fn a_run_hands_back_what_makes_way(rt: HostRuntime) {
     ]
     .expect(&rt, "");
     log.refuse_from(1);
-    let refused = run_arena(handle, &mut arena, commands).err();
-    assert_equal!(rt; refused, Some(ArenaError::OutOfSystemMemory));
+    assert_equal!(rt; run_arena(handle, &mut arena, commands).err(), Some(ArenaError::OutOfSystemMemory));
     assert!(rt; arena.values().map(Item::number).eq([2]));
     assert_equal!(rt; tally.dropped(), (4, 2));
     drop(arena);

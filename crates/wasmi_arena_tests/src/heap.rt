@@ -31,8 +31,7 @@ fn ninety_six_items_fit(rt: HostRuntime) {
 fn a_refused_call_keeps_no_block(rt: HostRuntime) {
     let heap = LocalHeap::new(rt.alloc(), HEAP_SIZE).expect(&rt, "");
     let mut arena = StableArena::from_iter(&heap, 0..32u64).expect(&rt, "");
-    let refused = arena.alloc_many(100).err();
-    assert_equal!(rt; refused, Some(ArenaError::OutOfSystemMemory));
+    assert_equal!(rt; arena.alloc_many(100).err(), Some(ArenaError::OutOfSystemMemory));
     assert_equal!(rt; (arena.len(), arena.items().open_buckets()), (32, 1));
     // There would be no room for these, if a block of 512 bytes were kept.
     let keys: Range<usize> = arena.alloc_many(64).expect(&rt, "");

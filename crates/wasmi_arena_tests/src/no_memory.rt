@@ -39,8 +39,7 @@ fn a_vector_with_room_needs_no_memory(rt: HostRuntime) {
     assert_equal!(rt; (vec.put(95, 7), vec.swap(0, 95)), (Ok(95), Ok(())));
     assert_equal!(rt; vec.get_disjoint_mut([32, 31]).expect(&rt, ""), (&mut 32, &mut 31));
     let refused = vec.get_disjoint_mut([32, 96]).err();
-    assert_equal!(rt; refused, Some(ArenaError::KeyOutOfBounds));
-    assert_equal!(rt; vec.get_mut(0), Some(&mut 7));
+    assert_equal!(rt; (refused, vec.get_mut(0)), (Some(ArenaError::KeyOutOfBounds), Some(&mut 7)));
     let (items, parts) = (vec.iter_mut().count(), vec.slices().len());
     assert_equal!(rt; (items, parts, vec.slices_mut().len()), (96, 2, 2));
     assert!(rt; vec == vec && vec.cmp(&vec).is_eq());
@@ -62,8 +61,7 @@ fn an_arena_with_room_needs_no_memory(rt: HostRuntime) {
     assert_equal!(rt; (arena.put(0, 7), arena.swap(0, 31)), (Ok(0), Ok(())));
     assert_equal!(rt; arena.get_disjoint_mut([0, 31]).expect(&rt, ""), (&mut 31, &mut 7));
     let refused = arena.get_disjoint_mut([31, 31]).err();
-    assert_equal!(rt; refused, Some(ArenaError::AliasingPairAccess));
-    assert_equal!(rt; arena.get_mut(0), Ok(&mut 31));
+    assert_equal!(rt; (refused, arena.get_mut(0)), (Some(ArenaError::AliasingPairAccess), Ok(&mut 31)));
     assert_equal!(rt; (arena.get(31), arena.has(32), arena.last()), (Ok(&7), false, Some(&7)));
     let entries = (arena.iter().len(), arena.keys().len(), arena.values().len());
     assert_equal!(rt; (entries, arena.iter_mut().len()), ((32, 32, 32), 32));
@@ -91,7 +89,6 @@ fn items_without_size_need_no_memory(rt: HostRuntime) {
     assert_equal!(rt; &vec.clone().expect(&rt, ""), &longer);
     assert!(rt; vec.slices().map(|part| part.len()).eq([32, 9]));
     let mut arena: StableArena<usize, (), Observed<'_>> = StableArena::new(handle);
-    assert_equal!(rt; arena.alloc(()), Ok(0));
-    assert_equal!(rt; arena.alloc_many(40).expect(&rt, "").end, 41);
+    assert_equal!(rt; (arena.alloc(()), arena.alloc_many(40).expect(&rt, "").end), (Ok(0), 41));
     assert_equal!(rt; (arena.clone().expect(&rt, "").len(), log.requests()), (41, 0));
 }

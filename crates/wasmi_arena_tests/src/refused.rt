@@ -283,6 +283,5 @@ fn a_bucket_takes_one_clone_of_the_allocator(rt: HostRuntime) {
     assert_equal!(rt; (other.clones(), log.clones()), (3, 7));
     let handle = Observed::new(rt.alloc(), &other);
     let mut arena: StableArena<usize, u8, Observed<'_>> = StableArena::new(handle);
-    assert_equal!(rt; arena.alloc_many(97).expect(&rt, "").end, 97);
-    assert_equal!(rt; other.clones(), 6);
+    assert_equal!(rt; (arena.alloc_many(97).expect(&rt, "").end, other.clones()), (97, 6));
 }

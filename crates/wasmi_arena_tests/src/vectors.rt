@@ -159,14 +159,14 @@ fn lists_of_two_lengths_compare_no_item(rt: HostRuntime) {
     assert_equal!(rt; (vec == longer, notes.compared()), (false, 0));
 }
 
-// Of two buckets the same text as that of a `Vec`.
+// Of eight buckets the same text as that of a `Vec`.
 #[test]
 fn debug_texts_of_vectors(rt: HostRuntime) {
     let (vec, two) = (
-        counted(rt.alloc(), 33).expect(&rt, ""),
+        counted(rt.alloc(), 5_000).expect(&rt, ""),
         counted(rt.alloc(), 2).expect(&rt, ""),
     );
-    let items: Vec<u32> = (0..33).collect(rt.alloc()).expect(&rt, "");
+    let items: Vec<u32> = (0..5_000).collect(rt.alloc()).expect(&rt, "");
     let text = format!(in rt.alloc(); "{vec:?} {vec:#?}").expect(&rt, "");
     let wanted = format!(in rt.alloc(); "{items:?} {items:#?}").expect(&rt, "");
     assert_equal!(rt; text.as_str(), wanted.as_str());

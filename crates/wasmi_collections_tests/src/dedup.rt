@@ -358,7 +358,7 @@ fn a_value_by_reference_is_cloned_twice(rt: HostRuntime) {
         let known = String::from_str(heap, "a").expect(&rt, "");
         let long = "0123456789".repeat(rt.alloc(), 7_000).expect(&rt, "");
         let new = String::from_str(heap, long.as_str()).expect(&rt, "");
-        let asked = log.requests();
+        let (asked, bytes) = (log.requests(), log.bytes());
         let found = by_reference(heap, &mut arena, &known, is_value);
         assert_equal!(rt; (found, log.requests()), (Ok(0), asked));
         for nth in [1, 2] {
@@ -369,7 +369,8 @@ fn a_value_by_reference_is_cloned_twice(rt: HostRuntime) {
         }
         assert_equal!(rt; by_reference(heap, &mut arena, &new, is_value), Ok(2));
         let asked = asked.wrapping_add(5);
-        assert_equal!(rt; (log.requests(), arena.key_of(&new), arena.len()), (asked, Some(2), 3));
+        let bytes = log.bytes().wrapping_sub(bytes);
+        assert_equal!(rt; (bytes, log.requests(), arena.key_of(&new), arena.len()), (350_000, asked, Some(2), 3));
         log.refuse_from(1);
         let found = by_reference(heap, &mut arena, &new, is_value);
         assert_equal!(rt; (found, log.requests()), (Ok(2), asked));

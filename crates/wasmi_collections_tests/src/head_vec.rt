@@ -59,8 +59,7 @@ fn items_come_back_from_the_end(rt: HostRuntime) {
 fn lists_print_their_items(rt: HostRuntime) {
     let mut items = list(rt.alloc(), &[1, 2, 30]).expect(&rt, "");
     let one = list(rt.alloc(), &[1]).expect(&rt, "");
-    let text = format!(in rt.alloc(); "{items:?} {one:?}").expect(&rt, "");
-    assert_equal!(rt; text.as_str(), "[1, 2, 30] [1]");
+    assert_equal!(rt; format!(in rt.alloc(); "{items:?} {one:?}").expect(&rt, "").as_str(), "[1, 2, 30] [1]");
     items.clear();
     assert_equal!(rt; &items, &HeadVec::new(rt.alloc()));
     assert_equal!(rt; format!(in rt.alloc(); "{items:?}").expect(&rt, "").as_str(), "[]");
@@ -145,20 +144,20 @@ fn ends_with_numbers<A: Allocator>(items: HeadVec<usize, A>, len: usize) -> bool
 fn a_refused_clone_leaves_its_source(rt: HostRuntime) {
     let log = Log::new();
     let mut items = HeadVec::new(Observed::new(rt.alloc(), &log));
-    for number in 0..3u64 {
+    for number in 0..102u64 {
         let item = Box::new(Observed::new(rt.alloc(), &log), number).expect(&rt, "");
         items.push(item).expect(&rt, "");
     }
-    // A box for each item, and a block for the first two of them.
-    for nth in 1..5u64 {
+    // A box for each item, and a block for all but the last.
+    for nth in 1..104u64 {
         log.refuse_once(nth);
         assert_equal!(rt; items.clone().err(), Some(ArenaError::OutOfSystemMemory));
-        assert_equal!(rt; (items.len(), items.last().map(|last| **last)), (3, Some(2)));
+        assert_equal!(rt; (items.len(), items.last().map(|last| **last)), (102, Some(101)));
     }
     log.refuse_none();
     let asked = log.requests();
     let copy = items.clone().expect(&rt, "");
-    assert_equal!(rt; (log.requests(), &copy), (asked.wrapping_add(4), &items));
+    assert_equal!(rt; (log.requests(), &copy), (asked.wrapping_add(103), &items));
     drop((copy, items));
     assert_equal!(rt; log.amiss(), 0);
 }
@@ -174,8 +173,7 @@ fn each_item_is_dropped_once(rt: HostRuntime) {
     log.refuse_none();
     items.push(Item::new(&tally, 1)).expect(&rt, "");
     items.push(Item::new(&tally, 2)).expect(&rt, "");
-    assert_equal!(rt; items.pop().map(|item| item.number()), Some(2));
-    assert_equal!(rt; tally.dropped(), (2, 0));
+    assert_equal!(rt; (items.pop().map(|item| item.number()), tally.dropped()), (Some(2), (2, 0)));
     items.clear();
     assert_equal!(rt; (tally.dropped().0, items.len()), (4, 0));
     items.push(Item::new(&tally, 3)).expect(&rt, "");
@@ -207,6 +205,5 @@ fn the_last_items_alone_are_compared(rt: HostRuntime) {
         other.push(Noted::new(number / 99, &notes)).expect(&rt, "");
     }
     assert_equal!(rt; (one.cmp(&other), notes.compared()), (Ordering::Greater, 1));
-    assert_equal!(rt; one.partial_cmp(&other), Some(Ordering::Greater));
-    assert_equal!(rt; notes.compared(), 1);
+    assert_equal!(rt; (one.partial_cmp(&other), notes.compared()), (Some(Ordering::Greater), 1));
 }

@@ -213,8 +213,10 @@ fn one_run_for_both_arenas(rt: HostRuntime) {
 #[test]
 fn an_arena_prints_as_a_map(rt: HostRuntime) {
     let empty: Arena<usize, i32> = Arena::new(rt.alloc());
-    let none = format!(in rt.alloc(); "{empty:?}{empty:#?}").expect(&rt, "");
-    assert_equal!(rt; none.as_str(), "{}{}");
+    assert_equal!(rt; format!(in rt.alloc(); "{empty:?}{empty:#?}").expect(&rt, "").as_str(), "{}{}");
+    let many: Arena<usize, i32> = Arena::from_iter(rt.alloc(), 0..5_000).expect(&rt, "");
+    let text = format!(in rt.alloc(); "{many:?}").expect(&rt, "");
+    assert!(rt; text.as_str().ends_with(", 4999: 4999}"));
     // The numbers of its keys.
     let keyed: Arena<NonZero<u32>, i32> = Arena::from_iter(rt.alloc(), 7..9).expect(&rt, "");
     let two = format!(in rt.alloc(); "{keyed:?} {keyed:#?}").expect(&rt, "");

@@ -89,22 +89,22 @@ fn components_below_the_extent_need_no_memory(rt: HostRuntime) {
     let log = Log::new();
     let handle = Observed::new(rt.alloc(), &log);
     let mut components: ComponentVec<usize, u64, Observed<'_>> = ComponentVec::new(handle);
-    components.set(39, 7).expect(&rt, "");
+    components.set(69_999, 7).expect(&rt, "");
     log.refuse_from(1);
-    for number in 0..39usize {
+    for number in 0..69_999usize {
         let set = (components.set(number, 1), components.set(number, 2));
         assert_equal!(rt; set, (Ok(None), Ok(Some(1))));
         assert_equal!(rt; (components.unset(number), components.get(number)), (Some(2), None));
     }
-    assert_equal!(rt; components.get_mut(39), Some(&mut 7));
-    assert_equal!(rt; (components.has(39), components.extent()), (true, 40));
+    assert_equal!(rt; components.get_mut(69_999), Some(&mut 7));
+    assert_equal!(rt; (components.has(69_999), components.extent()), (true, 70_000));
     assert!(rt; components.iter_mut().next().is_some());
     {
         let mut iter = components.iter();
-        assert_equal!(rt; (iter.next(), iter.next()), (Some((39, &7)), None));
+        assert_equal!(rt; (iter.next(), iter.next()), (Some((69_999, &7)), None));
     }
     components.clear();
-    for number in 0..40usize {
+    for number in 0..70_000usize {
         assert_equal!(rt; components.set(number, 8), Ok(None));
     }
     assert_equal!(rt; log.requests(), 1);

@@ -175,8 +175,7 @@ fn texts_that_find_no_slot_are_found(rt: HostRuntime) {
         let mut interner = StringInterner::new(rt.alloc());
         for number in 0..300u32 {
             let text = numbered(&rt, rt.alloc(), around, number);
-            let symbol = interner.get_or_intern(text.as_str());
-            assert_equal!(rt; symbol, Ok(Sym::from_u32(number)));
+            assert_equal!(rt; interner.get_or_intern(text.as_str()), Ok(Sym::from_u32(number)));
         }
         for more in [0..0, 0..1000u32] {
             for number in more {
@@ -212,8 +211,7 @@ fn a_hundred_thousand_texts_are_found(rt: HostRuntime) {
     for number in 0..100_003 {
         let text = scattered(&rt, rt.alloc(), number);
         if number % 2 == 0 {
-            let symbol = interner.get_or_intern(text.as_str());
-            assert_equal!(rt; symbol, Ok(Sym::from_u32(number)));
+            assert_equal!(rt; interner.get_or_intern(text.as_str()), Ok(Sym::from_u32(number)));
         } else {
             assert_equal!(rt; interner.extend([text.as_str()]), Ok(()), "at {number}");
         }

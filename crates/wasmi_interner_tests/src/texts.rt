@@ -42,8 +42,7 @@ fn a_symbol_is_a_key(rt: HostRuntime) {
     let none: Option<Sym> = ArenaKey::from_usize(4_294_967_296);
     assert_equal!(rt; none, None);
     let symbol = Sym::from_u32(20);
-    let shown = format!(in rt.alloc(); "{symbol}{symbol:>4}").expect(&rt, "");
-    assert_equal!(rt; shown.as_str(), "20  20");
+    assert_equal!(rt; format!(in rt.alloc(); "{symbol}{symbol:>4}").expect(&rt, "").as_str(), "20  20");
 }
 
 // What is there needs no memory. After an error the texts before it stay.

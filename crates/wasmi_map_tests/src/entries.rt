@@ -12,7 +12,7 @@ use wasmi_vectors::noted::{Noted, Notes};
 use wasmi_vectors::observed::Log;
 
 #[test]
-fn what_finds_no_memory_is_dropped(rt: HostRuntime) {
+fn what_finds_no_memory_or_is_cleared_is_dropped(rt: HostRuntime) {
     let (log, notes) = (Log::new(), Notes::new());
     let heap = Logged::new(rt.alloc(), &log);
     let mut tree: TreeSet<Noted<'_>, Logged<'_>> = TreeSet::new(heap);
@@ -29,6 +29,14 @@ fn what_finds_no_memory_is_dropped(rt: HostRuntime) {
     assert_equal!(rt; notes.dropped(), 1);
     assert!(rt; hashed.entry(key()).is_err());
     assert_equal!(rt; notes.dropped(), 1);
+    log.refuse_none();
+    for number in 0..100 {
+        let key = || Noted::new(number, &notes);
+        assert!(rt; tree.insert(key()).is_ok() && hash.insert(key()).is_ok());
+        assert!(rt; ordered.insert(key(), 0).is_ok() && hashed.insert(key(), 0).is_ok());
+    }
+    (tree.clear(), hash.clear(), ordered.clear(), hashed.clear());
+    assert_equal!(rt; notes.dropped(), 400);
 }
 
 // Values that an entry doesn't keep.

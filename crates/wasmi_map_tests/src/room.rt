@@ -92,24 +92,25 @@ fn room_is_given_back(rt: HostRuntime) {
     for nth in 1..6 {
         let mut map: Hash<'_> = Map::new(Observed::new(rt.alloc(), &log));
         let mut set: HashOfSet<'_> = Set::new(Observed::new(rt.alloc(), &log));
-        map.extend((0..20u32).map(|key| (key, key))).expect(&rt, "");
-        set.extend(0..20u32).expect(&rt, "");
-        map.reserve(1000).expect(&rt, "");
-        set.reserve(1000).expect(&rt, "");
-        assert!(rt; map.capacity() >= 1020 && set.capacity() >= 1020);
+        map.extend((0..2_000u32).map(|key| (key, key)))
+            .expect(&rt, "");
+        set.extend(0..2_000u32).expect(&rt, "");
+        map.reserve(100_000).expect(&rt, "");
+        set.reserve(100_000).expect(&rt, "");
+        assert!(rt; map.capacity() >= 102_000 && set.capacity() >= 102_000);
         log.refuse_once(nth);
         map.shrink_to_fit();
         log.refuse_once(nth);
         set.shrink_to_fit();
-        assert!(rt; (0..20u32).all(|key| map.get(&key) == Some(&key) && set.contains(&key)));
-        assert_equal!(rt; (map.len(), set.len()), (20, 20));
+        assert!(rt; (0..2_000u32).all(|key| map.get(&key) == Some(&key) && set.contains(&key)));
+        assert_equal!(rt; (map.len(), set.len()), (2_000, 2_000));
         map.shrink_to_fit();
         set.shrink_to_fit();
-        assert!(rt; map.capacity() < 1020 && set.capacity() < 1020);
+        assert!(rt; map.capacity() < 102_000 && set.capacity() < 102_000);
         // As many go in without memory as there is room for.
         log.refuse_from(1);
         let rooms = (map.capacity(), set.capacity());
-        for number in 20..100u32 {
+        for number in 2_000..5_000u32 {
             assert_equal!(rt;
                 (map.insert(number, 0).is_ok(), set.insert(number).is_ok()),
                 ((number as usize) < rooms.0, (number as usize) < rooms.1)

@@ -175,8 +175,11 @@ fn entries_are_printed(rt: HostRuntime) {
     let set = hashed::Set::from_iter(alloc, [3, 5]).expect(&rt, "");
     let text = format!(in alloc; "{set:?}").expect(&rt, "");
     assert!(rt; text.as_str() == "{3, 5}" || text.as_str() == "{5, 3}");
+    let map = ordered::Map::from_iter(alloc, (0..5_000).map(|key| (key, key))).expect(&rt, "");
+    let set = ordered::Set::from_iter(alloc, 0..5_000).expect(&rt, "");
+    let text = format!(in alloc; "{set:?}{map:?}").expect(&rt, "");
+    assert!(rt; text.as_str().contains(", 4999}{") && text.as_str().ends_with(", 4999: 4999}"));
     let map: ordered::Map<u32, u32> = ordered::Map::new(alloc);
     let set: hashed::Set<u32> = hashed::Set::new(alloc);
-    let none = format!(in alloc; "{map:?}{set:?}").expect(&rt, "");
-    assert_equal!(rt; none.as_str(), "{}{}");
+    assert_equal!(rt; format!(in alloc; "{map:?}{set:?}").expect(&rt, "").as_str(), "{}{}");
 }

@@ -6,6 +6,8 @@ mod bytes;
 #[cfg(test)]
 mod decoded;
 #[cfg(test)]
+mod large;
+#[cfg(test)]
 mod malformed;
 #[cfg(test)]
 mod matching;
