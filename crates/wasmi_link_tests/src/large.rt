@@ -38,14 +38,14 @@ fn three_hundred_files(rt: HostRuntime) {
 }
 
 #[test]
-fn types_of_70_000_entries(rt: HostRuntime) {
+fn types_of_a_megabyte(rt: HostRuntime) {
     let mut bytes = Vec::new(rt.alloc());
     bytes.extend_from_slice(EMPTY).or_abort(&rt);
     // The size of the section, and how many types it has.
     bytes
-        .extend_from_slice(b"\x01\xd3\xe8\x0c\xf0\xa2\x04")
+        .extend_from_slice(b"\x01\x93\x8b\x40\xb0\xae\x15")
         .or_abort(&rt);
-    for _ in 0..70_000 {
+    for _ in 0..350_000 {
         bytes.extend_from_slice(b"\x60\0\0").or_abort(&rt);
     }
     let file = File {
@@ -53,7 +53,7 @@ fn types_of_70_000_entries(rt: HostRuntime) {
         bytes: bytes.as_slice(),
     };
     let outcome = link(rt.alloc(), &[file]).or_abort(&rt);
-    let text = "1 modules, 1 types of 70000, 1 names, 0 imports: 0 found, 0 missing, 0 differs\n";
+    let text = "1 modules, 1 types of 350000, 1 names, 0 imports: 0 found, 0 missing, 0 differs\n";
     assert_equal!(rt; outcome.text.as_str(), text);
 }
 
