@@ -32,8 +32,9 @@ fn a_store_of_two_functions(rt: HostRuntime) {
     let first = store.put("add").expect(&rt, "");
     let second = store.put("sub").expect(&rt, "");
     assert!(rt; first != second);
-    let found = (store.count(), store.get(first), store.get(second));
-    assert_equal!(rt; found, (2, Some(&"add"), Some(&"sub")));
+    assert_equal!(rt; store.count(), 2);
+    assert_equal!(rt; store.get(first), Some(&"add"));
+    assert_equal!(rt; store.get(second), Some(&"sub"));
 }
 
 #[test]
