@@ -31,8 +31,7 @@ fn a_store_of_two_functions(rt: HostRuntime) {
     let mut store = FuncStore::new(rt.alloc());
     let first = store.put("add").expect(&rt, "");
     let second = store.put("sub").expect(&rt, "");
-    assert!(rt; first != second);
-    assert_equal!(rt; store.count(), 2);
+    assert!(rt; first != second && store.count() == 2);
     assert_equal!(rt; store.get(first), Some(&"add"));
     assert_equal!(rt; store.get(second), Some(&"sub"));
 }
