@@ -57,7 +57,7 @@ room_filled n filled small all =
     let end : start (fewest (n + filled)) ≡ start (fewest n) = ap start (ap fewest whole ∙ fewest_start (fewest n) (few.least 27 small)) in
     omega arith
 
-module _ {T : Type 0} (buckets : List (Option (Bucket T))) where
+module _ {T : Type 0} {buckets : List (Option (Bucket T))} where
   -- the first of the buckets that are open is moved out
   pub apart_moved : (first last : ℕ) → AreOpenApart buckets first last → AreOpenApart (set buckets first None) (first + 1) last
   apart_moved first last before = record {
@@ -66,9 +66,9 @@ module _ {T : Type 0} (buckets : List (Option (Bucket T))) where
   }
 
   -- the buckets between those for n items and those for m
-  module _ (n m : ℕ) (all : AreOpenApart buckets (fewest n) (fewest m)) (few : m ≤ max_len) where
-    pub apart_later : (later : ℕ) → n ≤ later → later ≤ m → AreOpenApart buckets (fewest later) (fewest m)
-    apart_later later more within =
+  module _ {n m : ℕ} (all : AreOpenApart buckets (fewest n) (fewest m)) (few : m ≤ max_len) where
+    pub apart_later : {later : ℕ} → n ≤ later → later ≤ m → AreOpenApart buckets (fewest later) (fewest m)
+    apart_later {later} more within =
         let low = fewest_mono n later more (omega arith) in
         record { buckets_counted = all.buckets_counted; empty = λ b from to. all.empty b (omega arith) to }
 
@@ -81,8 +81,8 @@ module _ {T : Type 0} (buckets : List (Option (Bucket T))) where
       pub apart_first : get_or buckets (fewest n) None ≡ Some (bucket [] (size (fewest n)))
       apart_first = all.empty (fewest n) (omega arith) (omega (arith, fewest_next n 1 (omega arith) none (omega arith) (omega (arith, size_pos (fewest n))), fewest_mono (n + 1) m (omega arith) few))
 
-      pub apart_taken : (b : ℕ) (taken : Bucket T) → b ≡ fewest n → get_or buckets b None ≡ Some taken → taken ≡ bucket [] (size (fewest n))
-      apart_taken b taken is read = some_is taken (bucket [] (size (fewest n))) (sym read ∙ (ap (λ i. get_or buckets i None) is ∙ apart_first))
+      pub apart_taken : {b : ℕ} {taken : Bucket T} → b ≡ fewest n → get_or buckets b None ≡ Some taken → taken ≡ bucket [] (size (fewest n))
+      apart_taken {b} {taken} is read = some_is taken (bucket [] (size (fewest n))) (sym read ∙ (ap (λ i. get_or buckets i None) is ∙ apart_first))
 
       pub apart_rest : (filled : ℕ) → 0 < filled → filled ≤ size (fewest n) → AreOpenApart (set buckets (fewest n) None) (fewest (n + filled)) (fewest m)
       apart_rest filled some fits = rw (fewest_next n filled (omega arith) none some fits) (apart_moved (fewest n) (fewest m) all)

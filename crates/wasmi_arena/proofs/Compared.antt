@@ -98,8 +98,8 @@ module _ {A : Type 0} (E : A → A → Bool) where
   Ends-eq r (Some x) (Some y) h = (h.0 ∙ sym h.1, λ q. ap (λ e. e && q) h.0 ∙ sym h.0)
 
 module _ {T : Type 0} (E : T → T → Bool) (xs ys : List T) (few : length xs ≤ max_len) (less_few : length ys ≤ max_len) where
-  pub eq_of_parts : (r : Bool) → ComparesItemsByEq {A = Bor (List T)} Shown (λ s t. t ≡ s) Shown (filled_parts xs) (filled_parts ys) (λ x y. pointwise E x.now y.now) r → r ≡ pointwise E xs ys
-  eq_of_parts r d =
+  pub eq_of_parts : {r : Bool} → ComparesItemsByEq {A = Bor (List T)} Shown (λ s t. t ≡ s) Shown (filled_parts xs) (filled_parts ys) (λ x y. pointwise E x.now y.now) r → r ≡ pointwise E xs ys
+  eq_of_parts {r} d =
       compare_of_iterators Joins-and (ByPlaces-pointwise (pointwise E)) r d.1 d.2 d.3 d.4 (filled_parts xs) d.0 d.5 d.6 d.8 d.9 d.10 (Ends-eq (pointwise E) r d.3 d.4 d.11)
       ∙ (ap (pointwise (pointwise E) (filled_parts xs)) d.7 ∙ comparing-filled_parts Joins-and (ByPlaces-pointwise E) (ByPlaces-pointwise (pointwise E)) xs ys few less_few)
 
@@ -130,8 +130,8 @@ module _ {A : Type 0} (C : A → A → Ordering) where
   Ends-cmp r (Some x) (Some y) h = (h.0, then-decided r h.1)
 
 module _ {T : Type 0} (C : T → T → Ordering) (xs ys : List T) (few : length xs ≤ max_len) (less_few : length ys ≤ max_len) where
-  pub cmp_of_parts : (r : Ordering) → ComparesItemsByCmp {A = Bor (List T)} Shown (λ s t. t ≡ s) Shown (filled_parts xs) (filled_parts ys) (λ x y. slice_cmp C x.now y.now) r → r ≡ slice_cmp C xs ys
-  cmp_of_parts r d =
+  pub cmp_of_parts : {r : Ordering} → ComparesItemsByCmp {A = Bor (List T)} Shown (λ s t. t ≡ s) Shown (filled_parts xs) (filled_parts ys) (λ x y. slice_cmp C x.now y.now) r → r ≡ slice_cmp C xs ys
+  cmp_of_parts {r} d =
       compare_of_iterators Joins-then (ByPlaces-slice_cmp (slice_cmp C)) r d.1 d.2 d.3 d.4 (filled_parts xs) d.0 d.5 d.6 d.8 d.9 d.10 (Ends-cmp (slice_cmp C) r d.3 d.4 d.11)
       ∙ (ap (slice_cmp (slice_cmp C) (filled_parts xs)) d.7 ∙ comparing-filled_parts Joins-then (ByPlaces-slice_cmp C) (ByPlaces-slice_cmp (slice_cmp C)) xs ys few less_few)
 
@@ -163,7 +163,7 @@ module _ {A : Type 0} (C : A → A → Option Ordering) where
   Ends-partial_cmp r (Some x) (Some y) h = (h.0, partial_then-decided r h.1)
 
 module _ {T : Type 0} (C : T → T → Option Ordering) (xs ys : List T) (few : length xs ≤ max_len) (less_few : length ys ≤ max_len) where
-  pub partial_cmp_of_parts : (r : Option Ordering) → ComparesItemsByPartialCmp {A = Bor (List T)} Shown (λ s t. t ≡ s) Shown (filled_parts xs) (filled_parts ys) (λ x y. slice_partial_cmp C x.now y.now) r → r ≡ slice_partial_cmp C xs ys
-  partial_cmp_of_parts r d =
+  pub partial_cmp_of_parts : {r : Option Ordering} → ComparesItemsByPartialCmp {A = Bor (List T)} Shown (λ s t. t ≡ s) Shown (filled_parts xs) (filled_parts ys) (λ x y. slice_partial_cmp C x.now y.now) r → r ≡ slice_partial_cmp C xs ys
+  partial_cmp_of_parts {r} d =
       compare_of_iterators Joins-partial_then (ByPlaces-slice_partial_cmp (slice_partial_cmp C)) r d.1 d.2 d.3 d.4 (filled_parts xs) d.0 d.5 d.6 d.8 d.9 d.10 (Ends-partial_cmp (slice_partial_cmp C) r d.3 d.4 d.11)
       ∙ (ap (slice_partial_cmp (slice_partial_cmp C) (filled_parts xs)) d.7 ∙ comparing-filled_parts Joins-partial_then (ByPlaces-slice_partial_cmp C) (ByPlaces-slice_partial_cmp (slice_partial_cmp C)) xs ys few less_few)

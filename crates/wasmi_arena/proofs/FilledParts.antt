@@ -88,8 +88,8 @@ module _ {T : Type 0} where
   HasBuckets-open items buckets has = let few = open-le_27 (HasBuckets-laid items buckets has) in omega (arith, few, has.counted)
 
   -- the first of them, as many as are open, are filled, and have its parts
-  pub parts_lent : (items : List T) (buckets front back : List (Option (Bucket T))) → HasBuckets items buckets → buckets ≡ front ++ back → length front ≡ fewest (length items) → AreFilled front × (map items_in front ≡ filled_parts items)
-  parts_lent items buckets front back has cut counted =
+  pub parts_lent : {items : List T} {buckets : List (Option (Bucket T))} (front back : List (Option (Bucket T))) → HasBuckets items buckets → buckets ≡ front ++ back → length front ≡ fewest (length items) → AreFilled front × (map items_in front ≡ filled_parts items)
+  parts_lent {items} {buckets} front back has cut counted =
       let whole = parts_open (HasBuckets-laid items buckets has) in
       let first : take (fewest (length items)) buckets ≡ front = rw (cut, ← counted, take-append-le (length front) front back (omega arith)) (take_all (length front) front (omega arith)) in
       (rw (← first) whole.0, rw (← first) (whole.1 ∙ ap filled_parts (items_of-IsTable 32 items buckets has.table)))
@@ -108,8 +108,8 @@ module _ {T : Type 0} where
       (let some = are.0 in omega (arith, ap length are.1, length-take width items), AreSome-AreParts (2 * width) (drop width items) parts (omega arith) are.2)
 
   -- an iterator that is at its start has all parts ahead
-  pub parts_ahead : (items front back : List T) (len : ℕ) → length items ≤ max_len → len ≡ length items → front ≡ [] → back ≡ [] → HasAhead front (filled_parts items) back len × (front ++ joined (filled_parts items) ++ back ≡ items)
-  parts_ahead items front back len few counted no_front no_back =
+  pub parts_ahead : {items front back : List T} {len : ℕ} → length items ≤ max_len → len ≡ length items → front ≡ [] → back ≡ [] → HasAhead front (filled_parts items) back len × (front ++ joined (filled_parts items) ++ back ≡ items)
+  parts_ahead {items} {front} {back} {len} few counted no_front no_back =
       let are = flat_map-filled_parts items few in (
         record { filled = AreSome-AreParts 32 items (filled_parts items) (omega arith) (AreParts-filled_parts items few); counted = counted ∙ ap length (sym are); few = omega (arith, ap length no_front, ap length no_back) },
         rw (no_front, no_back, append-nil (joined (filled_parts items))) are,

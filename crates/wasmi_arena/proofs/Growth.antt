@@ -9,8 +9,8 @@ use Rattle.wasmi_arena.specs.Growth.{RefusesOneMore, AppendsMany}
 
 -- so many items went in, and one more does
 module _ {T : Type 0} (P : T → Type 0) where
-  pub many_next : (amount : ℕ) (old new : List T) (x : T) → AppendsMany P amount old new → P x → AppendsMany P (amount + 1) old (new ++ x ∷ [])
-  many_next amount old new x so_far holds = (
+  pub many_next : {amount : ℕ} (old : List T) {new : List T} {x : T} → AppendsMany P amount old new → P x → AppendsMany P (amount + 1) old (new ++ x ∷ [])
+  many_next {amount} old {new} {x} so_far holds = (
     so_far.0 ++ x ∷ [],
     rw so_far.1 (append_assoc old so_far.0 (x ∷ [])),
     omega (arith, so_far.2, length-append so_far.0 (x ∷ [])),
@@ -18,8 +18,8 @@ module _ {T : Type 0} (P : T → Type 0) where
   )
 
   -- and so many more do
-  pub many_more : (amount more : ℕ) (old mid new : List T) → AppendsMany P amount old mid → AppendsMany P more mid new → AppendsMany P (amount + more) old new
-  many_more amount more old mid new so_far then = (
+  pub many_more : {amount more : ℕ} (old : List T) {mid new : List T} → AppendsMany P amount old mid → AppendsMany P more mid new → AppendsMany P (amount + more) old new
+  many_more {amount} {more} old {mid} {new} so_far then = (
     so_far.0 ++ then.0,
     then.1 ∙ (ap (λ (xs : List T). xs ++ then.0) so_far.1 ∙ append_assoc old so_far.0 then.0),
     omega (arith, so_far.2, then.2, length-append so_far.0 then.0),
@@ -30,8 +30,8 @@ module _ {T : Type 0} (P : T → Type 0) where
   many_length amount old new all = omega (arith, ap length all.1, all.2, length-append old all.0)
 
   -- what went into an empty list goes behind another
-  pub many_moved : (amount : ℕ) (part old new : List T) → new ≡ old ++ part → AppendsMany P amount [] part → AppendsMany P amount old new
-  many_moved amount part old new is all = (all.0, is ∙ ap (λ (xs : List T). old ++ xs) all.1, all.2, all.3)
+  pub many_moved : (amount : ℕ) {part : List T} (old : List T) {new : List T} → new ≡ old ++ part → AppendsMany P amount [] part → AppendsMany P amount old new
+  many_moved amount {part} old {new} is all = (all.0, is ∙ ap (λ (xs : List T). old ++ xs) all.1, all.2, all.3)
 
 -- why one more item is refused, by the clauses of the call that adds it
 pub refuses_one_more : {R : Type 0} (limit n : ℕ) (error : ArenaError) → (error ≡ NotEnoughKeys) ⊎ (error ≡ OutOfSystemMemory) → IsErrOf {T = R} (Err error) NotEnoughKeys ↔ (limit ≤ n)

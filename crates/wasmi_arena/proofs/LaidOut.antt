@@ -125,22 +125,22 @@ module _ {T : Type 0} where
     )
 
     -- what is read at the bucket of an index
-    module _ {i b s : ℕ} (place : IsPlace i b s) (below : i < len) (found : Option (Bucket T)) (read : found ≡ get_or buckets b found) where
+    module _ {i b s : ℕ} (place : IsPlace i b s) (below : i < len) {found : Option (Bucket T)} (read : found ≡ get_or buckets b found) where
       bucket_read : found ≡ Some record { items = take (size b) (drop (start b) (items_of buckets)); capacity = size b }
       bucket_read = read ∙ (get_or_default buckets b found None (rw v.buckets_counted place.bucket_exists) ∙ get_or-open b place.bucket_exists (omega (arith, place.index_is)))
 
       pub bucket_there : IsSome found
       bucket_there = rw bucket_read refl
 
-      module _ (bucket : Bucket T) (is : found ≡ Some bucket) (slice : List T) (whole : slice ≡ bucket.items) where
+      module _ {bucket : Bucket T} (is : found ≡ Some bucket) {slice : List T} (whole : slice ≡ bucket.items) where
         slice_is : slice ≡ take (size b) (drop (start b) (items_of buckets))
         slice_is = whole ∙ ap items_in (sym is ∙ bucket_read)
 
         pub slot_there : s < length slice
         slot_there = rw slice_is (omega (arith, length-take (size b) (drop (start b) (items_of buckets)), length-drop (start b) (items_of buckets), v.items_counted, place.slot_exists, place.index_is))
 
-        pub item_read : (x : T) → x ≡ get_or slice s x → Some x ≡ slice_get (items_of buckets) i
-        item_read x at =
+        pub item_read : {x : T} → x ≡ get_or slice s x → Some x ≡ slice_get (items_of buckets) i
+        item_read {x} at =
             let here = get_or-take (size b) (drop (start b) (items_of buckets)) s x place.slot_exists ∙ get_or-drop (start b) (items_of buckets) s x in
             let same : x ≡ get_or (items_of buckets) i x = at ∙ (ap (λ (xs : List T). get_or xs s x) slice_is ∙ (here ∙ ap (λ n. get_or (items_of buckets) n x) place.index_is)) in
             ap Some same ∙ sym (slice_get-get_or (items_of buckets) i x (rw (← v.items_counted) below))

@@ -25,7 +25,7 @@ module _ {T : Type 0} where
   one_part (Some bucket ∷ next ∷ buckets) one filled = absurd (omega arith)
 
 -- what is lent, where it is found and cut
-module _ {T A : Type 0} (found : Option (ItemsLoan T A)) (loan front back : ItemsLoan T A) (count at : ℕ) (lent : IsLent found count) (is : found ≡ Some loan) (cut : IsCut loan front back at) where
+module _ {T A : Type 0} (found : Option (ItemsLoan T A)) {loan front back : ItemsLoan T A} (count : ℕ) {at : ℕ} (lent : IsLent found count) (is : found ≡ Some loan) (cut : IsCut loan front back at) where
   whole : IsLent (Some loan) count
   whole = subst (λ (l : Option (ItemsLoan T A)). IsLent l count) is lent
 

@@ -22,7 +22,7 @@ module _ {T : Type 0} where
   fewer_last items left None ended = omega (arith, ap length ended.1)
   fewer_last items left (Some x) at = omega (arith, ap length at, length-append left (x ∷ []))
 
-  module _ (front back : List T) (buckets rest : List (Option (Bucket T))) (found : Option (Bucket T)) (bucket : Bucket T) (is : Some bucket ≡ found) (between : ℕ) (it : IsAhead front buckets back between) (items : List T) (whole : items ≡ bucket.items) where
+  module _ {front back : List T} {buckets : List (Option (Bucket T))} (rest : List (Option (Bucket T))) {found : Option (Bucket T)} {bucket : Bucket T} (is : Some bucket ≡ found) {between : ℕ} (it : IsAhead front buckets back between) {items : List T} (whole : items ≡ bucket.items) where
     -- the first bucket is entered
     module _ (first : buckets ≡ found ∷ rest) where
       pub first_taken : (left : List T) (r : Option T) → YieldsFirst all_left items r left → front ≡ [] → YieldsFirst all_left (front ++ items_of buckets ++ back) r (left ++ items_of rest ++ back)
@@ -31,8 +31,8 @@ module _ {T : Type 0} where
           absurd (omega (arith, ap length whole, ap length ended.0))
       first_taken left (Some x) at none = first_items front back buckets rest found bucket between it first is (ap length none) left x (sym whole ∙ at)
 
-      pub first_taken_ahead : (left : List T) (r : Option T) → YieldsFirst all_left items r left → (count : ℕ) → count ≡ length items → IsAhead left rest back (between - count)
-      first_taken_ahead left r step count counted = first_ahead front back buckets rest found bucket between it first is left count (counted ∙ ap length whole) (omega (arith, fewer_first items left r step))
+      pub first_taken_ahead : {left : List T} (r : Option T) → YieldsFirst all_left items r left → (count : ℕ) → count ≡ length items → IsAhead left rest back (between - count)
+      first_taken_ahead {left} r step count counted = first_ahead front back buckets rest found bucket between it first is left count (counted ∙ ap length whole) (omega (arith, fewer_first items left r step))
 
     -- the last bucket is entered
     module _ (last : buckets ≡ rest ++ found ∷ []) where
@@ -45,11 +45,11 @@ module _ {T : Type 0} where
       pub last_taken_counted : length items ≤ between
       last_taken_counted = let counted = last_counted front back buckets rest found bucket between it last is in omega (arith, ap length whole)
 
-      pub last_taken_ahead : (left : List T) (r : Option T) → YieldsLast all_left items r left → (count : ℕ) → count ≡ length items → IsAhead front rest left (between - count)
-      last_taken_ahead left r step count counted = last_ahead front back buckets rest found bucket between it last is left count (counted ∙ ap length whole) (omega (arith, fewer_last items left r step))
+      pub last_taken_ahead : {left : List T} (r : Option T) → YieldsLast all_left items r left → (count : ℕ) → count ≡ length items → IsAhead front rest left (between - count)
+      last_taken_ahead {left} r step count counted = last_ahead front back buckets rest found bucket between it last is left count (counted ∙ ap length whole) (omega (arith, fewer_last items left r step))
 
   -- no bucket is left, and the other end is called
-  module _ (front back kept left : List T) (buckets rest : List (Option (Bucket T))) (between : ℕ) (it : IsAhead front buckets back between) (same : rest ≡ buckets) where
+  module _ {front back kept : List T} (left : List T) {buckets : List (Option (Bucket T))} (rest : List (Option (Bucket T))) {between : ℕ} (it : IsAhead front buckets back between) (same : rest ≡ buckets) where
     pub taken_behind : (r : Option T) → front ≡ [] → kept ≡ [] → length buckets ≡ 0 → YieldsFirst all_left back r left → YieldsFirst all_left (front ++ items_of buckets ++ back) r (kept ++ items_of rest ++ left)
     taken_behind None none still no_buckets ended = rw (same, none, still, nil_from_length buckets no_buckets) ended
     taken_behind (Some x) none still no_buckets at = rw (same, none, still, nil_from_length buckets no_buckets) at
@@ -74,13 +74,13 @@ module _ {A : Type 0} (all : List A) (s t : IntoIter A 27) where
   abbrev pub kept_of : ℕ → ℕ → IntoIter A 27 → Type 0
   kept_of closed opened it = (array_into_iter_items it ≡ take (length (array_into_iter_items it)) all) × (length (array_into_iter_items it) + closed ≡ 27 + opened)
 
-  pub kept_fewer : (closed opened : ℕ) (r : Option A) → array_steps_back s r t → kept_of closed opened s → closed < 27 → kept_of (closed + 1) opened t
-  kept_fewer closed opened None ended kept more = absurd (let none = ended.0 in let counted = kept.1 in omega arith)
-  kept_fewer closed opened (Some x) at kept more =
+  pub kept_fewer : {closed : ℕ} (opened : ℕ) (r : Option A) → array_steps_back s r t → kept_of closed opened s → closed < 27 → kept_of (closed + 1) opened t
+  kept_fewer {closed} opened None ended kept more = absurd (let none = ended.0 in let counted = kept.1 in omega arith)
+  kept_fewer {closed} opened (Some x) at kept more =
       let before = array_into_iter_items s in let after = array_into_iter_items t in
       let one = length-append after (x ∷ []) in let shorter = ap length at in
       let counted = kept.1 in
       (sym (take-append_seam after (x ∷ [])) ∙ (ap (take (length after)) (sym at ∙ kept.0) ∙ take-take (length after) (length before) all (omega (arith, shorter, one))), omega (arith, shorter, one))
 
-  pub kept_open : (closed opened : ℕ) → kept_of closed opened s → closed ≡ 27 → array_into_iter_items s ≡ take opened all
-  kept_open closed opened kept done = kept.0 ∙ ap (λ n. take n all) (let counted = kept.1 in omega arith)
+  pub kept_open : {closed : ℕ} (opened : ℕ) → kept_of closed opened s → closed ≡ 27 → array_into_iter_items s ≡ take opened all
+  kept_open {closed} opened kept done = kept.0 ∙ ap (λ n. take n all) (let counted = kept.1 in omega arith)

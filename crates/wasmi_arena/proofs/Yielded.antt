@@ -29,14 +29,14 @@ module _ {U S T : Type 0} (becomes : U → S → Type 0) (steps : S → Option T
     pub can_go_on : can items
     pub finite : IsFinite (left items)
 
-  module _ (iter : U) (s : S) (old mid : List T) (so_far : TakenSoFar iter s old mid) where
-    module _ (x : T) (t : S) (step : steps s (Some x) t) where
+  module _ {iter : U} {s : S} {old mid : List T} (so_far : TakenSoFar iter s old mid) where
+    module _ {x : T} {t : S} (step : steps s (Some x) t) where
       -- an item comes that doesn't go in
       pub taken_up_to : TakesUpTo becomes steps iter old mid
       taken_up_to = (so_far.it, so_far.xs, x, t, so_far.is_made, (s, so_far.came, step), so_far.are)
 
       -- it goes in, and others after it
-      module _ (one new : List T) (one_is : one ≡ mid ++ x ∷ []) where
+      module _ {one new : List T} (one_is : one ≡ mid ++ x ∷ []) where
         joined : (ys : List T) → new ≡ one ++ ys → new ≡ old ++ (so_far.xs ++ x ∷ [] ++ ys)
         joined ys is =
             is ∙ (ap (λ (zs : List T). zs ++ ys) (one_is ∙ (ap (λ (zs : List T). zs ++ x ∷ []) so_far.are ∙ append_assoc old so_far.xs (x ∷ []))) ∙ append_assoc old (so_far.xs ++ x ∷ []) ys)

@@ -16,23 +16,33 @@ RefusesOneMore limit n AliasingPairAccess = ⊥
 RefusesOneMore limit n DuplicateItem = ⊥
 
 -- what is made an iterator by `becomes`, which then steps by `steps`
+module _ {U S I : Type 0} (becomes : U → S → Type 0) (steps : S → Option I → S → Type 0) where
+  -- it gave all its items, of which `P` holds
+  abbrev pub GivesAll : (List I → Type 0) → U → Type 0
+  GivesAll P iter = (it : S) × (items : List I) × becomes iter it × Drains steps it items × P items
+
+  -- it gave items and then one more, and `P` holds of those and this one
+  abbrev pub GivesUpTo : (List I → I → Type 0) → U → Type 0
+  GivesUpTo P iter =
+      (it : S) × (items : List I) × (item : I) × (rest : S) × becomes iter it × YieldsThen steps it items (Some item) rest
+      × P items item
+
+-- the same of what goes into a list
 module _ {U S T : Type 0} (becomes : U → S → Type 0) (steps : S → Option T → S → Type 0) where
   -- all its items went in at the end, in order.
   -- `extend` of 7 by 8, 9: 7, 8, 9.
   abbrev pub TakesAll : U → List T → List T → Type 0
-  TakesAll iter old new = (it : S) × (xs : List T) × becomes iter it × Drains steps it xs × (new ≡ old ++ xs)
+  TakesAll iter old new = GivesAll becomes steps (λ xs. new ≡ old ++ xs) iter
 
   -- its items went in at the end, in order, up to one that did not.
   -- Up to 9: 7, 8.
   abbrev pub TakesUpTo : U → List T → List T → Type 0
-  TakesUpTo iter old new =
-      (it : S) × (xs : List T) × (x : T) × (rest : S) × becomes iter it × YieldsThen steps it xs (Some x) rest
-      × (new ≡ old ++ xs)
+  TakesUpTo iter old new = GivesUpTo becomes steps (λ xs _. new ≡ old ++ xs) iter
 
-  -- its items went in at the end, in order, up to one that was refused.
+  -- its items went in at the end, in order, up to one that was refused for what `refuses` says of so many.
   -- `extend` of 30 items by 5 without memory: two go in, then `OutOfSystemMemory`.
-  abbrev pub TakesUntilRefused : ℕ → U → List T → List T → ArenaError → Type 0
-  TakesUntilRefused limit iter old new error = TakesUpTo iter old new × RefusesOneMore limit (length new) error
+  abbrev pub TakesUntilRefused : (ℕ → ArenaError → Type 0) → U → List T → List T → ArenaError → Type 0
+  TakesUntilRefused refuses iter old new error = TakesUpTo iter old new × refuses (length new) error
 
 -- an iterator yielded these items, and this is what is left of it, unless it ended
 abbrev pub Came : {S T : Type 0} → (S → Option T → S → Type 0) → S → Option S → List T → Type 0

@@ -57,5 +57,5 @@ module _ {N W V : Type 0} where
   abbrev pub lent : N → (W → V) → (N × (W → V)) ⊎ V
   lent name left = inl (name, left)
 
-  pub lent_alike : (name : N) (left right : W → V) → ((last : W) → left last ≡ right last) → lent name left ≡ lent name right
-  lent_alike name left right alike = λ i. lent name (λ last. alike last i)
+  pub lent_alike : {name : N} {left right : W → V} → ((last : W) → left last ≡ right last) → lent name left ≡ lent name right
+  lent_alike {name} {left} {right} alike = λ i. lent name (λ last. alike last i)

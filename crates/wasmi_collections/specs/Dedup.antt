@@ -1,7 +1,7 @@
 -- What a deduplicating arena is, and what its calls say of it: two lists of one length.
 use Rattle.std.specs.Prelude.{◌≡◌, ◌≢◌, ℕ, ◌+◌, ◌<◌, ◌≤◌, ◌==◌, ◌⊎◌, Bool, List, [], ◌∷◌, ◌++◌, length, Option, Some, None, option_map, filter_map, find, position, slice_get, slice_set, IsPermutation}
 use Rattle.std.specs.List.{range_with_len, IsDistinct}
-use Rattle.std.specs.Iterator.{Drains, YieldsThen}
+use Rattle.wasmi_arena.specs.Growth.{GivesAll, GivesUpTo}
 use Rattle.wasmi_arena.specs.Keys.{Keys}
 use Rattle.wasmi_arena.specs.declared.error.ArenaError.{ArenaError}
 use Rattle.wasmi_arena.specs.declared.error.ArenaError.TheVariants.{OutOfSystemMemory, KeyOutOfBounds, NotEnoughKeys, AliasingPairAccess, DuplicateItem}
@@ -121,11 +121,11 @@ module _ {K T : Type 0} (keys : Keys K) where
       module _ {U S : Type 0} (becomes : U → S → Type 0) (steps : S → Option T → S → Type 0) where
         -- all its values have a key afterwards
         abbrev pub TakesAll : U → DedupState T → DedupState T → Type 0
-        TakesAll iter old new =
-            (it : S) × (values : List T) × becomes iter it × Drains steps it values × AllocatesEach old values new
+        TakesAll iter old new = GivesAll becomes steps (λ values. AllocatesEach old values new) iter
 
         -- its values have, up to one that was refused
         abbrev pub TakesUntilRefused : U → DedupState T → ArenaError → Type 0
         TakesUntilRefused iter old error =
-            (it : S) × (values : List T) × (value : T) × (rest : S) × (held : DedupState T) × becomes iter it
-            × YieldsThen steps it values (Some value) rest × AllocatesEach old values held × RefusesValue held value error
+            GivesUpTo becomes steps
+            (λ values value. (held : DedupState T) × AllocatesEach old values held × RefusesValue held value error)
+            iter

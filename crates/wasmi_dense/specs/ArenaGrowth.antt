@@ -1,6 +1,5 @@
 -- What contracts say of calls that put several items into an arena in one vector, one by one.
-use Rattle.std.specs.Prelude.{◌≡◌, ◌⊎◌, ℕ, ◌*◌, ◌^◌, ◌<◌, ◌≤◌, List, length, Option}
-use Rattle.wasmi_arena.specs.Growth.{TakesUpTo}
+use Rattle.std.specs.Prelude.{◌≡◌, ◌⊎◌, ℕ, ◌*◌, ◌^◌, ◌<◌, ◌≤◌}
 use Rattle.wasmi_arena.specs.declared.error.ArenaError.{ArenaError}
 use Rattle.wasmi_arena.specs.declared.error.ArenaError.TheVariants.{OutOfSystemMemory, KeyOutOfBounds, NotEnoughKeys, AliasingPairAccess, DuplicateItem}
 
@@ -17,11 +16,3 @@ RefusesOneMore limit n OutOfSystemMemory = (n < limit) × FillsBlock n
 RefusesOneMore limit n KeyOutOfBounds = ⊥
 RefusesOneMore limit n AliasingPairAccess = ⊥
 RefusesOneMore limit n DuplicateItem = ⊥
-
--- what is made an iterator by `becomes`, which then steps by `steps`: its items went in at the end, in
--- order, up to one that was refused.
--- Five items under four keys: four go in, then `NotEnoughKeys`.
-abbrev pub TakesUntilRefused : {U S T : Type 0} → (U → S → Type 0) → (S → Option T → S → Type 0)
-    → ℕ → U → List T → List T → ArenaError → Type 0
-TakesUntilRefused becomes steps limit iter old new error =
-    TakesUpTo becomes steps iter old new × RefusesOneMore limit (length new) error

@@ -1,6 +1,6 @@
 -- A finite map, seen as the list of its entries. `eq` says which keys are equal.
-use Rattle.std.specs.Prelude.{◌≡◌, Bool, List, [], ◌∷◌, ◌++◌, Option, Some, None}
-use Rattle.std.specs.Iterator.{Drains, YieldsThen}
+use Rattle.std.specs.Prelude.{◌≡◌, Bool, List, [], ◌∷◌, ◌++◌, Option, None}
+use Rattle.wasmi_arena.specs.Growth.{GivesAll, GivesUpTo}
 use Rattle.std.specs.Map.{lookup, update, update_all}
 
 module _ {K V : Type 0} (eq : K → K → Bool) where
@@ -30,12 +30,11 @@ module _ {K V : Type 0} (eq : K → K → Bool) where
       (read : List I → List (K × V)) where
     -- all its items went in, one by one
     abbrev pub TakesAll : U → List (K × V) → List (K × V) → Type 0
-    TakesAll iter old new =
-        (it : S) × (items : List I) × becomes iter it × Drains steps it items × InsertsAll old (read items) new
+    TakesAll iter old new = GivesAll becomes steps (λ items. InsertsAll old (read items) new) iter
 
     -- its items went in, one by one, up to one that was refused, whose key isn't there
     abbrev pub TakesUntilRefused : U → List (K × V) → List (K × V) → Type 0
     TakesUntilRefused iter old new =
-        (it : S) × (items : List I) × (item : I) × (rest : S) × (refused : K × V) × becomes iter it
-        × YieldsThen steps it items (Some item) rest × InsertsAll old (read items) new
-        × (read (item ∷ []) ≡ refused ∷ []) × (value_at new refused.0 ≡ None)
+        GivesUpTo becomes steps
+        (λ items item. (refused : K × V) × InsertsAll old (read items) new × (read (item ∷ []) ≡ refused ∷ []) × (value_at new refused.0 ≡ None))
+        iter

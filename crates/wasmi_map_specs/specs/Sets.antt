@@ -1,6 +1,6 @@
 -- A finite set, seen as the list of its elements. `eq` says which elements are equal.
-use Rattle.std.specs.Prelude.{◌≡◌, Bool, false, cond, List, [], ◌∷◌, ◌++◌, Option, Some, IsTrue}
-use Rattle.std.specs.Iterator.{Drains, YieldsThen}
+use Rattle.std.specs.Prelude.{◌≡◌, Bool, false, cond, List, [], ◌∷◌, ◌++◌, Option, IsTrue}
+use Rattle.wasmi_arena.specs.Growth.{GivesAll, GivesUpTo}
 use Rattle.std.specs.List.{AllZip}
 use Rattle.std.specs.Set.{is_member, IsUnion, ClonesAreEqual}
 
@@ -40,12 +40,11 @@ module _ {T : Type 0} (eq : T → T → Bool) where
       (read : List I → List T) where
     -- all its items went in, one by one
     abbrev pub TakesAll : U → List T → List T → Type 0
-    TakesAll iter old new =
-        (it : S) × (items : List I) × becomes iter it × Drains steps it items × IsUnion eq old (read items) new
+    TakesAll iter old new = GivesAll becomes steps (λ items. IsUnion eq old (read items) new) iter
 
     -- its items went in, one by one, up to one that was refused, which isn't there
     abbrev pub TakesUntilRefused : U → List T → List T → Type 0
     TakesUntilRefused iter old new =
-        (it : S) × (items : List I) × (item : I) × (rest : S) × (refused : T) × becomes iter it
-        × YieldsThen steps it items (Some item) rest × IsUnion eq old (read items) new
-        × (read (item ∷ []) ≡ refused ∷ []) × (is_member eq new refused ≡ false)
+        GivesUpTo becomes steps
+        (λ items item. (refused : T) × IsUnion eq old (read items) new × (read (item ∷ []) ≡ refused ∷ []) × (is_member eq new refused ≡ false))
+        iter

@@ -12,8 +12,8 @@ use Rattle.wasmi_module.proofs.ReadLemmas.{reads-then, reads-byte_then, reads-u3
 first_is : (b number : ℕ) (before mid : List ℕ) → slice_get before 0 ≡ Some number → before ≡ b ∷ mid → b ≡ number
 first_is b number before mid h e = let k = rw e at h in cc
 
-pub reads-section : (b number len : ℕ) (contents before mid next after : List ℕ) → slice_get before 0 ≡ Some number → before ≡ b ∷ mid → Reads (IsU32 len) mid next → next ≡ contents ++ after → length contents ≡ len → Reads (IsSection number contents) before after
-reads-section b number len contents before mid next after is e number_read parts same =
+pub reads-section : {b : ℕ} (number len : ℕ) (contents : List ℕ) {before : List ℕ} (mid next : List ℕ) {after : List ℕ} → slice_get before 0 ≡ Some number → before ≡ b ∷ mid → Reads (IsU32 len) mid next → next ≡ contents ++ after → length contents ≡ len → Reads (IsSection number contents) before after
+reads-section {b} number len contents {before} mid next {after} is e number_read parts same =
     let known = reads-u32_at len (length contents) mid next (sym same) number_read in
     let rest = reads-then (IsU32 (length contents)) (Is contents) mid next after known (reads-is contents next after parts) in
     reads-byte_then (IsU32 (length contents) ⋅ Is contents) b number before mid after (first_is b number before mid is e) e rest

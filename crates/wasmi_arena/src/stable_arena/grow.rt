@@ -5,7 +5,7 @@ ghost use Rattle.std.specs.Mem.{type_size};
 ghost use Rattle.std.specs.Iterator.{IsFinite, IsFiniteIterable, UpTo, size as count};
 ghost use Rattle.wasmi_arena.specs.Geometry.{max_len, room};
 ghost use Rattle.wasmi_arena.specs.Arena.{stable_limit};
-ghost use Rattle.wasmi_arena.specs.Growth.{TakesAll, TakesSome, TakesUntilRefused, AppendsMany};
+ghost use Rattle.wasmi_arena.specs.Growth.{RefusesOneMore, TakesAll, TakesSome, TakesUntilRefused, AppendsMany};
 
 use crate::{ArenaError, ArenaKey, MAX_LEN, StableArena};
 use std::alloc::Allocator;
@@ -70,7 +70,7 @@ impl<Key: ArenaKey, T: Drop, A: Allocator + Clone> StableArena<Key, T, A> {
         requires { IsFiniteIterable U.into_iter_gives U.IntoIter.can_next U.IntoIter.remaining iter }
         ensures ok { IfOk result (TakesAll U.into_iter_gives U.IntoIter.next_gives iter []) }
         ensures err { IfErr result (λ error. (held : List T) × TakesUntilRefused U.into_iter_gives
-            U.IntoIter.next_gives (stable_limit Key.keys) iter [] held error) }
+            U.IntoIter.next_gives (RefusesOneMore (stable_limit Key.keys)) iter [] held error) }
         ensures without_size { type_size T.row ≡ 0 → ((a : A) → A.is_infallible a)
             → IsOkUnless result ArenaError.NotEnoughKeys }
     {

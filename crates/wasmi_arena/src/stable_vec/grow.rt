@@ -5,7 +5,7 @@ ghost use Rattle.std.specs.Mem.{type_size};
 ghost use Rattle.std.specs.Iterator.{IsFinite, IsFiniteIterable, UpTo, size as count};
 ghost use Rattle.std.specs.Option.{ForSome};
 ghost use Rattle.wasmi_arena.specs.Geometry.{size, max_len, fewest, slots, room};
-ghost use Rattle.wasmi_arena.specs.Growth.{Came, TakesAll, TakesSome, TakesUntilRefused};
+ghost use Rattle.wasmi_arena.specs.Growth.{Came, RefusesOneMore, TakesAll, TakesSome, TakesUntilRefused};
 ghost use Rattle.wasmi_arena.specs.Table.{items_in, FillsBucket};
 
 use crate::bucket_table::fill::fill_bucket_from;
@@ -56,8 +56,8 @@ impl<T: Drop, A: Allocator + Clone> StableVec<T, A> {
     pub fn extend<U: IntoIterator<Item = T>>(&mut self, iter: U) -> Result<(), ArenaError>
         requires { IsFiniteIterable U.into_iter_gives U.IntoIter.can_next U.IntoIter.remaining iter }
         ensures ok { OnOk result (TakesAll U.into_iter_gives U.IntoIter.next_gives iter self.old self.new) }
-        ensures err { IfErr result (TakesUntilRefused U.into_iter_gives U.IntoIter.next_gives max_len
-            iter self.old self.new) }
+        ensures err { IfErr result (TakesUntilRefused U.into_iter_gives U.IntoIter.next_gives
+            (RefusesOneMore max_len) iter self.old self.new) }
         ensures without_size { type_size T.row ≡ 0 → ((a : A) → A.is_infallible a)
             → IsOkUnless result ArenaError.NotEnoughKeys }
     {
@@ -79,7 +79,7 @@ impl<T: Drop, A: Allocator + Clone> StableVec<T, A> {
         requires { IsFiniteIterable U.into_iter_gives U.IntoIter.can_next U.IntoIter.remaining iter }
         ensures ok { IfOk result (TakesAll U.into_iter_gives U.IntoIter.next_gives iter []) }
         ensures err { IfErr result (λ error. (held : List T)
-            × TakesUntilRefused U.into_iter_gives U.IntoIter.next_gives max_len iter [] held error) }
+            × TakesUntilRefused U.into_iter_gives U.IntoIter.next_gives (RefusesOneMore max_len) iter [] held error) }
         ensures without_size { type_size T.row ≡ 0 → ((a : A) → A.is_infallible a)
             → IsOkUnless result ArenaError.NotEnoughKeys }
     {

@@ -2,9 +2,9 @@
 ghost use Rattle.std.specs.Prelude.{◌≡◌, ℕ, ◌+◌, ◌<◌, ◌≤◌, ◌↔◌, ◌⊎◌, List, [], ◌∷◌, ◌++◌, length, IsOk, IfOk, OnOk, IfErr, OnErr, IsErrOf, IsOkUnless};
 ghost use Rattle.std.specs.List.{All, AllZip};
 ghost use Rattle.std.specs.Iterator.{IsFiniteIterable};
-ghost use Rattle.wasmi_arena.specs.Growth.{TakesAll, AppendsMany};
+ghost use Rattle.wasmi_arena.specs.Growth.{TakesAll, TakesUntilRefused, AppendsMany};
 ghost use Rattle.wasmi_dense.specs.Arena.{state_of};
-ghost use Rattle.wasmi_dense.specs.ArenaGrowth.{FillsBlock, TakesUntilRefused};
+ghost use Rattle.wasmi_dense.specs.ArenaGrowth.{FillsBlock, RefusesOneMore};
 
 use super::Arena;
 use core::mem;
@@ -122,7 +122,7 @@ impl<Key: ArenaKey, T: Drop, A: Allocator> Arena<Key, T, A> {
         requires { IsFiniteIterable U.into_iter_gives U.IntoIter.can_next U.IntoIter.remaining iter }
         ensures ok { IfOk result (λ arena. TakesAll U.into_iter_gives U.IntoIter.next_gives iter [] arena.items) }
         ensures err { IfErr result (λ error. (held : List T) × TakesUntilRefused U.into_iter_gives
-            U.IntoIter.next_gives Key.keys.count iter [] held error) }
+            U.IntoIter.next_gives (RefusesOneMore Key.keys.count) iter [] held error) }
     {
         let mut arena = Arena::new(alloc);
         for item in iter {

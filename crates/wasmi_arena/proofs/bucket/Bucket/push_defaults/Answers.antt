@@ -10,7 +10,7 @@ loop-filled-preserved g c =
       pointer = inv.pointer;
       capacity = inv.capacity;
       taken = search rules;
-      items = rw c.write.ensures (many_next g.T.Default.is_default _ _ _ _ inv.items c.default.ensures);
+      items = rw c.write.ensures (many_next g.T.Default.is_default _ inv.items c.default.ensures);
       counted = rw c.write.ensures (omega (arith, inv.counted, length-append c.loop-filled.self-inside.slots.items (c.default.result ∷ [])));
       free = rw c.write.ensures (omega (arith, inv.free, c.requires.free));
     }

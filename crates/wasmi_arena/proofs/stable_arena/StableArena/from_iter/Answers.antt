@@ -13,7 +13,7 @@ returns-in_err-alloc-clause-err g c =
     rw (failed.1, failed.2) (
       c.loop-item.arena,
       (
-        taken_up_to g.U.IntoIterator.into_iter_gives g.U.IntoIter.Iterator.next_gives g.U.IntoIter.Iterator.can_next g.U.IntoIter.Iterator.remaining _ _ _ _ c.loop-item.invariant _ _ c.in-Some.ensures.steps,
+        taken_up_to g.U.IntoIterator.into_iter_gives g.U.IntoIter.Iterator.next_gives g.U.IntoIter.Iterator.can_next g.U.IntoIter.Iterator.remaining c.loop-item.invariant c.in-Some.ensures.steps,
         refuses_one_more (stable_limit g.Key.ArenaKey.keys) (length c.loop-item.arena) c.in_err-alloc.field-0.0 refused.errors refused.no_key refused.memory,
       ),
     )
@@ -29,9 +29,9 @@ returns-in_err-alloc-clause-without_size g c = λ none infallible.
 pub loop-item-preserved : goal.loop-item-preserved
 loop-item-preserved g c =
     let more = c.in-Some-fill_last_from.ensures in
-    taken_more g.U.IntoIterator.into_iter_gives g.U.IntoIter.Iterator.next_gives g.U.IntoIter.Iterator.can_next g.U.IntoIter.Iterator.remaining _ _ _ _ c.loop-item.invariant _ _ c.in-Some.ensures.steps _ _ c.in_ok-alloc.ensures.ok
+    taken_more g.U.IntoIterator.into_iter_gives g.U.IntoIter.Iterator.next_gives g.U.IntoIter.Iterator.can_next g.U.IntoIter.Iterator.remaining c.loop-item.invariant c.in-Some.ensures.steps c.in_ok-alloc.ensures.ok
     c.in-Some-fill_last_from.rest more.items more.goes.0 more.goes.1.0
 
 pub returns-in-None-clause-ok : goal.returns-in-None-clause-ok
 returns-in-None-clause-ok g c =
-    taken_last g.U.IntoIterator.into_iter_gives g.U.IntoIter.Iterator.next_gives g.U.IntoIter.Iterator.can_next g.U.IntoIter.Iterator.remaining _ _ _ _ c.loop-item.invariant _ _ c.in-Some.ensures.steps _ _ c.in_ok-alloc.ensures.ok c.in-None.ensures.items
+    taken_last g.U.IntoIterator.into_iter_gives g.U.IntoIter.Iterator.next_gives g.U.IntoIter.Iterator.can_next g.U.IntoIter.Iterator.remaining c.loop-item.invariant c.in-Some.ensures.steps c.in_ok-alloc.ensures.ok c.in-None.ensures.items

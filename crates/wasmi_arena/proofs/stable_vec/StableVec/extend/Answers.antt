@@ -17,9 +17,9 @@ returns-in_err-push-clause-without_size g c = λ none infallible.
 pub loop-item-preserved : goal.loop-item-preserved
 loop-item-preserved g c =
     let more = c.in-Some-fill_last_from.ensures in
-    taken_more g.U.IntoIterator.into_iter_gives g.U.IntoIter.Iterator.next_gives g.U.IntoIter.Iterator.can_next g.U.IntoIter.Iterator.remaining _ _ _ _ c.loop-item.invariant _ _ c.in-Some.ensures.steps _ _ c.in_ok-push.ensures.ok
+    taken_more g.U.IntoIterator.into_iter_gives g.U.IntoIter.Iterator.next_gives g.U.IntoIter.Iterator.can_next g.U.IntoIter.Iterator.remaining c.loop-item.invariant c.in-Some.ensures.steps c.in_ok-push.ensures.ok
     c.in-Some-fill_last_from.rest more.items more.goes.0 more.goes.1.0
 
 pub returns-in-None-clause-ok : goal.returns-in-None-clause-ok
 returns-in-None-clause-ok g c =
-    taken_last g.U.IntoIterator.into_iter_gives g.U.IntoIter.Iterator.next_gives g.U.IntoIter.Iterator.can_next g.U.IntoIter.Iterator.remaining _ _ _ _ c.loop-item.invariant _ _ c.in-Some.ensures.steps _ _ c.in_ok-push.ensures.ok c.in-None.ensures.items
+    taken_last g.U.IntoIterator.into_iter_gives g.U.IntoIter.Iterator.next_gives g.U.IntoIter.Iterator.can_next g.U.IntoIter.Iterator.remaining c.loop-item.invariant c.in-Some.ensures.steps c.in_ok-push.ensures.ok c.in-None.ensures.items

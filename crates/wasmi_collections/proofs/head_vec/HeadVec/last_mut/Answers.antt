@@ -8,6 +8,6 @@ pub returns-in-Some : goal.returns-in-Some
 returns-in-Some g c =
     let rest = c.self.inside.rest.items in let head = c.in-Some.head in
     rw (← c.self.view_is, c.in-Some.is) (
-      lent_alike _ _ _ (λ last. ap (λ items. record { items = items; room = (state_of (Some head) c.self.inside.rest).room }) (with_last-append rest head last)),
+      lent_alike (λ last. ap (λ items. record { items = items; room = (state_of (Some head) c.self.inside.rest).room }) (with_last-append rest head last)),
       record { writes_back = tt; value = sym (last_item-append rest head) },
     )

@@ -10,10 +10,7 @@ returns-in_err-insert-clause-err g c =
       c.loop-key.yielded,
       (c.in-Some.key, c.in-Some.value),
       c.next.new.self,
-      (c.in-Some.key.now, c.in-Some.value.now),
       c.into_iter-key-iterator.ensures.into_iter_gives,
       (c.loop-key.key-iterator, c.loop-key.yielded_by, c.in-Some.ensures.steps),
-      c.loop-key.invariant.2,
-      refl,
-      c.in_err-insert.ensures.absent,
+      ((c.in-Some.key.now, c.in-Some.value.now), c.loop-key.invariant.2, refl, c.in_err-insert.ensures.absent),
     )

@@ -10,10 +10,7 @@ returns-in_err-insert-clause-err g c =
       c.loop-value.yielded,
       c.in-Some.value,
       c.next.new.self,
-      c.in-Some.value.now,
       c.into_iter-value-iterator.ensures.into_iter_gives,
       (c.loop-value.value-iterator, c.loop-value.yielded_by, c.in-Some.ensures.steps),
-      c.loop-value.invariant.2,
-      refl,
-      c.in_err-insert.ensures.absent,
+      (c.in-Some.value.now, c.loop-value.invariant.2, refl, c.in_err-insert.ensures.absent),
     )

@@ -8,5 +8,5 @@ returns-then-byte-limit-clause-number t c =
 
 pub returns-clause-number : goal.returns-clause-number
 returns-clause-number t c =
-    unsigned-more c.args.limit c.in_ok-byte.field-0 c.in_ok-high.high _ _ c.byte.new.self _ c.in_ok-byte.ensures
+    unsigned-more c.args.limit c.in_ok-byte.field-0 c.in_ok-high.high c.byte.new.self c.in_ok-byte.ensures
     (omega arith) (omega arith) (omega arith) (omega arith) c.in_ok-high.ensures.number

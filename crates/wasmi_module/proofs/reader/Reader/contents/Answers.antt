@@ -4,5 +4,5 @@ use Rattle.wasmi_module.proofs.reader.Reader.contents.Goals as goal
 
 pub returns-clause-found : goal.returns-clause-found
 returns-clause-found c =
-    reads-section _ c.args.number c.in_ok-len.len c.in_ok-contents.contents _ c.byte.new.self c.u32.new.self _
+    reads-section c.args.number c.in_ok-len.len c.in_ok-contents.contents c.byte.new.self c.u32.new.self
     (c.if-not-is_next.ensures refl) c.in_ok-byte.ensures c.in_ok-len.ensures c.in_ok-contents.ensures.0 c.in_ok-contents.ensures.1

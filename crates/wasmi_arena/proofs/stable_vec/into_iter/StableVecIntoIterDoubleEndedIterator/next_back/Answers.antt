@@ -8,26 +8,26 @@ use Rattle.wasmi_arena.proofs.stable_vec.into_iter.StableVecIntoIterDoubleEndedI
 
 pub overflow_sub-self : goal.overflow_sub-self
 overflow_sub-self g c =
-    rw c.len.ensures (last_taken_counted _ _ _ _ _ _ (sym c.in-Some-Some.field-0-is) _ c.self.invariant _ c.into_items-items.ensures c.in-Some-Some.ensures.steps)
+    rw c.len.ensures (last_taken_counted _ (sym c.in-Some-Some.field-0-is) c.self.invariant c.into_items-items.ensures c.in-Some-Some.ensures.steps)
 
 pub invariant_of-self-in-Some-Some : goal.invariant_of-self-in-Some-Some
 invariant_of-self-in-Some-Some g c =
-    last_taken_ahead _ _ _ _ _ _ (sym c.in-Some-Some.field-0-is) _ c.self.invariant _ c.into_items-items.ensures c.in-Some-Some.ensures.steps _ _ c.next_back-item.ensures.steps _ c.len.ensures
+    last_taken_ahead _ (sym c.in-Some-Some.field-0-is) c.self.invariant c.into_items-items.ensures c.in-Some-Some.ensures.steps _ c.next_back-item.ensures.steps _ c.len.ensures
 
 pub returns-in-Some-Some-clause-steps : goal.returns-in-Some-Some-clause-steps
 returns-in-Some-Some-clause-steps g c =
-    rw (← c.self.view_is) (last_taken _ _ _ _ _ _ (sym c.in-Some-Some.field-0-is) _ c.self.invariant _ c.into_items-items.ensures c.in-Some-Some.ensures.steps _ _ c.next_back-item.ensures.steps c.in_default.ensures.0)
+    rw (← c.self.view_is) (last_taken _ (sym c.in-Some-Some.field-0-is) c.self.invariant c.into_items-items.ensures c.in-Some-Some.ensures.steps _ _ c.next_back-item.ensures.steps c.in_default.ensures.0)
 
 pub returns-in-Some-Some-clause-goes : goal.returns-in-Some-Some-clause-goes
 returns-in-Some-Some-clause-goes g c = progress_last (λ x. x) all_left _ (λ _. tt) _ _ _ (returns-in-Some-Some-clause-steps g c)
 
 pub invariant_of-self-in-None : goal.invariant_of-self-in-None
 invariant_of-self-in-None g c =
-    taken_before_ahead _ _ _ _ _ _ _ c.self.invariant (ap array_into_iter_items c.in-None.ensures.steps.1) _ c.in_default.ensures.1 c.last_of-in-None.ensures
+    taken_before_ahead _ _ c.self.invariant (ap array_into_iter_items c.in-None.ensures.steps.1) _ c.in_default.ensures.1 c.last_of-in-None.ensures
 
 pub returns-in-None-clause-steps : goal.returns-in-None-clause-steps
 returns-in-None-clause-steps g c =
-    rw (← c.self.view_is) (taken_before _ _ _ _ _ _ _ c.self.invariant (ap array_into_iter_items c.in-None.ensures.steps.1) _ c.in_default.ensures.0 c.in_default.ensures.1 c.in-None.ensures.steps.0 c.last_of-in-None.ensures)
+    rw (← c.self.view_is) (taken_before _ _ c.self.invariant (ap array_into_iter_items c.in-None.ensures.steps.1) _ c.in_default.ensures.0 c.in_default.ensures.1 c.in-None.ensures.steps.0 c.last_of-in-None.ensures)
 
 pub returns-in-None-clause-goes : goal.returns-in-None-clause-goes
 returns-in-None-clause-goes g c = progress_last (λ x. x) all_left _ (λ _. tt) _ _ _ (returns-in-None-clause-steps g c)

@@ -6,22 +6,22 @@ use Rattle.wasmi_arena.proofs.stable_vec.into_iter.StableVecIntoIterIterator.nex
 
 pub invariant_of-self-in-Some-Some : goal.invariant_of-self-in-Some-Some
 invariant_of-self-in-Some-Some g c =
-    first_taken_ahead _ _ _ _ _ _ (sym c.in-Some-Some.field-0-is) _ c.self.invariant _ c.into_items-items.ensures c.in-Some-Some.ensures.steps _ _ c.next-item.ensures.steps _ c.len.ensures
+    first_taken_ahead _ (sym c.in-Some-Some.field-0-is) c.self.invariant c.into_items-items.ensures c.in-Some-Some.ensures.steps _ c.next-item.ensures.steps _ c.len.ensures
 
 pub returns-in-Some-Some-clause-steps : goal.returns-in-Some-Some-clause-steps
 returns-in-Some-Some-clause-steps g c =
-    rw (← c.self.view_is) (first_taken _ _ _ _ _ _ (sym c.in-Some-Some.field-0-is) _ c.self.invariant _ c.into_items-items.ensures c.in-Some-Some.ensures.steps _ _ c.next-item.ensures.steps c.in_default.ensures.0)
+    rw (← c.self.view_is) (first_taken _ (sym c.in-Some-Some.field-0-is) c.self.invariant c.into_items-items.ensures c.in-Some-Some.ensures.steps _ _ c.next-item.ensures.steps c.in_default.ensures.0)
 
 pub returns-in-Some-Some-clause-goes : goal.returns-in-Some-Some-clause-goes
 returns-in-Some-Some-clause-goes g c = progress_first (λ x. x) all_left _ (λ _. tt) _ _ _ (returns-in-Some-Some-clause-steps g c)
 
 pub invariant_of-self-in-None : goal.invariant_of-self-in-None
 invariant_of-self-in-None g c =
-    taken_behind_ahead _ _ _ _ _ _ _ c.self.invariant (ap array_into_iter_items c.in-None.ensures.steps.1) _ c.in_default.ensures.1 c.first_of-in-None.ensures
+    taken_behind_ahead _ _ c.self.invariant (ap array_into_iter_items c.in-None.ensures.steps.1) _ c.in_default.ensures.1 c.first_of-in-None.ensures
 
 pub returns-in-None-clause-steps : goal.returns-in-None-clause-steps
 returns-in-None-clause-steps g c =
-    rw (← c.self.view_is) (taken_behind _ _ _ _ _ _ _ c.self.invariant (ap array_into_iter_items c.in-None.ensures.steps.1) _ c.in_default.ensures.0 c.in_default.ensures.1 c.in-None.ensures.steps.0 c.first_of-in-None.ensures)
+    rw (← c.self.view_is) (taken_behind _ _ c.self.invariant (ap array_into_iter_items c.in-None.ensures.steps.1) _ c.in_default.ensures.0 c.in_default.ensures.1 c.in-None.ensures.steps.0 c.first_of-in-None.ensures)
 
 pub returns-in-None-clause-goes : goal.returns-in-None-clause-goes
 returns-in-None-clause-goes g c = progress_first (λ x. x) all_left _ (λ _. tt) _ _ _ (returns-in-None-clause-steps g c)

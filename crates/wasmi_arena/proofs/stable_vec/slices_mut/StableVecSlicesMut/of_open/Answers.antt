@@ -7,7 +7,7 @@ cut-open-requires g c = rw c.requires.open (HasBuckets-open _ _ c.requires.bucke
 
 pub invariant_of-result : goal.invariant_of-result
 invariant_of-result g c =
-    let cut = c.cut-open.ensures in (cut.counted, (parts_lent _ _ _ _ c.requires.buckets cut.buckets (cut.counted ∙ c.requires.open)).0)
+    let cut = c.cut-open.ensures in (cut.counted, (parts_lent _ _ c.requires.buckets cut.buckets (cut.counted ∙ c.requires.open)).0)
 
 pub returns-clause-parts : goal.returns-clause-parts
-returns-clause-parts g c = let cut = c.cut-open.ensures in (parts_lent _ _ _ _ c.requires.buckets cut.buckets (cut.counted ∙ c.requires.open)).1
+returns-clause-parts g c = let cut = c.cut-open.ensures in (parts_lent _ _ c.requires.buckets cut.buckets (cut.counted ∙ c.requires.open)).1
