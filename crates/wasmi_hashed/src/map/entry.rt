@@ -37,7 +37,7 @@ pub enum Entry<'a, K: Eq + Hash, V, S: BuildHasher = FixedState, A: Allocator = 
 #[derive(Drop)]
 pub struct OccupiedEntry<'a, K: Eq + Hash, V, S: BuildHasher = FixedState, A: Allocator = Global> {
     entry: hash_map::OccupiedEntry<'a, K, V, S, A>,
-    // proof: without bytes; it lets callers use the place up (docs/DECISIONS.md).
+    // proof: without bytes; it lets callers use the place up (docs/LIMITS.md).
     lent: PhantomData<&'a ()>,
 }
 
@@ -45,7 +45,7 @@ pub struct OccupiedEntry<'a, K: Eq + Hash, V, S: BuildHasher = FixedState, A: Al
 #[derive(Drop)]
 pub struct VacantEntry<'a, K: Eq + Hash, V, S: BuildHasher = FixedState, A: Allocator = Global> {
     entry: hash_map::VacantEntry<'a, K, V, S, A>,
-    // proof: without bytes; it lets callers use the place up (docs/DECISIONS.md).
+    // proof: without bytes; it lets callers use the place up (docs/LIMITS.md).
     lent: PhantomData<&'a ()>,
 }
 

@@ -37,7 +37,7 @@ pub enum Entry<'a, K: Hash + Ord, V, A: Allocator = Global> {
 #[derive(Drop)]
 pub struct OccupiedEntry<'a, K: Hash + Ord, V, A: Allocator = Global> {
     entry: btree_map::OccupiedEntry<'a, K, V, A>,
-    // proof: without bytes; it lets callers use the place up (docs/DECISIONS.md).
+    // proof: without bytes; it lets callers use the place up (docs/LIMITS.md).
     lent: PhantomData<&'a ()>,
 }
 
