@@ -17,9 +17,9 @@ const READ_LEN: usize = 8192;
 
 /// Reads a script to its end, and writes the replies to it and nothing else.
 ///
-/// Time and memory are linear in the input. Nothing is written before the whole script is answered;
-/// after `WriteFailed` any part of the replies may be. A read that fails isn't tried again, and an
-/// input that hasn't ended after 2^40 reads is `ReadFailed`.
+/// Expected time and memory are linear in the input and the replies. Nothing is written before the whole
+/// script is answered; after `WriteFailed` any part of the replies may be. A read that fails isn't tried
+/// again, and an input that hasn't ended after 2^40 reads is `ReadFailed`.
 pub fn run<A: Allocator + Copy, R: Read, W: Write>(
     alloc: A,
     reader: &mut R,

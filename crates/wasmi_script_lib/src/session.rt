@@ -14,9 +14,7 @@ use wasmi_arena::ArenaError;
 /// The replies to all lines of a script, in order, each ended by a line feed.
 ///
 /// Each line is read once. A text of `a` or `d` is copied once, a new one of `d` once more, and a new one of
-/// `i` once. Expected time is linear in the text and the replies, but for `i`: a binary search finds a
-/// text of it, and a new one takes some √n steps more at n texts interned before. The only error is running
-/// out of memory.
+/// `i` once. Expected time is linear in the text and the replies. The only error is running out of memory.
 pub fn answer<A: Allocator + Copy>(alloc: A, text: &str) -> Result<String<A>, ArenaError>
     ensures output { IfOk result (λ output. string_bytes output ≡ output_of text.now) }
     ensures errors { IsOkUnless result ArenaError.OutOfSystemMemory }
