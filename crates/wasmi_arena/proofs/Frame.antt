@@ -1,4 +1,4 @@
--- What the proofs of `src/block` share. Assumes `Logic`.
+-- What the proofs of `src/raw/block` share. Assumes `Logic`.
 --     SlotsRow, PtrRow      the types of `Slots` and `BlockPtr`.        ptr_vals, ptr_tells      a pointer's machine value
 --     opens_slots, closes_slots      a `&mut Slots` is opened to its three runs of slots, and closed at others
 --     says_two      an `ensures` of two facts

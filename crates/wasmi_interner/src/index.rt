@@ -60,7 +60,8 @@ impl<A: Allocator> Index<A> {
 
     // The symbol of a text, or as an error the place where the text belongs. One step for each comparison.
     //
-    // Where an empty slot is met for its hash, one comparison tells that it isn't the first text either.
+    // Where an empty slot is met for its hash, the text isn't there. The first text is compared all the same, so
+    // that a step is taken wherever there are texts.
     #[inline]
     pub(crate) fn find(&self, sought: &Sought<'_, A>, steps: &mut Steps) -> Result<Sym, Place>
         requires indexed { IsIndexOf sought.now.texts.now self.now.slots self.now.rest.entries }

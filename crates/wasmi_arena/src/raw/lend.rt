@@ -12,6 +12,7 @@ use std::marker::PhantomData;
 impl<T, A: Allocator> StableVec<T, A> {
     ghost use Rattle.wasmi_arena.specs.VecLend.{lends_items};
 
+    // The right to write all items.
     pub(crate) fn lend<'a>(&'a mut self) -> ItemsLoan<'a, T, A>
         ensures* writes_back { sem 𝓛 (lends_items T.row A.row A.Allocator self.entry result.whole) }
         ensures one_name { result.name ≡ result.whole }
@@ -27,6 +28,7 @@ impl<T, A: Allocator> StableVec<T, A> {
 impl<Key: ArenaKey, T, A: Allocator> StableArena<Key, T, A> {
     ghost use Rattle.wasmi_arena.specs.ArenaLend.{lends_items};
 
+    // The right to write all items.
     pub(crate) fn lend<'a>(&'a mut self) -> ItemsLoan<'a, T, A>
         ensures* writes_back { sem 𝓛 (lends_items Key.row T.row A.row Key.ArenaKey A.Allocator self.entry result.whole) }
         ensures one_name { result.name ≡ result.whole }
