@@ -76,6 +76,7 @@ pub(crate) fn buckets_for(len: usize) -> usize
 }
 
 // How many buckets the items before an index need, which has this place.
+// proof: the contract alone reads the index.
 pub(crate) fn buckets_before(_index: usize, place: (usize, usize)) -> usize
     requires { IsPlace _index place.0 place.1 }
     ensures { result ≡ fewest _index }
@@ -84,6 +85,7 @@ pub(crate) fn buckets_before(_index: usize, place: (usize, usize)) -> usize
 }
 
 // The bucket and the slot of one index, and those of another.
+// proof: a call of its own, so that only the call above it is proved by hand.
 pub(crate) fn places(first: usize, second: usize) -> (usize, usize, usize, usize)
     requires first { first < max_len }
     requires second { second < max_len }

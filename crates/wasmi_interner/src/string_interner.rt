@@ -187,6 +187,7 @@ impl<A: Allocator> StringInterner<A> {
             iter self.old self.new) }
     {
         for text in iter {
+            // proof: by its one clause, which the contract here repeats.
             self.get_or_intern_with_hint(text, InternHint::None)?;
         }
         Ok(())

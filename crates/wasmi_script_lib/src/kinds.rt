@@ -45,6 +45,7 @@ impl<A: Allocator> Kinds<A> {
         ensures value { result ≡ length self.now }
         ensures distinct { AreDistinctTexts self.now }
     {
+        // proof: distinct values are distinct texts.
         texts_handed_in::<usize, A>();
         self.texts.len()
     }
@@ -66,9 +67,10 @@ impl<A: Allocator> Kinds<A> {
         ensures errors { IsOkUnless result ArenaError.OutOfSystemMemory }
         ensures err { OnErr result (self.new ≡ self.old) }
     {
+        // proof: a text that is there is read, and a new one goes to the end. There are fewer texts than keys.
         texts_handed_in::<usize, A>();
         symbols_of_distinct_texts();
-        self.texts.len();
+        let _ = self.texts.len();
         self.texts.alloc_str(self.alloc, kind)
     }
 
@@ -86,10 +88,11 @@ impl<A: Allocator> Kinds<A> {
         ensures same { slice_index_or self.old number [] ≡ kind.now → IsOk result }
         ensures err { OnErr result (self.new ≡ self.old) }
     {
+        // proof: the texts are distinct, and one takes the place of another.
         texts_handed_in::<usize, A>();
         symbols_of_distinct_texts();
         strings_by_bytes::<A>();
-        self.texts.len();
+        let _ = self.texts.len();
         match self.texts.key_of_str(kind) {
             Some(there) if there == number => Ok(()),
             Some(_) => Err(ArenaError::DuplicateItem),

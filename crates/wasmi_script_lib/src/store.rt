@@ -216,6 +216,7 @@ impl<A: Allocator> EntityStore<A> {
 }
 
 // The symbol of a name, which goes to the end of the names if it is new.
+// proof: a call of its own, with one clause for names that are there and new ones.
 fn intern<A: Allocator + Clone>(
     names: &mut StringInterner<A>,
     name: &str,

@@ -114,6 +114,7 @@ impl<A: Allocator> Texts<A> {
             (reply_to (with_texts self.old) (request.Dedup text.now))) }
         ensures errors { IsOkUnless result ArenaError.OutOfSystemMemory }
     {
+        // proof: a new text goes to the end.
         texts_handed_in::<usize, A>();
         match self.dedup.alloc_str(alloc, text) {
             Ok(key) => Ok(writeln!(replies, "key {key}")?),

@@ -46,6 +46,7 @@ impl<Key: ArenaKey, T, A: Allocator> StableArena<Key, T, A> {
     }
 
     // The arena itself, with its length and the numbers of the two keys.
+    // proof: a call of its own, so that only the call above it is proved by hand.
     fn asked(&mut self, keys: [Key; 2]) -> (&mut Self, usize, usize, usize)
         ensures same { result.0.ghost_name ≡ self.entry.ghost_name }
         ensures arena { result.0.now ≡ self.old }

@@ -73,6 +73,7 @@ impl<T, A: Allocator> StableVec<T, A> {
     }
 
     // The vector itself, with its length and the two indices.
+    // proof: a call of its own, so that only the call above it is proved by hand.
     fn asked(&mut self, indices: [usize; 2]) -> (&mut Self, usize, usize, usize)
         ensures same { result.0.ghost_name ≡ self.entry.ghost_name }
         ensures vec { result.0.now ≡ self.old }

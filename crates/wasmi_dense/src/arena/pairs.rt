@@ -41,6 +41,7 @@ fn checked_pair<T>(
 }
 
 // The numbers of two keys.
+// proof: a call of its own, so that only the call above it is proved by hand.
 fn asked<Key: ArenaKey>(keys: [Key; 2]) -> (usize, usize)
     ensures { AreNumbers Key.keys.number keys result.0 result.1 }
 {
@@ -50,6 +51,7 @@ fn asked<Key: ArenaKey>(keys: [Key; 2]) -> (usize, usize)
 
 impl<Key: ArenaKey, T, A: Allocator> Arena<Key, T, A> {
     // All items.
+    // proof: a call of its own, so that only the call above it is proved by hand.
     fn items_mut(&mut self) -> &mut [T]
         ensures* writes_back { sem 𝓛 (lends_all Key.row T.row A.row Key.ArenaKey A.Allocator self.entry result.ghost_name) }
         ensures items { result.now ≡ self.old.items }

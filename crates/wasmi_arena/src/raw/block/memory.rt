@@ -11,6 +11,7 @@ use std::marker::PhantomData;
 use std::mem::{align_of, size_of};
 
 /// The parts of a block that isn't there, for items without a size. `None` where items have one.
+// proof: the contract alone reads the allocator.
 pub(crate) fn without_block<T, A: Allocator>(
     _alloc: &A,
     slots: usize,
