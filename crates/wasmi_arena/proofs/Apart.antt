@@ -2,15 +2,13 @@
 use Rattle.std.proofs.Common.{◌≡◌, ◌≢◌, ℕ, suc, ◌+◌, ◌-◌, ◌<◌, ◌≤◌, List, [], ◌++◌, length, get_or, set, Option, Some, None, ◌∙◌, ap, subst, inl, inr, refl, sym, add-one, arith}
 use Rattle.std.proofs.lemmas.Bool.{cases_lt}
 use Rattle.std.proofs.lemmas.List.{get_or-set_other, length-set}
+use Rattle.std.proofs.lemmas.Option.{same_Some}
 use Rattle.wasmi_arena.specs.Bucket.{Bucket, bucket}
 use Rattle.wasmi_arena.specs.Geometry.{size, start, max_len, IsPlace, IsFewest, fewest, room}
 use Rattle.wasmi_arena.specs.Table.{items_of, bucket_filled, IsLaidOut}
 use Rattle.wasmi_arena.specs.inner.Apart.{AreOpenApart}
 use Rattle.wasmi_arena.proofs.Doubling.{size_pos, start_mono, start_below, fewest_is, fewest_is_least, fewest_of_place, place-next}
 use Rattle.wasmi_arena.proofs.LaidOut.{place-full, items_of-open_next_with, IsLaidOut-open_next_with}
-
-some_is : {A : Type 0} (a b : A) → Some a ≡ Some b → a ≡ b
-some_is a b same = cc
 
 -- more items need no fewer buckets
 pub fewest_mono : (n m : ℕ) → n ≤ m → m ≤ max_len → fewest n ≤ fewest m
@@ -82,7 +80,7 @@ module _ {T : Type 0} {buckets : List (Option (Bucket T))} where
       apart_first = all.empty (fewest n) (omega arith) (omega (arith, fewest_next n 1 (omega arith) none (omega arith) (omega (arith, size_pos (fewest n))), fewest_mono (n + 1) m (omega arith) few))
 
       pub apart_taken : {b : ℕ} {taken : Bucket T} → b ≡ fewest n → get_or buckets b None ≡ Some taken → taken ≡ bucket [] (size (fewest n))
-      apart_taken {b} {taken} is read = some_is taken (bucket [] (size (fewest n))) (sym read ∙ (ap (λ i. get_or buckets i None) is ∙ apart_first))
+      apart_taken {b} {taken} is read = same_Some taken (bucket [] (size (fewest n))) (sym read ∙ (ap (λ i. get_or buckets i None) is ∙ apart_first))
 
       pub apart_rest : (filled : ℕ) → 0 < filled → filled ≤ size (fewest n) → AreOpenApart (set buckets (fewest n) None) (fewest (n + filled)) (fewest m)
       apart_rest filled some fits = rw (fewest_next n filled (omega arith) none some fits) (apart_moved (fewest n) (fewest m) all)

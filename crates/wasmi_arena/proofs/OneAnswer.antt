@@ -1,6 +1,7 @@
 -- Two arenas of the same items answer the same commands alike.
 use Rattle.std.proofs.Common.{◌≡◌, ◌≢◌, ℕ, suc, ◌+◌, ◌<◌, ◌≤◌, ◌↔◌, ◌⊎◌, inl, inr, List, [], ◌∷◌, length, take, refl, sym, ap, subst, arith, length-append, Bool, true, false, Some, IsTrue}
 use Rattle.std.proofs.Math.ListN.{length-set}
+use Rattle.std.proofs.lemmas.Bool.Decides.{same_from_decides}
 use Rattle.std.proofs.lemmas.List.Edits.{length-swap}
 use Rattle.std.proofs.lemmas.Option.{slice_get_within}
 use Rattle.wasmi_arena.specs.Geometry.{max_len}
@@ -11,13 +12,6 @@ use Rattle.wasmi_arena.specs.declared.run.ArenaCommand.{ArenaCommand}
 use Rattle.wasmi_arena.specs.declared.run.ArenaCommand.TheVariants.{Alloc, Has, Put, Swap}
 use Rattle.wasmi_arena.specs.declared.run.ArenaReply.{ArenaReply}
 use Rattle.wasmi_arena.specs.declared.run.ArenaReply.TheVariants.{Key, Has as HasReply, Old, Done, Refused}
-
--- two tests of one fact are one test
-same_test : {P : Type 0} (f g : Bool) → (IsTrue f ↔ P) → (IsTrue g ↔ P) → f ≡ g
-same_test true true p q = refl
-same_test false false p q = refl
-same_test true false p q = let is = q.1 (p.0 refl) in cc
-same_test false true p q = let is = p.1 (q.0 refl) in cc
 
 -- what one step has, and the other has too: the reply, and the items afterwards
 module _ {K T : Type 0} (keys : Keys K) (L M : ℕ) (a b c d : ArenaState T) (same : a.items ≡ b.items) where
@@ -46,7 +40,7 @@ module _ {K T : Type 0} (keys : Keys K) (L M : ℕ) (a b c d : ArenaState T) (sa
 
   has_alike : (k : K) (found : Bool) (y : ArenaReply K T) → ArenaStep keys L a (Has k) (HasReply found) c → ArenaStep keys M b (Has k) y d → Alike (HasReply found) y
   has_alike k found (HasReply other) p q =
-      let test : found ≡ other = same_test found other p.0 (subst (λ (items : List T). IsTrue other ↔ (keys.number k < length items)) (sym same) q.0) in
+      let test : found ≡ other = same_from_decides found other p.0 (subst (λ (items : List T). IsTrue other ↔ (keys.number k < length items)) (sym same) q.0) in
       let c_is = p.1.0 in let d_is = q.1.0 in (cc, cc)
   has_alike k found y p q = absurd q
 

@@ -2,7 +2,8 @@
 use Rattle.std.proofs.Common.{All, ◌≡◌, ◌≢◌, ℕ, zero, suc, ◌+◌, ◌<◌, ◌≤◌, ◌==◌, Bool, true, false, cond, List, [], ◌∷◌, ◌++◌, length, map, Option, Some, None, IfSome, IfOk, OnErr, Result, Ok, Err, option_map, position, get_or, slice_get, inl, inr, refl, sym, ap, subst, ◌∙◌, is_some, true≢false, arith}
 use Rattle.std.specs.Cmp.{IsEquivalence}
 use Rattle.std.specs.List.{AllByRecursion, IsDistinct, position_from}
-use Rattle.std.proofs.lemmas.Bool.Decides.{Decides-eqb}
+use Rattle.std.proofs.lemmas.Bool.{false_from_ne_true}
+use Rattle.std.proofs.lemmas.Bool.Decides.{Decides-eqb, same_from_decides}
 use Rattle.std.proofs.lemmas.Iterator.Adapters.{position_from-zero}
 use Rattle.std.proofs.lemmas.List.{map-append}
 use Rattle.std.proofs.lemmas.List.Elements.{All-head, All-tail}
@@ -12,7 +13,7 @@ use Rattle.std.proofs.lemmas.Option.{get_or_from_slice_get, none-some, same_Some
 use Rattle.wasmi_arena.specs.Keys.{Keys, KeyLaw}
 use Rattle.wasmi_map_specs.specs.Maps.{value_at}
 use Rattle.wasmi_collections.specs.Dedup.{DedupState, AddsValue, AllocatesValue, IsIndex}
-use Rattle.wasmi_collections.proofs.DedupRuns.{hits, some_is}
+use Rattle.wasmi_collections.proofs.DedupRuns.{hits}
 
 -- what is found first is there, and passes
 pub position-reads : {T : Type 0} (p : T → Bool) (xs : List T) (k : ℕ) → position p xs ≡ Some k → option_map p (slice_get xs k) ≡ Some true
@@ -29,7 +30,7 @@ place_of_key keys law eq handed value key few is = next (position (eq value) han
     next None at is = absurd (true≢false (sym (ap is_some is)))
     next (Some p) at is =
         let hit = hits (eq value) 0 p handed (sym (position_from-zero (eq value) handed) ∙ at) in let place = hit.place in let low = hit.within in
-        ap Some (sym (ap keys.number (sym (some_is (keys.key p) key is)) ∙ law.numbered p (omega (arith, place, low, few))))
+        ap Some (sym (ap keys.number (sym (same_Some (keys.key p) key is)) ∙ law.numbered p (omega (arith, place, low, few))))
 
 -- so what it finds reads a value that is equal to the one sought
 pub reads_key : {K T : Type 0} (keys : Keys K) (law : KeyLaw keys) (eq : T → T → Bool) (handed : List T) (value : T) (found : Option K) → length handed ≤ keys.count
@@ -43,16 +44,6 @@ at_place : {X : Type 0} (P : X → Type 0) (i : ℕ) (x : X) (xs : List X) → A
 at_place P i x [] all at = absurd (none-some x at)
 at_place P zero x (y ∷ ys) all at = subst P (same_Some y x at) all.0
 at_place P (suc i) x (y ∷ ys) all at = at_place P i x ys all.1 at
-
-same_test : (a b : Bool) → (a ≡ true → b ≡ true) → (b ≡ true → a ≡ true) → a ≡ b
-same_test true true there back = refl
-same_test true false there back = sym (there refl)
-same_test false true there back = back refl
-same_test false false there back = refl
-
-never : (b : Bool) → (b ≡ true → ⊥) → b ≡ false
-never true not_so = absurd (not_so refl)
-never false not_so = refl
 
 module _ {T : Type 0} {eq : T → T → Bool} (laws : IsEquivalence eq) (value : T) where
   first_place : (i k : ℕ) (xs : List T) (other : T) → IsDistinct eq xs → slice_get xs k ≡ Some other → eq value other ≡ true → position_from (eq value) i xs ≡ Some (i + k)
@@ -73,14 +64,15 @@ module _ {T : Type 0} {eq : T → T → Bool} (laws : IsEquivalence eq) (value :
     -- the value at a place is equal to one where the place is that one's
     pub tested_by_place : (place k : ℕ) → position (eq value) values ≡ Some place → k < length values → eq value (get_or values k default) ≡ (place == k)
     tested_by_place place k is below =
-        same_test (eq value (get_or values k default)) (place == k)
-        (λ same. (Decides-eqb place k).1 (same_Some place k (sym is ∙ position-alone values k (get_or values k default) distinct (slice_get-get_or values k default below) same)))
-        (λ equal. subst (λ n. eq value (get_or values n default) ≡ true) ((Decides-eqb place k).0 equal) (position-Some (eq value) values place default is).1)
+        same_from_decides (eq value (get_or values k default)) (place == k) (
+          λ same. same_Some place k (sym is ∙ position-alone values k (get_or values k default) distinct (slice_get-get_or values k default below) same),
+          λ equal. subst (λ n. eq value (get_or values n default) ≡ true) equal (position-Some (eq value) values place default is).1,
+        ) (Decides-eqb place k)
 
     -- and never where that one has none
     pub no_place_tested : (k : ℕ) → position (eq value) values ≡ None → k < length values → eq value (get_or values k default) ≡ false
     no_place_tested k none below =
-        never (eq value (get_or values k default)) (λ same. none-some k (sym none ∙ position-alone values k (get_or values k default) distinct (slice_get-get_or values k default below) same))
+        false_from_ne_true (eq value (get_or values k default)) (λ same. none-some k (sym none ∙ position-alone values k (get_or values k default) distinct (slice_get-get_or values k default below) same))
 
     module _ {K : Type 0} (number : K → ℕ) where
       placed : (place : ℕ) → position (eq value) values ≡ Some place → (i : ℕ) (keys : List K) → All (λ k. number k < length values) keys

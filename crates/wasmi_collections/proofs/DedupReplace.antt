@@ -5,12 +5,13 @@ use Rattle.std.specs.List.{AllByRecursion, IsDistinct, position_from}
 use Rattle.std.specs.Map.{keys_of, remove_entry}
 use Rattle.std.proofs.lemmas.Iterator.Adapters.{position_from-zero}
 use Rattle.std.proofs.lemmas.List.Sorted.{IsPermutation-refl, IsPermutation-trans, IsPermutation-sym, IsPermutation-cons, IsPermutation-middle, IsPermutation-map}
+use Rattle.std.proofs.lemmas.Option.{same_Some}
 use Rattle.std.proofs.lemmas.Map.Keys.{IsDistinct-cons, IsDistinct-head, IsDistinct-tail, IsDistinct-IsPermutation}
 use Rattle.wasmi_arena.specs.Keys.{Keys}
 use Rattle.wasmi_map_specs.specs.Maps.{value_at, ChangesAt}
 use Rattle.wasmi_collections.specs.Dedup.{DedupState, keyed_from, keyed, IsIndex, AllocatesValue, ReplacesValue}
 use Rattle.wasmi_collections.proofs.Dedup.{all_differ, position-congr}
-use Rattle.wasmi_collections.proofs.DedupRuns.{some_is, Hits, hits}
+use Rattle.wasmi_collections.proofs.DedupRuns.{Hits, hits}
 use Rattle.wasmi_collections.proofs.Filtered.{filter-all, filter-IsPermutation, remove_entry-filter}
 
 module _ {T : Type 0} where
@@ -21,7 +22,7 @@ module _ {T : Type 0} where
 
   all_at : (P : T → Type 0) (n : ℕ) (xs : List T) (x : T) → AllByRecursion P xs → slice_get xs n ≡ Some x → P x
   all_at P n [] x all at = absurd (true≢false (sym (ap is_some at)))
-  all_at P zero (y ∷ ys) x all at = subst P (some_is y x at) all.0
+  all_at P zero (y ∷ ys) x all at = subst P (same_Some y x at) all.0
   all_at P (suc n) (y ∷ ys) x all at = all_at P n ys x all.1 at
 
   pub within : (n : ℕ) (xs : List T) (x : T) → slice_get xs n ≡ Some x → n < length xs
@@ -33,7 +34,7 @@ module _ {T : Type 0} (p : T → Bool) where
   -- where neither the old element nor the new one passes, the first that does stays
   set_missed : (i n : ℕ) (xs : List T) (x v : T) → slice_get xs n ≡ Some x → p x ≡ false → p v ≡ false → position_from p i (slice_set xs n v) ≡ position_from p i xs
   set_missed i n [] x v at old new = refl
-  set_missed i zero (y ∷ ys) x v at old new = ap (λ b. cond b (Some i) (position_from p (i + 1) ys)) (new ∙ sym (ap p (some_is y x at) ∙ old))
+  set_missed i zero (y ∷ ys) x v at old new = ap (λ b. cond b (Some i) (position_from p (i + 1) ys)) (new ∙ sym (ap p (same_Some y x at) ∙ old))
   set_missed i (suc n) (y ∷ ys) x v at old new = ap (λ (o : Option ℕ). cond (p y) (Some i) o) (set_missed (i + 1) n ys x v at old new)
 
   -- where none passed, the new one is found
@@ -54,7 +55,7 @@ module _ {T : Type 0} (p : T → Bool) where
   set_kept i k zero (y ∷ ys) v at apart miss = next (p y) at
     where
       next : (b : Bool) → cond b (Some i) (position_from p (i + 1) ys) ≡ Some k → cond (p v) (Some i) (position_from p (i + 1) ys) ≡ Some k
-      next true at = absurd (apart (sym (some_is i k at) ∙ omega arith))
+      next true at = absurd (apart (sym (same_Some i k at) ∙ omega arith))
       next false at = ap (λ b. cond b (Some i) (position_from p (i + 1) ys)) miss ∙ at
   set_kept i k (suc n) (y ∷ ys) v at apart miss = next (p y) at (λ below. set_kept (i + 1) k n ys v below (λ same. apart (same ∙ omega arith)) miss)
     where
@@ -83,7 +84,7 @@ module _ {T : Type 0} {eq : T → T → Bool} (laws : IsEquivalence eq) where
   set_gone : (q : T) (i n : ℕ) (xs : List T) (x v : T) → IsDistinct eq xs → slice_get xs n ≡ Some x → eq q x ≡ true → eq q v ≡ false → position_from (eq q) i (slice_set xs n v) ≡ None
   set_gone q i n [] x v distinct at same apart = refl
   set_gone q i zero (y ∷ ys) x v distinct at same apart =
-      ap (λ b. cond b (Some i) (position_from (eq q) (i + 1) ys)) apart ∙ none_equal q y (i + 1) ys (ap (eq q) (some_is y x at) ∙ same) (IsDistinct-head eq y ys distinct)
+      ap (λ b. cond b (Some i) (position_from (eq q) (i + 1) ys)) apart ∙ none_equal q y (i + 1) ys (ap (eq q) (same_Some y x at) ∙ same) (IsDistinct-head eq y ys distinct)
   set_gone q i (suc n) (y ∷ ys) x v distinct at same apart =
       ap (λ b. cond b (Some i) (position_from (eq q) (i + 1) (slice_set ys n v))) (differs q x y same (all_at (λ z. eq y z ≡ false) n ys x (IsDistinct-head eq y ys distinct) at))
       ∙ set_gone q (i + 1) n ys x v (IsDistinct-tail eq y ys distinct) at same apart
@@ -106,7 +107,7 @@ module _ {K T : Type 0} (keys : Keys K) {eq : T → T → Bool} (laws : IsEquiva
       → IsPermutation ((v, keys.key (i + n)) ∷ filter is_other (keyed_from keys i xs)) (keyed_from keys i (slice_set xs n v))
   entry_moves i n [] x v distinct at same = absurd (true≢false (sym (ap is_some at)))
   entry_moves i zero (y ∷ ys) x v distinct at same =
-      let gone : eq old y ≡ true = ap (eq old) (some_is y x at) ∙ same in
+      let gone : eq old y ≡ true = ap (eq old) (same_Some y x at) ∙ same in
       let rest = keyed_from keys (i + 1) ys in
       let left : filter is_other (keyed_from keys i (y ∷ ys)) ≡ rest =
       ap (λ b. cond (not b) ((y, keys.key i) ∷ filter is_other rest) (filter is_other rest)) gone
@@ -193,7 +194,7 @@ module _ {K T : Type 0} (keys : Keys K) {eq : T → T → Bool} (laws : IsEquiva
       same_item = sym found.reads ∙ (ap (slice_get handed) (sym (found.place ∙ omega arith)) ∙ reads)
 
       equal : eq old q ≡ true
-      equal = laws.congr old was q place.passes ∙ (laws.symm was q ∙ (ap (eq q) (sym (some_is found.item was same_item)) ∙ found.passes))
+      equal = laws.congr old was q place.passes ∙ (laws.symm was q ∙ (ap (eq q) (sym (same_Some found.item was same_item)) ∙ found.passes))
 
   module _ (index mid after : List (T × K)) (is : IsIndex keys eq handed index) (enters : ChangesAt eq index value (Some (keys.key n)) mid)
       (more : IsPermutation ((value, keys.key n) ∷ index) mid) (leaves : ChangesAt eq mid old None after) (less : IsPermutation (remove_entry (eq old) mid) after) where
@@ -238,7 +239,7 @@ module _ {K T : Type 0} (keys : Keys K) {eq : T → T → Bool} (laws : IsEquiva
 module _ {K T : Type 0} (keys : Keys K) {eq : T → T → Bool} (laws : IsEquivalence eq) (clones : T → T → Type 0) where
   -- a value that is there keeps its key, and a new one has the next
   pub allocates-there : (state newer : DedupState T) (value : T) (key : K) (n : ℕ) → position (eq value) state.handed ≡ Some n → AllocatesValue keys eq clones state value key newer → (key ≡ keys.key n) × (newer ≡ state)
-  allocates-there state newer value key n at (inl found) = (found.2 ∙ ap keys.key (some_is found.0 n (sym found.1 ∙ at)), found.3)
+  allocates-there state newer value key n at (inl found) = (found.2 ∙ ap keys.key (same_Some found.0 n (sym found.1 ∙ at)), found.3)
   allocates-there state newer value key n at (inr adds) = absurd (true≢false (ap is_some (sym at ∙ adds.absent)))
 
   pub allocates-absent : (state newer : DedupState T) (value : T) (key : K) → position (eq value) state.handed ≡ None → AllocatesValue keys eq clones state value key newer → key ≡ keys.key (length state.handed)
@@ -259,7 +260,7 @@ module _ {K T : Type 0} (keys : Keys K) {eq : T → T → Bool} (laws : IsEquiva
       let one = hits (eq value) 0 (keys.number key) old.handed (sym (position_from-zero (eq value) old.handed) ∙ puts.0) in
       let other = hits (eq was) 0 (keys.number key) old.handed (sym (position_from-zero (eq was) old.handed) ∙ at) in
       let at_one = one.place in let at_other = other.place in
-      let item : one.item ≡ other.item = some_is one.item other.item (sym one.reads ∙ (ap (slice_get old.handed) (omega (arith, at_one, at_other)) ∙ other.reads)) in
+      let item : one.item ≡ other.item = same_Some one.item other.item (sym one.reads ∙ (ap (slice_get old.handed) (omega (arith, at_one, at_other)) ∙ other.reads)) in
       let equal : eq value was ≡ true = laws.congr value other.item was (ap (eq value) (sym item) ∙ one.passes) ∙ (laws.symm other.item was ∙ other.passes) in
       absurd (true≢false (sym equal ∙ apart))
   replaces-gone old new key value there was distinct (inr moves) at apart =

@@ -1,9 +1,10 @@
 -- Two values handed in to a deduplicating arena in one run have one key exactly where they are equal.
-use Rattle.std.proofs.Common.{◌≡◌, ◌≢◌, ◌↔◌, ℕ, zero, suc, ◌+◌, ◌<◌, ◌≤◌, Bool, true, false, cond, List, [], ◌∷◌, ◌++◌, length, Some, position, slice_get, inl, inr, refl, sym, ap, ◌∙◌, subst, is_some, true≢false, IsTrue, length-append, unwrap_or, arith}
+use Rattle.std.proofs.Common.{◌≡◌, ◌≢◌, ◌↔◌, ℕ, zero, suc, ◌+◌, ◌<◌, ◌≤◌, Bool, true, false, cond, List, [], ◌∷◌, ◌++◌, length, Some, position, slice_get, inl, inr, refl, sym, ap, ◌∙◌, subst, is_some, true≢false, IsTrue, length-append, arith}
 use Rattle.std.specs.Cmp.{IsEquivalence}
 use Rattle.std.specs.List.{position_from}
 use Rattle.std.proofs.lemmas.List.{length-set}
 use Rattle.std.proofs.lemmas.Iterator.Adapters.{position_from-zero}
+use Rattle.std.proofs.lemmas.Option.{same_Some}
 use Rattle.wasmi_arena.specs.Keys.{Keys, KeyLaw}
 use Rattle.wasmi_collections.specs.Dedup.{DedupState, AllocatesValue, ReplacesValue}
 use Rattle.wasmi_collections.specs.DedupSteps.{DedupStep, HasKey, NoneClears}
@@ -14,9 +15,6 @@ use Rattle.wasmi_collections.specs.declared.run.dedup.DedupReply.{DedupReply}
 use Rattle.wasmi_collections.specs.declared.run.dedup.DedupReply.TheVariants.{Key, Old, Has as HasReply, Done, Refused}
 use Rattle.wasmi_collections.proofs.Dedup.{position-congr}
 use Rattle.wasmi_interner.proofs.Symbols.{found_last}
-
-pub some_is : {X : Type 0} (x y : X) → Some x ≡ Some y → x ≡ y
-some_is x y same = ap (λ o. unwrap_or o x) same
 
 module _ {T : Type 0} (p : T → Bool) where
   -- what is found first stays so when more comes behind it
@@ -44,7 +42,7 @@ module _ {T : Type 0} (p : T → Bool) where
   hits i k (x ∷ xs) is = next (p x) refl is (hits (i + 1) k xs)
     where
       next : (b : Bool) → p x ≡ b → cond b (Some i) (position_from p (i + 1) xs) ≡ Some k → (position_from p (i + 1) xs ≡ Some k → Hits (i + 1) k xs) → Hits i k (x ∷ xs)
-      next true hit is rest = let at = some_is i k is in record { before = 0; place = omega (arith, at); within = omega arith; item = x; reads = refl; passes = hit }
+      next true hit is rest = let at = same_Some i k is in record { before = 0; place = omega (arith, at); within = omega arith; item = x; reads = refl; passes = hit }
       next false miss is rest =
           let h = rest is in let at = h.place in let low = h.within in
           record { before = suc h.before; place = omega (arith, at); within = omega (arith, low); item = h.item; reads = h.reads; passes = h.passes }
@@ -122,9 +120,9 @@ module _ {K T : Type 0} (keys : Keys K) (law : KeyLaw keys) {eq : T → T → Bo
         λ same.
             let places : first.place ≡ second.place =
             sym (law.numbered first.place (omega (arith, few, low, at))) ∙ (ap keys.number (sym first.key_is ∙ (same ∙ second.key_is)) ∙ law.numbered second.place (omega (arith, few, low2, at2))) in
-            let items : one.item ≡ other.item = some_is one.item other.item (sym one.reads ∙ (ap (slice_get state.handed) (omega (arith, places, at, at2)) ∙ other.reads)) in
+            let items : one.item ≡ other.item = same_Some one.item other.item (sym one.reads ∙ (ap (slice_get state.handed) (omega (arith, places, at, at2)) ∙ other.reads)) in
             laws.congr v other.item w (ap (eq v) (sym items) ∙ one.passes) ∙ (laws.symm other.item w ∙ other.passes),
-        λ equal. first.key_is ∙ (ap keys.key (some_is first.place second.place (sym first.is ∙ (position-congr laws v w equal state.handed ∙ second.is))) ∙ sym second.key_is),
+        λ equal. first.key_is ∙ (ap keys.key (same_Some first.place second.place (sym first.is ∙ (position-congr laws v w equal state.handed ∙ second.is))) ∙ sym second.key_is),
       )
 
   -- a value that has its key, and a later one that is given one
@@ -134,7 +132,7 @@ module _ {K T : Type 0} (keys : Keys K) (law : KeyLaw keys) {eq : T → T → Bo
   second_given old new [] replies run v w a b has j goes stays at = absurd (true≢false (sym (ap is_some at.command_is)))
   second_given old new (command ∷ commands) [] run v w a b has j goes stays at = absurd run
   second_given old new (command ∷ commands) (reply ∷ replies) run v w a b has zero goes stays at =
-      let step = subst (λ r. DedupStep keys eq clones old (Alloc w) r run.0) (some_is reply (Key b) at.reply_is) (subst (λ c. DedupStep keys eq clones old c reply run.0) (some_is command (Alloc w) at.command_is) run.1) in
+      let step = subst (λ r. DedupStep keys eq clones old (Alloc w) r run.0) (same_Some reply (Key b) at.reply_is) (subst (λ c. DedupStep keys eq clones old c reply run.0) (same_Some command (Alloc w) at.command_is) run.1) in
       agree run.0 v w a b (more old run.0 v a w b step has) (given old run.0 w b has.few step)
   second_given old new (command ∷ commands) (reply ∷ replies) run v w a b has (suc j) goes stays at =
       second_given run.0 new commands replies run.2 v w a b (keeps old run.0 v a command reply (λ same. goes 0 (omega arith) (ap Some same)) (λ k item there same is. stays 0 k item there (omega arith) (ap Some same) (ap Some is)) run.1 has) j
@@ -161,7 +159,7 @@ module _ {K T : Type 0} (keys : Keys K) (law : KeyLaw keys) {eq : T → T → Bo
   both_given old new (command ∷ commands) [] few run i j v w a b order goes first second = absurd run
   both_given old new (command ∷ commands) (reply ∷ replies) few run i zero v w a b order goes first second = absurd (omega (arith, order))
   both_given old new (command ∷ commands) (reply ∷ replies) few run zero (suc j) v w a b order goes first second =
-      let step = subst (λ r. DedupStep keys eq clones old (Alloc v) r run.0) (some_is reply (Key a) first.reply_is) (subst (λ c. DedupStep keys eq clones old c reply run.0) (some_is command (Alloc v) first.command_is) run.1) in
+      let step = subst (λ r. DedupStep keys eq clones old (Alloc v) r run.0) (same_Some reply (Key a) first.reply_is) (subst (λ c. DedupStep keys eq clones old c reply run.0) (same_Some command (Alloc v) first.command_is) run.1) in
       second_given run.0 new commands replies run.2 v w a b (given old run.0 v a few step) j (λ m low. goes.keeps (suc m) (omega arith) (omega (arith, low)))
       (λ m k item there low. goes.replaces_none (suc m) k item there (omega arith) (omega (arith, low))) (record { command_is = second.command_is; reply_is = second.reply_is })
   both_given old new (command ∷ commands) (reply ∷ replies) few run (suc i) (suc j) v w a b order goes first second =

@@ -6,7 +6,7 @@ use Rattle.std.specs.String.{string_eq}
 use Rattle.std.specs.declared.string.String.{String}
 use Rattle.std.proofs.lemmas.Iterator.Adapters.{position_from-zero}
 use Rattle.std.proofs.lemmas.List.{length-map, map-append, map-set}
-use Rattle.std.proofs.lemmas.Option.{none-some}
+use Rattle.std.proofs.lemmas.Option.{none-some, same_Some}
 use Rattle.std.proofs.lemmas.Slice.Eq.{bytes_eq-Decides}
 use Rattle.std.proofs.lemmas.List.Quantifiers.{position-Some}
 use Rattle.wasmi_arena.specs.Keys.{Keys, KeyLaw}
@@ -14,7 +14,6 @@ use Rattle.wasmi_map_specs.specs.Seen.{value_seen_as}
 use Rattle.wasmi_collections.specs.Dedup.{DedupState, IsIndex, AllocatesValue, ReplacesValue}
 use Rattle.wasmi_interner.specs.Interner.{symbol_of, AreDistinctTexts}
 use Rattle.wasmi_collections.proofs.Dedup.{position-by_view}
-use Rattle.wasmi_collections.proofs.DedupRuns.{some_is}
 
 -- a string with this text
 abbrev HasText : Type 0 → List ℕ → Type 0
@@ -71,7 +70,7 @@ place_of_text keys law handed text key few is = next (symbol_of (map string_byte
     next (Some p) at is =
         let low = (position-Some (bytes_eq text) (map string_bytes handed) p text at).0 in
         let counted = length-map handed string_bytes in
-        let same : keys.number key ≡ p = sym (ap keys.number (some_is (keys.key p) key is)) ∙ law.numbered p (omega (arith, low, few, counted)) in
+        let same : keys.number key ≡ p = sym (ap keys.number (same_Some (keys.key p) key is)) ∙ law.numbered p (omega (arith, low, few, counted)) in
         (omega (arith, low, counted, same), ap Some (sym same))
 
 -- ---- the texts of both lists

@@ -22,7 +22,7 @@ use Rattle.wasmi_collections.specs.declared.run.interner.InternCommand.{InternCo
 use Rattle.wasmi_collections.specs.declared.run.interner.InternCommand.TheVariants.{Intern, Find, Len}
 use Rattle.wasmi_collections.specs.declared.run.interner.InternReply.{InternReply}
 use Rattle.wasmi_collections.specs.declared.run.interner.InternReply.TheVariants.{Sym, Found, Len as LenReply, Refused as InternRefused}
-use Rattle.wasmi_collections.proofs.DedupRuns.{few_after, hits, some_is}
+use Rattle.wasmi_collections.proofs.DedupRuns.{few_after, hits}
 use Rattle.std.proofs.lemmas.Iterator.Adapters.{position_from-zero}
 use Rattle.std.proofs.lemmas.List.{length-set}
 
