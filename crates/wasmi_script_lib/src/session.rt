@@ -24,7 +24,7 @@ pub fn answer<A: Allocator + Copy>(alloc: A, text: &str) -> Result<String<A>, Ar
     let mut texts = Texts::new(heap);
     let mut store = EntityStore::new(heap);
     let mut replies = String::new(alloc);
-    let answered = reply_all(&mut texts, &mut store, heap, text, &mut replies);
+    let answered = reply_all(&mut texts, &mut store, &mut replies, text);
     drop(texts);
     answered?;
     Ok(replies)
@@ -34,9 +34,8 @@ pub fn answer<A: Allocator + Copy>(alloc: A, text: &str) -> Result<String<A>, Ar
 fn reply_all<A: Allocator + Copy, B: Allocator>(
     texts: &mut Texts<A>,
     store: &mut EntityStore<A>,
-    alloc: A,
-    text: &str,
     replies: &mut String<B>,
+    text: &str,
 ) -> Result<(), ArenaError>
     requires empty { state_of texts.old store.old ≡ empty }
     requires unanswered { string_bytes replies.old ≡ [] }
@@ -46,7 +45,7 @@ fn reply_all<A: Allocator + Copy, B: Allocator>(
     let mut number = 0;
     for line in text.split_terminator('\n') {
         number += 1;
-        serve(texts, store, replies, alloc, number, line)?;
+        serve(texts, store, replies, number, line)?;
     }
     Ok(())
 }
@@ -56,7 +55,6 @@ fn serve<A: Allocator + Copy, B: Allocator>(
     texts: &mut Texts<A>,
     store: &mut EntityStore<A>,
     replies: &mut String<B>,
-    alloc: A,
     number: usize,
     line: &str,
 ) -> Result<(), ArenaError>
@@ -67,11 +65,11 @@ fn serve<A: Allocator + Copy, B: Allocator>(
     ensures errors { IsOkUnless result ArenaError.OutOfSystemMemory }
 {
     match Line::parse(line) {
-        Some(Line::Alloc(text)) => texts.alloc(alloc, text, replies)?,
+        Some(Line::Alloc(text)) => texts.alloc(text, replies)?,
         Some(Line::Get(key)) => texts.get(key, replies)?,
         Some(Line::Place(index)) => texts.place(index, replies)?,
         Some(Line::Count) => texts.count(replies)?,
-        Some(Line::Dedup(text)) => texts.dedup(alloc, text, replies)?,
+        Some(Line::Dedup(text)) => texts.dedup(text, replies)?,
         Some(Line::Intern(text)) => texts.intern(text, replies)?,
         Some(Line::Resolve(symbol)) => texts.resolve(symbol, replies)?,
         Some(Line::AddEntity(name, kind)) => store.add_entity(name, kind, replies)?,

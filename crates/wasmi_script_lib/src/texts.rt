@@ -16,6 +16,8 @@ use wasmi_collections::string_interner::{StringInterner, Sym};
 /// Each command adds its reply to `replies`, and ends the script if there is no memory.
 #[derive(Drop)]
 pub(crate) struct Texts<A: Allocator> {
+    // proof: first, since behind the arena it makes a goal on sizes too long to search.
+    alloc: A,
     arena: StableArena<usize, String<A>, A>,
     interner: StringInterner<A>,
     dedup: DedupArena<usize, String<A>, A>,
@@ -30,6 +32,7 @@ impl<A: Allocator> Texts<A> {
         ensures { with_texts result ≡ empty }
     {
         Texts {
+            alloc,
             arena: StableArena::new(alloc),
             interner: StringInterner::new(alloc),
             dedup: DedupArena::new(alloc),
@@ -39,18 +42,17 @@ impl<A: Allocator> Texts<A> {
     /// `a TEXT`: keeps a text, and replies its key. Without a key the text isn't kept.
     pub(crate) fn alloc<B: Allocator>(
         &mut self,
-        alloc: A,
         text: &str,
         replies: &mut String<B>,
     ) -> Result<(), ArenaError>
     where
-        A: Clone,
+        A: Copy,
         ensures state { OnOk result (with_texts self.new ≡ state_after (with_texts self.old) (request.Alloc text.now)) }
         ensures reply { OnOk result (AddsReply replies.old replies.new
             (reply_to (with_texts self.old) (request.Alloc text.now))) }
         ensures errors { IsOkUnless result ArenaError.OutOfSystemMemory }
     {
-        match self.arena.alloc(String::from_str(alloc, text)?) {
+        match self.arena.alloc(String::from_str(self.alloc, text)?) {
             Ok(key) => Ok(writeln!(replies, "key {key}")?),
             Err(error) => reply_error(replies, error),
         }
@@ -103,12 +105,11 @@ impl<A: Allocator> Texts<A> {
     /// `d TEXT`: keeps a text unless an equal one is kept, and replies the key of the one that is.
     pub(crate) fn dedup<B: Allocator>(
         &mut self,
-        alloc: A,
         text: &str,
         replies: &mut String<B>,
     ) -> Result<(), ArenaError>
     where
-        A: Clone,
+        A: Copy,
         ensures state { OnOk result (with_texts self.new ≡ state_after (with_texts self.old) (request.Dedup text.now)) }
         ensures reply { OnOk result (AddsReply replies.old replies.new
             (reply_to (with_texts self.old) (request.Dedup text.now))) }
@@ -116,7 +117,7 @@ impl<A: Allocator> Texts<A> {
     {
         // proof: a new text goes to the end.
         texts_handed_in::<usize, A>();
-        match self.dedup.alloc_str(alloc, text) {
+        match self.dedup.alloc_str(self.alloc, text) {
             Ok(key) => Ok(writeln!(replies, "key {key}")?),
             Err(error) => reply_error(replies, error),
         }
