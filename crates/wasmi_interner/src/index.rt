@@ -74,7 +74,7 @@ impl<A: Allocator> Index<A> {
         ensures some_steps { 0 < length sought.now.texts.now → steps.old < steps.new }
     {
         match self.slots.meet(sought.hash) {
-            Met::Gap(place) => match sought.is_first(steps) {
+            Met::Gap(place) => match sought.symbol_if_first(steps) {
                 Some(symbol) => Ok(symbol),
                 None => Err(Place::Gap(place)),
             },
@@ -282,7 +282,7 @@ fn find_in_rest<A: Allocator>(
 {
     let len = rest.len();
     if len == 0 {
-        return match sought.is_first(steps) {
+        return match sought.symbol_if_first(steps) {
             Some(symbol) => Ok(symbol),
             None => Err(0),
         };

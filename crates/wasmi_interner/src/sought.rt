@@ -55,7 +55,7 @@ impl<'a, A: Allocator> Sought<'a, A> {
 
     // The first symbol, if it is that of this text. A step, if there are texts.
     #[inline]
-    pub(crate) fn is_first(&self, steps: &mut Steps) -> Option<Sym>
+    pub(crate) fn symbol_if_first(&self, steps: &mut Steps) -> Option<Sym>
         requires { steps.old ≤ 2 ^ 63 }
         ensures there { IfSome result (λ symbol. slice_get self.now.texts.now symbol ≡ Some self.now.text.now) }
         ensures few_steps { steps.new ≤ steps.old + digits (length self.now.texts.now) }

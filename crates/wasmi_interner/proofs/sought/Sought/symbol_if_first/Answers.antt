@@ -1,6 +1,6 @@
 use Rattle.std.proofs.Common.{arith, length}
 use Rattle.wasmi_interner.proofs.BinaryDigits.{digits_half}
-use Rattle.wasmi_interner.proofs.sought.Sought.is_first.Goals as goal
+use Rattle.wasmi_interner.proofs.sought.Sought.symbol_if_first.Goals as goal
 
 pub returns-then-is_text_of-clause-few_steps : goal.returns-then-is_text_of-clause-few_steps
 returns-then-is_text_of-clause-few_steps g c =
