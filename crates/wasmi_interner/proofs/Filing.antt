@@ -364,10 +364,6 @@ put_contains old slot new puts x there = elim puts.same [
   | inr set_one ↦ set_contains old.slots set_one.0 slot x (subst (λ (t : Table). Contains t.slots x) set_one.1 there)
 ]
 
--- nothing is in empty slots
-pub empty_none : (slots : List Entry) → All (λ slot. is_empty_slot slot ≡ true) slots → (x : Entry) → is_empty_slot x ≡ false → Contains slots x → ⊥
-empty_none slots each x full there = true≢false (sym (ap is_empty_slot (sym there.2) ∙ each there.0 x there.1) ∙ full)
-
 -- what is met for a slot stays so
 pub put_kept : (old : Table) (slot : Entry) (new : Table) → Puts old slot new → (other : Entry) → met_in old other.hash ≡ says other → met_in new other.hash ≡ says other
 put_kept old slot new puts other is = puts.others other.hash (λ none. says_some other (sym is ∙ none)) ∙ is
@@ -435,23 +431,7 @@ module _ (texts : List (List ℕ)) (table : Table) (entries : List Entry) (is : 
   abbrev hash_at : ℕ → ℕ
   hash_at s = hash_of (get_or texts s [])
 
-  -- a marker in an empty slot sends to the rest, where nothing is
-  pub marked_gap : (hash place : ℕ) → IsGap table hash place → (slot : Entry) → slot.hash ≡ hash → is_marker slot ≡ true
-      → IsIndexOf texts (with_slot table place slot) entries × (met_in (with_slot table place slot) hash ≡ rest)
-  marked_gap hash place is_gap slot same mark = (
-    record {
-      distinct = is.distinct;
-      slots = All-set (IsSlotOf texts) table.slots place slot (marker_is_slot texts slot mark) is.slots;
-      rest = is.rest;
-      filed = λ s within. elim (is.filed s within) [
-        | inl there ↦ inl (is_gap.others slot (hash_at s) (λ none. (cc)) ∙ there)
-        | inr apart ↦ (let met = apart.0 in inr (is_gap.others slot (hash_at s) (λ none. (cc)) ∙ met, apart.1))
-      ];
-    },
-    is_gap.filled slot same (marker_full slot mark) ∙ rw mark refl,
-  )
-
-  -- so does one in place of a symbol that is there
+  -- a marker in place of a symbol that is there sends to the rest
   pub marked_taken : (hash place : ℕ) (is_taken : IsTaken table hash place) (others : List Entry) → IsRestOf texts others
       → ((s : ℕ) → Contains (symbols entries) s → Contains (symbols others) s) → Contains (symbols others) is_taken.symbol
       → (slot : Entry) → slot.hash ≡ hash → is_marker slot ≡ true → IsIndexOf texts (with_slot table place slot) others

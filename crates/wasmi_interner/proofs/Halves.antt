@@ -30,14 +30,6 @@ in_order orders s i j before within =
     let P : List Ordering → Type 0 = λ xs. j < length xs → (slice_get xs i ≡ Some Less) ⊎ (slice_get xs j ≡ Some Greater) in
     subst P (sym s.orders_are) (sorted_pair s.less s.is_there s.greater i j before) within
 
-pub not_narrowed : (order : ℕ → Option Ordering) (count low high : ℕ) → low ≡ 0 → high ≡ count → IsNarrowed order count low high
-not_narrowed order count low high from to = record {
-  ends = omega (arith, from);
-  within = omega (arith, to);
-  before = λ i less. absurd (omega (arith, less, from));
-  after = λ i more within. absurd (omega (arith, more, within, to));
-}
-
 module _ (order : ℕ → Option Ordering) (count : ℕ) (ordered : IsInOrder order count) where
   -- all before a `Less` are `Less`
   less_before : (j : ℕ) → j < count → order j ≡ Some Less → (i : ℕ) → i < j + 1 → order i ≡ Some Less
