@@ -137,6 +137,7 @@ impl<Key: ArenaKey, T, A: Allocator> ComponentVec<Key, T, A> {
         let index = index.into_usize();
         let extent = self.components.len();
         if index >= extent {
+            // The next key in turn is one push. What is rare stands apart, in `raise_extent`.
             if index == extent && extent < self.components.capacity() {
                 self.components.push_reserved(Some(component));
                 return Ok(None);
