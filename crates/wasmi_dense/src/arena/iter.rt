@@ -1,4 +1,4 @@
-//! The iterators over an arena in one vector.
+//! The iterator over an arena in one vector.
 ghost use Rattle.std.specs.Prelude.{◌≡◌, length};
 ghost use Rattle.std.specs.Iterator.{YieldsFirstBy, YieldsLastBy, item_count};
 
