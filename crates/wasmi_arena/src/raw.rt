@@ -4,7 +4,8 @@
 //! are found without a test of what a proof knows. A vector's items (`lend`, `loan`) are lent in parts that safe code
 //! can't tell apart.
 
-// Where the value of an `Option` lies, which is behind the tag. It must have one.
+// Where the value of an `Option` lies, which must have one: behind the tag, a byte that each `Option` has here, at the
+// next place that is aligned for it (`SomeMemory.antt`). Rust promises no such layout.
 macro_rules! behind_tag {
     ($option:expr, $pointer:tt, $value:ty) => {
         (($option as *$pointer u8).add(align_of::<$value>()) as *$pointer $value)
