@@ -3,19 +3,17 @@
 //! `wasmi_replay_driver PORT FOLDER CALLS SEED..` runs the port's program PORT on so many calls of each container and
 //! seed, keeps what differs in FOLDER, and prints a table. `wasmi_replay_driver` alone answers standard input.
 
-mod call;
+mod answers;
 mod compare;
+mod containers;
 mod generate;
-mod interner_call;
-mod line;
 mod public_calls;
 mod random;
-mod table_call;
-mod twin;
 
 use compare::{compare, Comparison, Order};
-use generate::{generate, CONTAINERS};
-use public_calls::{Counts, TYPES};
+use containers::{Kind, KINDS};
+use generate::generate;
+use public_calls::Counts;
 use std::env;
 use std::error::Error;
 use std::fs::{self, File};
@@ -53,9 +51,7 @@ fn main() -> Outcome<ExitCode> {
 fn answer_stdin() -> Outcome<()> {
     let mut input = String::new();
     io::stdin().read_to_string(&mut input)?;
-    let mut output = Vec::new();
-    twin::answer(&input, &mut output)?;
-    io::stdout().write_all(&output)?;
+    io::stdout().write_all(containers::answer(&input).as_bytes())?;
     Ok(())
 }
 
@@ -68,29 +64,31 @@ struct Run {
 impl Run {
     /// Compares each container at each seed, and prints the tables. True if nothing differs.
     fn all(&self, seeds: &[u64]) -> Outcome<bool> {
-        let mut counts = TYPES.map(|_| Counts::default());
+        let mut counts: Vec<_> = KINDS.iter().map(|_| Counts::default()).collect();
         let mut equal = true;
         println!("| Container | Seed | Calls | Answers compared | Differences | The first |");
         println!("|---|---|---|---|---|---|");
-        let mut left = CONTAINERS.len() * seeds.len();
-        for container in CONTAINERS {
-            for seed in seeds {
-                let input = generate(container, *seed, self.calls);
-                for ((name, _, _), counts) in TYPES.iter().zip(&mut counts) {
-                    if container.split(' ').next() == Some(name) {
-                        counts.add(&input);
-                    }
+        let mut left = KINDS.iter().flat_map(Kind::names).count() * seeds.len();
+        let mut place = 0;
+        for (kind, counts) in KINDS.iter().zip(&mut counts) {
+            for name in kind.names() {
+                for seed in seeds {
+                    // Another run for each container.
+                    let drawn = seed.wrapping_mul(1000).wrapping_add(place);
+                    let input = generate(kind, &name, drawn, self.calls);
+                    counts.add(&input);
+                    let comparison = self.one(&name, *seed, &input)?;
+                    equal &= comparison.differences == 0;
+                    print_row(&name, *seed, self.calls, &comparison);
+                    left -= 1;
+                    eprintln!("{name} at seed {seed} compared, {left} left");
                 }
-                let comparison = self.one(container, *seed, &input)?;
-                equal &= comparison.differences == 0;
-                print_row(container, *seed, self.calls, &comparison);
-                left -= 1;
-                eprintln!("{container} at seed {seed} compared, {left} left");
+                place += 1;
             }
         }
         let mut all_made = true;
-        for ((_, name, calls), counts) in TYPES.iter().zip(&counts) {
-            all_made &= public_calls::print(name, calls, counts);
+        for (kind, counts) in KINDS.iter().zip(&counts) {
+            all_made &= public_calls::print(kind, counts);
         }
         if !all_made {
             eprintln!("A call in the tables was never made: give more calls.");
@@ -111,9 +109,8 @@ impl Run {
             return Err(format!("{} on {}: {status}", self.port.display(), calls.display()).into());
         }
         let port = fs::read(&answers)?;
-        let mut rust_crate = Vec::new();
-        twin::answer(input, &mut rust_crate)?;
-        let comparison = compare(input, &port, &rust_crate, Order::of(container));
+        let rust_crate = containers::answer(input);
+        let comparison = compare(input, &port, rust_crate.as_bytes(), Order::of(container));
         if comparison.differences == 0 {
             fs::remove_file(&calls)?;
             fs::remove_file(&answers)?;

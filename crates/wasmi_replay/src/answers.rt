@@ -26,15 +26,23 @@ pub enum Answer {
     PartialOrder(Option<Ordering>),
     Hash(u64),
     Error(ArenaError),
+    /// The line is written already.
+    Written,
 }
 
 impl Answer {
     /// A call that returns nothing.
     pub const DONE: Answer = Answer::Word("done");
 
-    /// A line that names no call of the container.
+    /// A line that names no call of the container, or not with its arguments.
     pub const BAD: Answer = Answer::Word("bad line");
+
+    /// An index or a key that has no item.
+    pub const NO_ITEM: Answer = Answer::Word("no item");
 }
+
+/// An error where no call was made.
+pub type Reply = Result<Answer, Answer>;
 
 /// The answer of a call that returns nothing.
 pub fn done(outcome: Result<(), ArenaError>) -> Answer {
@@ -121,10 +129,6 @@ pub fn write(out: &mut Line, answer: Answer) {
         Answer::Hash(hash) => writeln!(out, "{hash}"),
         Answer::Error(ArenaError::OutOfSystemMemory) => out.cut(),
         Answer::Error(error) => writeln!(out, "error {error}"),
+        Answer::Written => (),
     }
-}
-
-/// Writes that a line names no call of the container.
-pub fn bad(out: &mut Line) {
-    writeln!(out, "bad line")
 }

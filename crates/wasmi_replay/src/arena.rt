@@ -1,102 +1,133 @@
 //! Calls on an `Arena`, a `StableArena` and a `DedupArena`. A line names a key by its number.
 
-use crate::answers::{Answer, bad, done, item, keep, lent, overwritten, shown, write};
-use crate::call::{Call, ItemCall, Walk};
+use crate::answers::{Answer, Reply, done, item, keep, lent, overwritten, shown};
+use crate::counted::Counted;
 use crate::format::{Number, Numbered, Plain, Renewed};
 use crate::line::Line;
 use crate::pair_key::PairKey;
 use crate::replay::Container;
-use crate::stable_vec::{answer_place, walk_buckets};
-use crate::walk::{walk_steps, write_all};
+use crate::stable_vec::answer_place;
+use crate::walk::{Left, walk_steps, write_all};
+use crate::words::{key_of, read, steps_of};
 use std::alloc::Global;
 use std::mem;
 use std::ops::Range;
-use wasmi_arena::{ArenaError, ArenaKey, StableArena};
+use wasmi_arena::{
+    ArenaError, ArenaKey, ArenaKeys, StableArena, StableArenaIter, StableArenaIterMut,
+};
 use wasmi_collections::DedupArena;
-use wasmi_dense::Arena;
+use wasmi_dense::{Arena, arena};
 
-/// An arena of numbers. The types of its iterators are its own, so a call on them is a method, and the macro that is
-/// its body stands below.
-trait AnyArena<Key: ArenaKey>: Sized {
-    /// Makes a call that not all arenas have.
-    fn answer_own(&mut self, other: &mut Self, alloc: Global, call: Call<'_>) -> Answer;
-
-    /// Makes a call that all arenas have.
-    fn answer_call(&mut self, alloc: Global, call: Call<'_>) -> Answer;
-
-    /// Makes a call on the item under a key.
-    fn answer_item(&mut self, key: Key, call: ItemCall) -> Answer;
-
-    /// Makes an iteration. Where it writes, each item is shown as it was, and they become the numbers from one on.
-    fn walk(&mut self, alloc: Global, walk: Walk<'_>, out: &mut Line);
+impl<'a, Key: ArenaKey> Left for StableArenaIter<'a, Key, i64> {
+    fn left(&self) -> Option<usize> {
+        Some(self.len())
+    }
 }
 
-macro_rules! answer_call {
-    ($arena:ident, $alloc:ident, $call:ident) => {
-        match $call {
-            Call::Len => Answer::Number($arena.len()),
-            Call::IsEmpty => Answer::Truth($arena.is_empty()),
-            Call::Clear => {
+impl<'a, Key: ArenaKey> Left for StableArenaIterMut<'a, Key, i64> {
+    fn left(&self) -> Option<usize> {
+        Some(self.len())
+    }
+}
+
+impl<Key: ArenaKey> Left for ArenaKeys<Key> {
+    fn left(&self) -> Option<usize> {
+        Some(self.len())
+    }
+}
+
+impl<'a, Key: ArenaKey> Left for arena::Iter<'a, Key, i64> {
+    fn left(&self) -> Option<usize> {
+        Some(self.len())
+    }
+}
+
+impl<'a, Key: ArenaKey> Left for arena::IterMut<'a, Key, i64> {
+    fn left(&self) -> Option<usize> {
+        Some(self.len())
+    }
+}
+
+impl<Key: ArenaKey> Left for arena::IntoIter<Key, i64> {
+    fn left(&self) -> Option<usize> {
+        Some(self.len())
+    }
+}
+
+/// An arena of numbers. The types of its iterators are its own, so a call on them is a method, and the macro that is
+/// its body stands below. Each is asked where the one before knows no such call.
+trait AnyArena<Key: ArenaKey>: Sized {
+    /// Makes a call that not all arenas have, or an iteration.
+    fn answer_own(&mut self, words: &[&str], out: &mut Line) -> Reply;
+
+    /// Makes an iteration. Where it writes, each item is shown as it was, and they become the numbers from one on.
+    fn answer_walk(&mut self, words: &[&str], out: &mut Line) -> Reply;
+
+    /// Makes a call on the item under a key.
+    fn answer_item(&mut self, words: &[&str], out: &mut Line) -> Reply;
+}
+
+macro_rules! answer {
+    ($arena:ident, $alloc:ident, $words:ident, $out:ident) => {
+        Ok(match *$words {
+            ["len"] => Answer::Number($arena.len()),
+            ["is_empty"] => Answer::Truth($arena.is_empty()),
+            ["clear"] => {
                 $arena.clear();
                 Answer::DONE
             }
-            Call::NextKey => number($arena.next_key()),
-            Call::Alloc(item) => number($arena.alloc(item)),
-            Call::FromIter(items) => keep(Self::from_iter($alloc, items), $arena),
-            Call::Item(number, call) => match Key::from_usize(number) {
-                Some(key) => $arena.answer_item(key, call),
-                None => Answer::Word("no key"),
-            },
-            _ => Answer::BAD,
-        }
+            ["next_key"] => number($arena.next_key()),
+            ["alloc", item] => number($arena.alloc(read(item)?)),
+            ["from_iter", first, count] => {
+                let items = Counted::read(first, count)?;
+                keep(Self::from_iter($alloc, items), $arena)
+            }
+            _ => return $arena.answer_own($words, $out),
+        })
     };
 }
 
-// Of a call that a `DedupArena` doesn't have.
-macro_rules! answer_keys {
-    ($arena:ident, $alloc:ident, $call:ident) => {
-        match $call {
-            Call::AllocMany(count) => numbers($arena.alloc_many(usize::from(count))),
-            Call::Swap(first, second) => match (Key::from_usize(first), Key::from_usize(second)) {
-                (Some(first), Some(second)) => done($arena.swap(first, second)),
-                _ => Answer::Word("no key"),
-            },
-            call => $arena.answer_call($alloc, call),
+macro_rules! answer_walk {
+    ($arena:ident, $words:ident, $out:ident) => {
+        match *$words {
+            ["iter", steps] => walk_steps($arena.iter(), steps_of(steps)?, Numbered, $out),
+            ["for"] => write_all($arena.len(), &*$arena, Numbered, $out),
+            ["iter_mut", steps, first] => {
+                let first = Renewed(read(first)?);
+                walk_steps($arena.iter_mut(), steps_of(steps)?, first, $out)
+            }
+            ["for_mut", first] => write_all($arena.len(), $arena, Renewed(read(first)?), $out),
+            _ => return $arena.answer_item($words, $out),
         }
     };
 }
 
 macro_rules! answer_item {
-    ($arena:ident, $key:ident, $call:ident, $own:expr) => {
-        match $call {
-            ItemCall::Get => lent($arena.get($key)),
-            ItemCall::GetMut(new) => overwritten($arena.get_mut($key), new),
-            ItemCall::Put(new) => item($arena.put($key, new)),
-            ItemCall::Has => Answer::Truth($arena.has($key)),
-            ItemCall::Index | ItemCall::IndexMut(_) if !$arena.has($key) => {
-                Answer::Word("no item")
+    ($arena:ident, $words:ident, $other:expr) => {
+        Ok(match *$words {
+            ["get", number] => lent($arena.get(key_of(number)?)),
+            ["get_mut", number, new] => overwritten($arena.get_mut(key_of(number)?), read(new)?),
+            ["put", number, new] => item($arena.put(key_of(number)?, read(new)?)),
+            ["has", number] => Answer::Truth($arena.has(key_of(number)?)),
+            ["index", number] => {
+                let key: Key = key_of(number)?;
+                if $arena.has(key) {
+                    Answer::Item(Some($arena[key]))
+                } else {
+                    Answer::NO_ITEM
+                }
             }
-            ItemCall::Index => Answer::Item(Some($arena[$key])),
-            ItemCall::IndexMut(new) => {
-                $arena[$key] = new;
-                Answer::Word("written")
+            ["index_mut", number, new] => {
+                let (key, new): (Key, i64) = (key_of(number)?, read(new)?);
+                if $arena.has(key) {
+                    $arena[key] = new;
+                    Answer::Word("written")
+                } else {
+                    Answer::NO_ITEM
+                }
             }
-            _ => $own,
-        }
-    };
-}
-
-macro_rules! walk {
-    ($arena:ident, $walk:ident, $out:ident) => {
-        match $walk {
-            Walk::Iter(steps) => walk_steps($arena.iter(), steps, Numbered, $out),
-            Walk::For => write_all($arena.len(), &*$arena, Numbered, $out),
-            Walk::IterMut(steps, first) => {
-                walk_steps($arena.iter_mut(), steps, Renewed(first), $out)
-            }
-            Walk::ForMut(first) => write_all($arena.len(), $arena, Renewed(first), $out),
-            _ => bad($out),
-        }
+            _ => return $other,
+        })
     };
 }
 
@@ -126,49 +157,40 @@ impl<Key: ArenaKey> Container for StableArena<Key, i64> {
         StableArena::new(alloc)
     }
 
-    fn answer(&mut self, other: &mut Self, alloc: Global, line: &str, out: &mut Line) {
-        match Call::parse(line) {
-            Some(Call::Walk(walk)) => self.walk(alloc, walk, out),
-            Some(call) => write(out, self.answer_own(other, alloc, call)),
-            None => bad(out),
+    fn answer(&mut self, other: &mut Self, alloc: Global, words: &[&str], out: &mut Line) -> Reply {
+        match *words {
+            ["clone"] => Ok(keep(self.clone(), other)),
+            ["clone_in"] => Ok(keep(self.clone_in(alloc), other)),
+            _ => answer!(self, alloc, words, out),
         }
     }
 }
 
 impl<Key: ArenaKey> AnyArena<Key> for StableArena<Key, i64> {
-    fn answer_own(&mut self, other: &mut Self, alloc: Global, call: Call<'_>) -> Answer {
-        match call {
-            Call::Clone => keep(self.clone(), other),
-            Call::CloneIn => keep(self.clone_in(alloc), other),
-            Call::Last => shown(self.last()),
-            Call::Room
-            | Call::OpenBuckets
-            | Call::Slots
-            | Call::Place(_)
-            | Call::SizeOfBucketAt(_) => answer_place(self.items(), call),
-            call => answer_keys!(self, alloc, call),
-        }
+    fn answer_own(&mut self, words: &[&str], out: &mut Line) -> Reply {
+        Ok(match *words {
+            ["last"] => shown(self.last()),
+            ["alloc_many", count] => numbers(self.alloc_many(usize::from(read::<u16>(count)?))),
+            ["swap", first, second] => done(self.swap(key_of(first)?, key_of(second)?)),
+            _ => return self.answer_walk(words, out),
+        })
     }
 
-    fn answer_call(&mut self, alloc: Global, call: Call<'_>) -> Answer {
-        answer_call!(self, alloc, call)
-    }
-
-    fn answer_item(&mut self, key: Key, call: ItemCall) -> Answer {
-        answer_item!(self, key, call, Answer::BAD)
-    }
-
-    fn walk(&mut self, _alloc: Global, walk: Walk<'_>, out: &mut Line) {
-        match walk {
-            Walk::Keys(steps) => walk_steps(self.keys(), steps, Number, out),
-            Walk::Values(steps) => walk_steps(self.values(), steps, Plain, out),
-            Walk::Slices(_) | Walk::Bucket(_) => walk_buckets(self.items(), walk, out),
-            Walk::RevMut(first) => {
-                let len = self.len();
-                write_all(len, self.iter_mut().rev(), Renewed(first), out)
+    fn answer_walk(&mut self, words: &[&str], out: &mut Line) -> Reply {
+        match *words {
+            ["keys", steps] => walk_steps(self.keys(), steps_of(steps)?, Number, out),
+            ["values", steps] => walk_steps(self.values(), steps_of(steps)?, Plain, out),
+            ["rev_mut", first] => {
+                let (len, first) = (self.len(), Renewed(read(first)?));
+                write_all(len, self.iter_mut().rev(), first, out)
             }
-            walk => walk!(self, walk, out),
+            _ => answer_walk!(self, words, out),
         }
+        Ok(Answer::Written)
+    }
+
+    fn answer_item(&mut self, words: &[&str], out: &mut Line) -> Reply {
+        answer_item!(self, words, answer_place(self.items(), words, out))
     }
 }
 
@@ -177,55 +199,51 @@ impl<Key: PairKey> Container for Arena<Key, i64> {
         Arena::new(alloc)
     }
 
-    fn answer(&mut self, other: &mut Self, alloc: Global, line: &str, out: &mut Line) {
-        match Call::parse(line) {
-            Some(Call::Walk(walk)) => self.walk(alloc, walk, out),
-            Some(call) => write(out, self.answer_own(other, alloc, call)),
-            None => bad(out),
+    fn answer(&mut self, _: &mut Self, alloc: Global, words: &[&str], out: &mut Line) -> Reply {
+        match *words {
+            ["into_iter", steps] => {
+                let steps = steps_of(steps)?;
+                let arena = mem::replace(self, Arena::new(alloc));
+                walk_steps(arena.into_iter(), steps, Numbered, out);
+                Ok(Answer::Written)
+            }
+            _ => answer!(self, alloc, words, out),
         }
     }
 }
 
 impl<Key: PairKey> AnyArena<Key> for Arena<Key, i64> {
-    fn answer_own(&mut self, _other: &mut Self, alloc: Global, call: Call<'_>) -> Answer {
-        match call {
-            Call::Reserve(count) => {
-                let additional = usize::from(count);
+    fn answer_own(&mut self, words: &[&str], out: &mut Line) -> Reply {
+        Ok(match *words {
+            ["reserve", additional] => {
+                let additional = usize::from(read::<u16>(additional)?);
                 match self.reserve(additional) {
                     Ok(()) => Answer::Truth(additional <= self.room()),
                     Err(error) => Answer::Error(error),
                 }
             }
-            Call::GetDisjointMut(first, second, new) => {
-                match (Key::from_usize(first), Key::from_usize(second)) {
-                    (Some(first), Some(second)) => Key::write_both(self, first, second, new),
-                    _ => Answer::Word("no key"),
-                }
+            ["alloc_many", count] => numbers(self.alloc_many(usize::from(read::<u16>(count)?))),
+            ["swap", first, second] => done(self.swap(key_of(first)?, key_of(second)?)),
+            ["get_disjoint_mut", first, second, new] => {
+                Key::write_both(self, key_of(first)?, key_of(second)?, read(new)?)
             }
-            call => answer_keys!(self, alloc, call),
+            _ => return self.answer_walk(words, out),
+        })
+    }
+
+    fn answer_walk(&mut self, words: &[&str], out: &mut Line) -> Reply {
+        match *words {
+            ["rev_mut", first] => {
+                let (len, first) = (self.len(), Renewed(read(first)?));
+                write_all(len, self.iter_mut().rev(), first, out)
+            }
+            _ => answer_walk!(self, words, out),
         }
+        Ok(Answer::Written)
     }
 
-    fn answer_call(&mut self, alloc: Global, call: Call<'_>) -> Answer {
-        answer_call!(self, alloc, call)
-    }
-
-    fn answer_item(&mut self, key: Key, call: ItemCall) -> Answer {
-        answer_item!(self, key, call, Answer::BAD)
-    }
-
-    fn walk(&mut self, alloc: Global, walk: Walk<'_>, out: &mut Line) {
-        match walk {
-            Walk::IntoIter(steps) => {
-                let arena = mem::replace(self, Arena::new(alloc));
-                walk_steps(arena.into_iter(), steps, Numbered, out)
-            }
-            Walk::RevMut(first) => {
-                let len = self.len();
-                write_all(len, self.iter_mut().rev(), Renewed(first), out)
-            }
-            walk => walk!(self, walk, out),
-        }
+    fn answer_item(&mut self, words: &[&str], _out: &mut Line) -> Reply {
+        answer_item!(self, words, Err(Answer::BAD))
     }
 }
 
@@ -234,41 +252,27 @@ impl<Key: ArenaKey> Container for DedupArena<Key, i64> {
         DedupArena::new(alloc)
     }
 
-    fn answer(&mut self, other: &mut Self, alloc: Global, line: &str, out: &mut Line) {
-        match Call::parse(line) {
-            Some(Call::Walk(walk)) => self.walk(alloc, walk, out),
-            Some(call) => write(out, self.answer_own(other, alloc, call)),
-            None => bad(out),
-        }
+    fn answer(&mut self, _: &mut Self, alloc: Global, words: &[&str], out: &mut Line) -> Reply {
+        answer!(self, alloc, words, out)
     }
 }
 
 impl<Key: ArenaKey> AnyArena<Key> for DedupArena<Key, i64> {
-    fn answer_own(&mut self, _other: &mut Self, alloc: Global, call: Call<'_>) -> Answer {
-        match call {
-            Call::KeyOf(item) => found(self.key_of(&item)),
-            Call::IndexOf(item) => found(self.index().get(&item).copied()),
-            call => self.answer_call(alloc, call),
-        }
+    fn answer_own(&mut self, words: &[&str], out: &mut Line) -> Reply {
+        Ok(match *words {
+            ["key_of", item] => found(self.key_of(&read(item)?)),
+            ["index_of", item] => found(self.index().get(&read(item)?).copied()),
+            ["replace", number, new] => item(self.replace(key_of(number)?, read(new)?)),
+            _ => return self.answer_walk(words, out),
+        })
     }
 
-    fn answer_call(&mut self, alloc: Global, call: Call<'_>) -> Answer {
-        answer_call!(self, alloc, call)
+    fn answer_walk(&mut self, words: &[&str], out: &mut Line) -> Reply {
+        answer_walk!(self, words, out);
+        Ok(Answer::Written)
     }
 
-    fn answer_item(&mut self, key: Key, call: ItemCall) -> Answer {
-        answer_item!(
-            self,
-            key,
-            call,
-            match call {
-                ItemCall::Replace(new) => item(self.replace(key, new)),
-                _ => Answer::BAD,
-            }
-        )
-    }
-
-    fn walk(&mut self, _alloc: Global, walk: Walk<'_>, out: &mut Line) {
-        walk!(self, walk, out)
+    fn answer_item(&mut self, words: &[&str], _out: &mut Line) -> Reply {
+        answer_item!(self, words, Err(Answer::BAD))
     }
 }

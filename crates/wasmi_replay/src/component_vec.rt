@@ -1,86 +1,94 @@
 //! Calls on a `ComponentVec`. A line names a key by its number.
 
-use crate::answers::{Answer, bad, found, keep, shown, write, written};
-use crate::call::{Call, ItemCall, Walk};
+use crate::answers::{Answer, Reply, found, keep, shown, written};
 use crate::format::{Numbered, Renewed};
 use crate::line::Line;
 use crate::replay::Container;
-use crate::walk::{walk_steps, write_all};
+use crate::walk::{Left, walk_steps, write_all};
+use crate::words::{key_of, read, steps_of};
 use std::alloc::Global;
 use wasmi_arena::ArenaKey;
-use wasmi_dense::ComponentVec;
+use wasmi_dense::{ComponentVec, ComponentVecIter, ComponentVecIterMut};
+
+impl<'a, Key: ArenaKey> Left for ComponentVecIter<'a, Key, i64> {
+    fn left(&self) -> Option<usize> {
+        None
+    }
+}
+
+impl<'a, Key: ArenaKey> Left for ComponentVecIterMut<'a, Key, i64> {
+    fn left(&self) -> Option<usize> {
+        None
+    }
+}
 
 impl<Key: ArenaKey> Container for ComponentVec<Key, i64> {
     fn empty(alloc: Global) -> Self {
         ComponentVec::new(alloc)
     }
 
-    fn answer(&mut self, other: &mut Self, _alloc: Global, line: &str, out: &mut Line) {
-        match Call::parse(line) {
-            Some(Call::Walk(walk)) => answer_walk(self, walk, out),
-            Some(call) => write(out, answer_call(self, other, call)),
-            None => bad(out),
-        }
-    }
-}
-
-fn answer_call<Key: ArenaKey>(
-    components: &mut ComponentVec<Key, i64>,
-    other: &mut ComponentVec<Key, i64>,
-    call: Call<'_>,
-) -> Answer {
-    match call {
-        Call::Extent => Answer::Number(components.extent()),
-        Call::Clear => {
-            components.clear();
-            Answer::DONE
-        }
-        Call::Clone => keep(components.clone(), other),
-        Call::Item(number, call) => match Key::from_usize(number) {
-            Some(key) => answer_item(components, key, call),
-            None => Answer::Word("no key"),
-        },
-        _ => Answer::BAD,
-    }
-}
-
-// Makes a call on the component under a key.
-fn answer_item<Key: ArenaKey>(
-    components: &mut ComponentVec<Key, i64>,
-    key: Key,
-    call: ItemCall,
-) -> Answer {
-    match call {
-        ItemCall::Get => shown(components.get(key)),
-        ItemCall::GetMut(new) => written(components.get_mut(key), new),
-        ItemCall::Set(new) => found(components.set(key, new)),
-        ItemCall::Has => Answer::Truth(components.has(key)),
-        ItemCall::Unset => Answer::Item(components.unset(key)),
-        ItemCall::Index | ItemCall::IndexMut(_) if components.get(key).is_none() => {
-            Answer::Word("no item")
-        }
-        ItemCall::Index => Answer::Item(Some(components[key])),
-        ItemCall::IndexMut(new) => {
-            components[key] = new;
-            Answer::Word("written")
-        }
-        ItemCall::Put(_) | ItemCall::Replace(_) => Answer::BAD,
+    fn answer(&mut self, other: &mut Self, _: Global, words: &[&str], out: &mut Line) -> Reply {
+        Ok(match *words {
+            ["extent"] => Answer::Number(self.extent()),
+            ["clear"] => {
+                self.clear();
+                Answer::DONE
+            }
+            ["clone"] => keep(self.clone(), other),
+            _ => return answer_walk(self, words, out),
+        })
     }
 }
 
 // Goes over all components.
 fn answer_walk<Key: ArenaKey>(
     components: &mut ComponentVec<Key, i64>,
-    walk: Walk<'_>,
+    words: &[&str],
     out: &mut Line,
-) {
-    match walk {
-        Walk::Iter(steps) => walk_steps(components.iter(), steps, Numbered, out),
-        Walk::For => write_all(components.extent(), &*components, Numbered, out),
-        Walk::IterMut(steps, first) => {
-            walk_steps(components.iter_mut(), steps, Renewed(first), out)
+) -> Reply {
+    match *words {
+        ["iter", steps] => walk_steps(components.iter(), steps_of(steps)?, Numbered, out),
+        ["for"] => write_all(components.extent(), &*components, Numbered, out),
+        ["iter_mut", steps, first] => {
+            let first = Renewed(read(first)?);
+            walk_steps(components.iter_mut(), steps_of(steps)?, first, out)
         }
-        Walk::ForMut(first) => write_all(components.extent(), components, Renewed(first), out),
-        _ => bad(out),
+        ["for_mut", first] => {
+            write_all(components.extent(), components, Renewed(read(first)?), out)
+        }
+        _ => return answer_component(components, words),
     }
+    Ok(Answer::Written)
+}
+
+// Makes a call on the component under a key.
+fn answer_component<Key: ArenaKey>(
+    components: &mut ComponentVec<Key, i64>,
+    words: &[&str],
+) -> Reply {
+    Ok(match *words {
+        ["get", number] => shown(components.get(key_of(number)?)),
+        ["get_mut", number, new] => written(components.get_mut(key_of(number)?), read(new)?),
+        ["set", number, new] => found(components.set(key_of(number)?, read(new)?)),
+        ["has", number] => Answer::Truth(components.has(key_of(number)?)),
+        ["unset", number] => Answer::Item(components.unset(key_of(number)?)),
+        ["index", number] => {
+            let key: Key = key_of(number)?;
+            if components.get(key).is_none() {
+                Answer::NO_ITEM
+            } else {
+                Answer::Item(Some(components[key]))
+            }
+        }
+        ["index_mut", number, new] => {
+            let (key, new): (Key, i64) = (key_of(number)?, read(new)?);
+            if components.get(key).is_none() {
+                Answer::NO_ITEM
+            } else {
+                components[key] = new;
+                Answer::Word("written")
+            }
+        }
+        _ => return Err(Answer::BAD),
+    })
 }

@@ -1,11 +1,24 @@
 //! The items of a call that takes several.
 ghost use Rattle.std.specs.Iterator.{at_most};
 
+use crate::answers::Answer;
+use crate::words::read;
+
 /// So many numbers, each one more than the one before, and `i64::MIN` after `i64::MAX`.
 #[derive(Clone, Copy)]
 pub struct Counted {
     pub next: i64,
     pub left: u16,
+}
+
+impl Counted {
+    /// Of two words: the first number, and how many there are.
+    pub fn read(first: &str, count: &str) -> Result<Counted, Answer> {
+        Ok(Counted {
+            next: read(first)?,
+            left: read(count)?,
+        })
+    }
 }
 
 impl Iterator for Counted {
@@ -75,6 +88,16 @@ impl Iterator for Pairs {
 }
 
 impl Pairs {
+    /// Of four words: the first key, the step to the next one, the first item, and how many there are.
+    pub fn read(key: &str, step: &str, item: &str, count: &str) -> Result<Pairs, Answer> {
+        Ok(Pairs {
+            key: read(key)?,
+            step: read(step)?,
+            item: read(item)?,
+            left: read(count)?,
+        })
+    }
+
     /// The keys alone.
     pub fn keys(self) -> Stepped {
         Stepped {

@@ -1,9 +1,9 @@
 //! Calls on a `HeadVec`.
 
-use crate::answers::{Answer, done, keep, shown, write, written};
-use crate::call::Call;
+use crate::answers::{Answer, Reply, done, keep, shown, written};
 use crate::line::Line;
 use crate::replay::Container;
+use crate::words::read;
 use std::alloc::Global;
 use wasmi_collections::HeadVec;
 
@@ -12,29 +12,22 @@ impl Container for HeadVec<i64> {
         HeadVec::new(alloc)
     }
 
-    fn answer(&mut self, other: &mut Self, _alloc: Global, line: &str, out: &mut Line) {
-        write(out, answer_line(self, other, line))
-    }
-}
-
-fn answer_line(vec: &mut HeadVec<i64>, other: &mut HeadVec<i64>, line: &str) -> Answer {
-    let Some(call) = Call::parse(line) else {
-        return Answer::BAD;
-    };
-    match call {
-        Call::Len => Answer::Number(vec.len()),
-        Call::IsEmpty => Answer::Truth(vec.is_empty()),
-        Call::Clear => {
-            vec.clear();
-            Answer::DONE
-        }
-        Call::Push(item) => done(vec.push(item)),
-        Call::Pop => Answer::Item(vec.pop()),
-        Call::Last => shown(vec.last()),
-        Call::LastMut(new) => written(vec.last_mut(), new),
-        Call::Clone => keep(vec.clone(), other),
-        Call::PartialCmp => Answer::PartialOrder((*vec).partial_cmp(other)),
-        Call::Cmp => Answer::Order((*vec).cmp(other)),
-        _ => Answer::BAD,
+    fn answer(&mut self, other: &mut Self, _: Global, words: &[&str], _: &mut Line) -> Reply {
+        Ok(match *words {
+            ["len"] => Answer::Number(self.len()),
+            ["is_empty"] => Answer::Truth(self.is_empty()),
+            ["clear"] => {
+                self.clear();
+                Answer::DONE
+            }
+            ["push", item] => done(self.push(read(item)?)),
+            ["pop"] => Answer::Item(self.pop()),
+            ["last"] => shown(self.last()),
+            ["last_mut", new] => written(self.last_mut(), read(new)?),
+            ["clone"] => keep(self.clone(), other),
+            ["partial_cmp"] => Answer::PartialOrder((*self).partial_cmp(other)),
+            ["cmp"] => Answer::Order((*self).cmp(other)),
+            _ => return Err(Answer::BAD),
+        })
     }
 }

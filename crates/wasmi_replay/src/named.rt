@@ -1,7 +1,5 @@
 //! The container that a line names.
 
-use crate::words::Words;
-
 /// What a line `on ..` names.
 #[derive(Clone, Copy)]
 pub enum Named {
@@ -35,23 +33,19 @@ pub enum Keys {
 }
 
 impl Named {
-    /// Reads a line, given without its line feed. `None` if it names no container.
-    pub fn parse(line: &str) -> Option<Named> {
-        let mut words = Words::new(line);
-        if words.text() != "on" {
-            return None;
+    /// Of the words of a line. `None` if they name no container.
+    pub fn parse(words: &[&str]) -> Option<Named> {
+        match *words {
+            ["on", "stable_vec"] => Some(Named::StableVec),
+            ["on", "head_vec"] => Some(Named::HeadVec),
+            ["on", "ordered_map"] => Some(Named::OrderedMap),
+            ["on", "ordered_set"] => Some(Named::OrderedSet),
+            ["on", "hashed_map"] => Some(Named::HashedMap),
+            ["on", "hashed_set"] => Some(Named::HashedSet),
+            ["on", "string_interner"] => Some(Named::StringInterner),
+            ["on", name, keys] => Some(Named::Keyed(Keyed::parse(name)?, Keys::parse(keys)?)),
+            _ => None,
         }
-        let named = match words.text() {
-            "stable_vec" => Named::StableVec,
-            "head_vec" => Named::HeadVec,
-            "ordered_map" => Named::OrderedMap,
-            "ordered_set" => Named::OrderedSet,
-            "hashed_map" => Named::HashedMap,
-            "hashed_set" => Named::HashedSet,
-            "string_interner" => Named::StringInterner,
-            name => Named::Keyed(Keyed::parse(name)?, Keys::parse(words.text())?),
-        };
-        words.end(named)
     }
 }
 

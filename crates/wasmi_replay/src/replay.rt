@@ -1,5 +1,6 @@
 //! The loop over the input.
 
+use crate::answers::{Answer, Reply, write};
 use crate::line::Line;
 use crate::lines::Lines;
 use crate::named::{Keyed, Keys, Named};
@@ -20,15 +21,16 @@ use wasmi_vectors::few_keys::FewKeys;
 pub trait Container: Sized {
     fn empty(alloc: Global) -> Self;
 
-    /// Makes the call that a line names, and writes the line of its answer. The other container lies beside this one.
-    fn answer(&mut self, other: &mut Self, alloc: Global, line: &str, out: &mut Line);
+    /// Makes the call that the words of a line name: a method's name and its arguments. The other container lies beside
+    /// this one. An iteration writes what it comes to.
+    fn answer(&mut self, other: &mut Self, alloc: Global, words: &[&str], out: &mut Line) -> Reply;
 }
 
 /// Makes the calls of the input on the containers that it names, and writes one line for each of its
 /// lines.
 ///
-/// Fails where a read or a write fails, or memory runs out. It holds two containers, the longest line and the longest
-/// answer.
+/// Fails where a read or a write fails, or memory runs out. It holds two containers, the longest line with its words, and
+/// the longest answer.
 pub fn run<R: Read + Drop, W: Write + Drop>(alloc: Global, reader: R, writer: W) -> io::Result<()> {
     let mut replay = Replay {
         alloc,
@@ -56,10 +58,16 @@ struct Replay<R: Read + Drop, W: Write + Drop> {
 }
 
 impl<R: Read + Drop, W: Write + Drop> Replay<R, W> {
+    // What the line names.
+    fn named(&self) -> io::Result<Option<Named>> {
+        let words: Vec<&str> = self.lines.text().split(' ').collect(self.alloc)?;
+        Ok(Named::parse(&words))
+    }
+
     // Answers the line that names a container, and the lines after it up to the next that begins with `on`. False if
     // there is none.
     fn serve_named(&mut self) -> io::Result<bool> {
-        match Named::parse(self.lines.text()) {
+        match self.named()? {
             Some(Named::StableVec) => self.serve::<StableVec<i64>>(),
             Some(Named::HeadVec) => self.serve::<HeadVec<i64>>(),
             Some(Named::OrderedMap) => self.serve::<ordered::Map<i64, i64>>(),
@@ -104,11 +112,12 @@ impl<R: Read + Drop, W: Write + Drop> Replay<R, W> {
             if line.starts_with("on ") {
                 return Ok(true);
             }
+            let words: Vec<&str> = line.split(' ').collect(self.alloc)?;
             answer(
                 &mut container,
                 &mut other,
                 self.alloc,
-                line,
+                &words,
                 &mut self.answer,
             );
             self.answer.flush(&mut self.out)?;
@@ -117,21 +126,24 @@ impl<R: Read + Drop, W: Write + Drop> Replay<R, W> {
     }
 }
 
-// Makes a call that each container has, or one of its own.
+// Makes a call that each container has, or one of its own, and writes the answer.
 fn answer<C: Container + PartialEq + Debug>(
     container: &mut C,
     other: &mut C,
     alloc: Global,
-    line: &str,
+    words: &[&str],
     out: &mut Line,
 ) {
-    match line {
-        "exchange" => {
+    match *words {
+        ["exchange"] => {
             mem::swap(container, other);
-            writeln!(out, "done")
+            write(out, Answer::DONE)
         }
-        "eq" => writeln!(out, "{}", *container == *other),
-        "debug" => writeln!(out, "{container:?}"),
-        _ => container.answer(other, alloc, line, out),
+        ["eq"] => write(out, Answer::Truth(*container == *other)),
+        ["debug"] => writeln!(out, "{container:?}"),
+        _ => match container.answer(other, alloc, words, out) {
+            Ok(answer) => write(out, answer),
+            Err(answer) => write(out, answer),
+        },
     }
 }

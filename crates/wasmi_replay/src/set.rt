@@ -1,106 +1,100 @@
 //! Calls on a `Set` of either backing.
 
-use crate::answers::{Answer, bad, done, found, keep, shown, write};
+use crate::answers::{Answer, Reply, done, found, keep, shown};
+use crate::counted::Pairs;
 use crate::format::Plain;
 use crate::line::Line;
 use crate::replay::Container;
 use crate::table::answer_table;
-use crate::table_call::{
-    BackingCall, BothCall, BothWalk, KeyCall, MadeCall, Part, TableCall, Walk,
-};
 use crate::walk::{walk, walk_all, walk_ends, write_all};
+use crate::words::read;
 use std::alloc::Global;
 use std::mem;
-use wasmi_arena::ArenaError;
 use wasmi_hashed::set as hashed;
 use wasmi_ordered::set as ordered;
 
-/// A set of numbers. The types of its iterators are those of its backing, so a call on them is a method, and the macro
-/// that is its body stands below.
+/// A set of numbers. The types of its iterators are those of its backing, so a call on them is a method, and the
+/// macro that is its body stands below. Each is asked where the one before knows no such call.
 trait AnySet: Sized {
-    /// Makes a call on an element.
-    fn answer_key(&mut self, key: i64, call: KeyCall) -> Answer;
+    /// Makes a call that maps or sets of the other backing don't have.
+    fn own(&mut self, other: &mut Self, alloc: Global, words: &[&str], out: &mut Line) -> Reply;
 
-    /// Makes a call on both sets that changes neither.
-    fn compare(&self, other: &Self, call: BothCall) -> bool;
+    /// Makes an iteration.
+    fn answer_walk(
+        &mut self,
+        other: &mut Self,
+        alloc: Global,
+        words: &[&str],
+        out: &mut Line,
+    ) -> Reply;
 
-    /// The set of both, by an operator.
-    fn made(&self, other: &Self, call: MadeCall) -> Result<Self, ArenaError>;
+    /// Makes a call on both sets. The set that an operator makes takes the place of the other one.
+    fn answer_both(&mut self, other: &mut Self, words: &[&str]) -> Reply;
+
+    /// Makes a call on elements.
+    fn answer_key(&mut self, words: &[&str]) -> Reply;
 
     /// Keeps the elements that have a bit of the mask. Counts the calls.
     fn thin(&mut self, mask: i64) -> usize;
-
-    /// Makes a call that sets of the other backing don't have.
-    fn answer_backing(&mut self, other: &mut Self, call: BackingCall) -> Answer;
-
-    fn answer_walk(&mut self, other: &Self, alloc: Global, walk: Walk, out: &mut Line);
-
-    fn walk_both(&self, other: &Self, walk: BothWalk, steps: u16, out: &mut Line);
-}
-
-macro_rules! answer_key {
-    ($set:ident, $key:ident, $call:ident) => {
-        match $call {
-            KeyCall::Add => match $set.insert($key) {
-                Ok(is_new) => Answer::Truth(is_new),
-                Err(error) => Answer::Error(error),
-            },
-            KeyCall::Get => shown($set.get(&$key)),
-            KeyCall::Contains => Answer::Truth($set.contains(&$key)),
-            KeyCall::Replace => found($set.replace($key)),
-            KeyCall::Remove => Answer::Truth($set.remove(&$key)),
-            KeyCall::Take => Answer::Item($set.take(&$key)),
-            _ => Answer::BAD,
-        }
-    };
-}
-
-macro_rules! compare {
-    ($set:ident, $other:ident, $call:ident) => {
-        match $call {
-            BothCall::IsSubset => $set.is_subset($other),
-            BothCall::IsSuperset => $set.is_superset($other),
-            BothCall::IsDisjoint => $set.is_disjoint($other),
-        }
-    };
 }
 
 macro_rules! answer_walk {
-    ($set:ident, $other:ident, $alloc:ident, $walk:ident, $out:ident) => {
-        match $walk {
-            Walk::Over(Part::Iter, steps) => walk($set.iter(), steps, Plain, $out),
-            Walk::Taken(Part::Iter, steps) => {
+    ($set:ident, $other:ident, $alloc:ident, $words:ident, $out:ident) => {
+        match *$words {
+            ["iter", steps] => walk($set.iter(), read(steps)?, Plain, $out),
+            ["into_iter", steps] => {
+                let steps = read(steps)?;
                 let set = mem::replace($set, Self::new($alloc));
                 walk(set.into_iter(), steps, Plain, $out)
             }
-            Walk::For => write_all($set.len(), &*$set, Plain, $out),
-            Walk::Both(walk, steps) => $set.walk_both($other, walk, steps, $out),
-            _ => bad($out),
-        }
-    };
-}
-
-macro_rules! walk_both {
-    ($set:ident, $other:ident, $walk:ident, $steps:ident, $out:ident) => {
-        match $walk {
-            BothWalk::Union => walk_all($set.union($other), $steps, Plain, $out),
-            BothWalk::Intersection => walk_all($set.intersection($other), $steps, Plain, $out),
-            BothWalk::Difference => walk_all($set.difference($other), $steps, Plain, $out),
-            BothWalk::SymmetricDifference => {
-                walk_all($set.symmetric_difference($other), $steps, Plain, $out)
+            ["for"] => write_all($set.len(), &*$set, Plain, $out),
+            ["union", steps] => walk_all($set.union($other), read(steps)?, Plain, $out),
+            ["intersection", steps] => {
+                walk_all($set.intersection($other), read(steps)?, Plain, $out)
             }
+            ["difference", steps] => walk_all($set.difference($other), read(steps)?, Plain, $out),
+            ["symmetric_difference", steps] => {
+                walk_all($set.symmetric_difference($other), read(steps)?, Plain, $out)
+            }
+            _ => return $set.answer_both($other, $words),
         }
     };
 }
 
-macro_rules! made {
-    ($set:ident, $other:ident, $call:ident) => {
-        match $call {
-            MadeCall::BitAnd => $set.bitand($other),
-            MadeCall::BitOr => $set.bitor($other),
-            MadeCall::BitXor => $set.bitxor($other),
-            MadeCall::Sub => $set.sub($other),
-        }
+macro_rules! answer_both {
+    ($set:ident, $other:ident, $words:ident) => {
+        Ok(match *$words {
+            ["is_subset"] => Answer::Truth($set.is_subset($other)),
+            ["is_superset"] => Answer::Truth($set.is_superset($other)),
+            ["is_disjoint"] => Answer::Truth($set.is_disjoint($other)),
+            ["bitand"] => keep($set.bitand($other), $other),
+            ["bitor"] => keep($set.bitor($other), $other),
+            ["bitxor"] => keep($set.bitxor($other), $other),
+            ["sub"] => keep($set.sub($other), $other),
+            _ => return $set.answer_key($words),
+        })
+    };
+}
+
+macro_rules! answer_key {
+    ($set:ident, $words:ident) => {
+        Ok(match *$words {
+            ["insert", key] => match $set.insert(read(key)?) {
+                Ok(is_new) => Answer::Truth(is_new),
+                Err(error) => Answer::Error(error),
+            },
+            ["get", key] => shown($set.get(&read(key)?)),
+            ["contains", key] => Answer::Truth($set.contains(&read(key)?)),
+            ["replace", key] => found($set.replace(read(key)?)),
+            ["remove", key] => Answer::Truth($set.remove(&read(key)?)),
+            ["take", key] => Answer::Item($set.take(&read(key)?)),
+            ["retain", mask, add] => {
+                // The number to add is a map's.
+                let (mask, _add): (i64, i64) = (read(mask)?, read(add)?);
+                Answer::Number($set.thin(mask))
+            }
+            _ => return Err(Answer::BAD),
+        })
     };
 }
 
@@ -115,83 +109,60 @@ macro_rules! thin {
     }};
 }
 
-// Makes a call that maps don't have.
-fn answer_own<S: AnySet + Drop>(set: &mut S, other: &mut S, call: TableCall) -> Answer {
-    match call {
-        TableCall::Key(key, call) => set.answer_key(key, call),
-        TableCall::Both(call) => Answer::Truth(set.compare(other, call)),
-        TableCall::Made(call) => keep(set.made(other, call), other),
-        TableCall::Retain(mask, _) => Answer::Number(set.thin(mask)),
-        TableCall::Backing(call) => set.answer_backing(other, call),
-        _ => Answer::BAD,
-    }
-}
-
 impl Container for ordered::Set<i64> {
     fn empty(alloc: Global) -> Self {
         ordered::Set::new(alloc)
     }
 
-    fn answer(&mut self, other: &mut Self, alloc: Global, line: &str, out: &mut Line) {
-        match TableCall::parse(line) {
-            Some(TableCall::Walk(walk)) => self.answer_walk(other, alloc, walk, out),
-            Some(call) => {
-                write(
-                    out,
-                    answer_table!(self, other, alloc, call, pairs => pairs.keys()),
-                )
-            }
-            None => bad(out),
-        }
+    fn answer(&mut self, other: &mut Self, alloc: Global, words: &[&str], out: &mut Line) -> Reply {
+        answer_table!(self, other, alloc, words, out, pairs => pairs.keys())
     }
 }
 
 impl AnySet for ordered::Set<i64> {
-    fn answer_key(&mut self, key: i64, call: KeyCall) -> Answer {
-        answer_key!(self, key, call)
+    fn own(&mut self, other: &mut Self, alloc: Global, words: &[&str], out: &mut Line) -> Reply {
+        Ok(match *words {
+            ["first"] => shown(self.first()),
+            ["last"] => shown(self.last()),
+            ["pop_first"] => Answer::Item(self.pop_first()),
+            ["pop_last"] => Answer::Item(self.pop_last()),
+            ["split_off", from] => keep(self.split_off(&read(from)?), other),
+            ["append"] => done(self.append(other)),
+            ["range", from, to, steps] => range(self, read(from)?, read(to)?, read(steps)?, out),
+            _ => return self.answer_walk(other, alloc, words, out),
+        })
     }
 
-    fn compare(&self, other: &Self, call: BothCall) -> bool {
-        compare!(self, other, call)
+    fn answer_walk(
+        &mut self,
+        other: &mut Self,
+        alloc: Global,
+        words: &[&str],
+        out: &mut Line,
+    ) -> Reply {
+        answer_walk!(self, other, alloc, words, out);
+        Ok(Answer::Written)
     }
 
-    fn made(&self, other: &Self, call: MadeCall) -> Result<Self, ArenaError> {
-        made!(self, other, call)
+    fn answer_both(&mut self, other: &mut Self, words: &[&str]) -> Reply {
+        answer_both!(self, other, words)
     }
 
-    fn answer_walk(&mut self, other: &Self, alloc: Global, walk: Walk, out: &mut Line) {
-        match walk {
-            Walk::Range(from, to, steps) => range(self, from, to, steps, out),
-            walk => answer_walk!(self, other, alloc, walk, out),
-        }
-    }
-
-    fn walk_both(&self, other: &Self, walk: BothWalk, steps: u16, out: &mut Line) {
-        walk_both!(self, other, walk, steps, out)
+    fn answer_key(&mut self, words: &[&str]) -> Reply {
+        answer_key!(self, words)
     }
 
     fn thin(&mut self, mask: i64) -> usize {
         thin!(self, mask)
     }
-
-    fn answer_backing(&mut self, other: &mut Self, call: BackingCall) -> Answer {
-        match call {
-            BackingCall::First => shown(self.first()),
-            BackingCall::Last => shown(self.last()),
-            BackingCall::PopFirst => Answer::Item(self.pop_first()),
-            BackingCall::PopLast => Answer::Item(self.pop_last()),
-            BackingCall::SplitOff(from) => keep(self.split_off(&from), other),
-            BackingCall::Append => done(self.append(other)),
-            BackingCall::Capacity | BackingCall::ShrinkToFit => Answer::BAD,
-        }
-    }
 }
 
-fn range(set: &ordered::Set<i64>, from: i64, to: i64, steps: u16, out: &mut Line) {
+fn range(set: &ordered::Set<i64>, from: i64, to: i64, steps: u16, out: &mut Line) -> Answer {
     if from > to {
-        return writeln!(out, "no range");
+        return Answer::Word("no range");
     }
-    walk_ends(set.range(from..to), steps, Plain, out)
+    walk_ends(set.range(from..to), steps, Plain, out);
+    Answer::Written
 }
 
 impl Container for hashed::Set<i64> {
@@ -199,53 +170,43 @@ impl Container for hashed::Set<i64> {
         hashed::Set::new(alloc)
     }
 
-    fn answer(&mut self, other: &mut Self, alloc: Global, line: &str, out: &mut Line) {
-        match TableCall::parse(line) {
-            Some(TableCall::Walk(walk)) => self.answer_walk(other, alloc, walk, out),
-            Some(call) => {
-                write(
-                    out,
-                    answer_table!(self, other, alloc, call, pairs => pairs.keys()),
-                )
-            }
-            None => bad(out),
-        }
+    fn answer(&mut self, other: &mut Self, alloc: Global, words: &[&str], out: &mut Line) -> Reply {
+        answer_table!(self, other, alloc, words, out, pairs => pairs.keys())
     }
 }
 
 impl AnySet for hashed::Set<i64> {
-    fn answer_key(&mut self, key: i64, call: KeyCall) -> Answer {
-        answer_key!(self, key, call)
+    fn own(&mut self, other: &mut Self, alloc: Global, words: &[&str], out: &mut Line) -> Reply {
+        Ok(match *words {
+            ["capacity"] => Answer::Truth(self.capacity() >= self.len()),
+            ["shrink_to_fit"] => {
+                self.shrink_to_fit();
+                Answer::DONE
+            }
+            _ => return self.answer_walk(other, alloc, words, out),
+        })
     }
 
-    fn compare(&self, other: &Self, call: BothCall) -> bool {
-        compare!(self, other, call)
+    fn answer_walk(
+        &mut self,
+        other: &mut Self,
+        alloc: Global,
+        words: &[&str],
+        out: &mut Line,
+    ) -> Reply {
+        answer_walk!(self, other, alloc, words, out);
+        Ok(Answer::Written)
     }
 
-    fn made(&self, other: &Self, call: MadeCall) -> Result<Self, ArenaError> {
-        made!(self, other, call)
+    fn answer_both(&mut self, other: &mut Self, words: &[&str]) -> Reply {
+        answer_both!(self, other, words)
     }
 
-    fn answer_walk(&mut self, other: &Self, alloc: Global, walk: Walk, out: &mut Line) {
-        answer_walk!(self, other, alloc, walk, out)
-    }
-
-    fn walk_both(&self, other: &Self, walk: BothWalk, steps: u16, out: &mut Line) {
-        walk_both!(self, other, walk, steps, out)
+    fn answer_key(&mut self, words: &[&str]) -> Reply {
+        answer_key!(self, words)
     }
 
     fn thin(&mut self, mask: i64) -> usize {
         thin!(self, mask)
-    }
-
-    fn answer_backing(&mut self, _other: &mut Self, call: BackingCall) -> Answer {
-        match call {
-            BackingCall::Capacity => Answer::Truth(self.capacity() >= self.len()),
-            BackingCall::ShrinkToFit => {
-                self.shrink_to_fit();
-                Answer::DONE
-            }
-            _ => Answer::BAD,
-        }
     }
 }

@@ -1,119 +1,163 @@
 //! Calls on a `StableVec`.
 
-use crate::answers::{Answer, bad, done, item, keep, shown, write, written};
-use crate::call::{Call, ItemCall, Walk};
+use crate::answers::{Answer, Reply, done, item, keep, shown, written};
+use crate::counted::Counted;
 use crate::format::{Bucket, Plain, Renewed};
 use crate::line::Line;
 use crate::replay::Container;
-use crate::walk::{walk_steps, write_all};
+use crate::walk::{Left, walk_steps, write_all};
+use crate::words::{read, steps_of};
 use std::alloc::Global;
 use std::hash::{DefaultHasher, Hash, Hasher};
-use wasmi_arena::{MAX_LEN, StableVec};
+use wasmi_arena::{
+    MAX_LEN, StableVec, StableVecIter, StableVecIterMut, StableVecSlices, StableVecSlicesMut,
+};
+
+impl<'a> Left for StableVecIter<'a, i64> {
+    fn left(&self) -> Option<usize> {
+        Some(self.len())
+    }
+}
+
+impl<'a> Left for StableVecIterMut<'a, i64> {
+    fn left(&self) -> Option<usize> {
+        Some(self.len())
+    }
+}
+
+impl<'a> Left for StableVecSlices<'a, i64> {
+    fn left(&self) -> Option<usize> {
+        Some(self.len())
+    }
+}
+
+impl<'a> Left for StableVecSlicesMut<'a, i64> {
+    fn left(&self) -> Option<usize> {
+        Some(self.len())
+    }
+}
 
 impl Container for StableVec<i64> {
     fn empty(alloc: Global) -> Self {
         StableVec::new(alloc)
     }
 
-    fn answer(&mut self, other: &mut Self, alloc: Global, line: &str, out: &mut Line) {
-        match Call::parse(line) {
-            Some(Call::Walk(walk)) => answer_walk(self, walk, out),
-            Some(call) => write(out, answer_call(self, other, alloc, call)),
-            None => bad(out),
-        }
+    fn answer(&mut self, other: &mut Self, alloc: Global, words: &[&str], out: &mut Line) -> Reply {
+        Ok(match *words {
+            ["len"] => Answer::Number(self.len()),
+            ["is_empty"] => Answer::Truth(self.is_empty()),
+            ["clear"] => {
+                self.clear();
+                Answer::DONE
+            }
+            ["push", item] => match self.push(read(item)?) {
+                Ok(index) => Answer::Number(index),
+                Err(error) => Answer::Error(error),
+            },
+            ["pop"] => Answer::Item(self.pop()),
+            ["extend", first, count] => done(self.extend(Counted::read(first, count)?)),
+            ["from_iter", first, count] => {
+                let items = Counted::read(first, count)?;
+                keep(StableVec::from_iter(alloc, items), self)
+            }
+            ["clone"] => keep(self.clone(), other),
+            ["clone_in"] => keep(self.clone_in(alloc), other),
+            ["partial_cmp"] => Answer::PartialOrder((*self).partial_cmp(other)),
+            ["cmp"] => Answer::Order((*self).cmp(other)),
+            ["hash"] => Answer::Hash(hash_of(self)),
+            _ => return answer_item(self, words, out),
+        })
     }
 }
 
-fn answer_call(
-    vec: &mut StableVec<i64>,
-    other: &mut StableVec<i64>,
-    alloc: Global,
-    call: Call<'_>,
-) -> Answer {
-    match call {
-        Call::Len => Answer::Number(vec.len()),
-        Call::IsEmpty => Answer::Truth(vec.is_empty()),
-        Call::Clear => {
-            vec.clear();
-            Answer::DONE
+// Makes a call on items.
+fn answer_item(vec: &mut StableVec<i64>, words: &[&str], out: &mut Line) -> Reply {
+    Ok(match *words {
+        ["first"] => shown(vec.first()),
+        ["last"] => shown(vec.last()),
+        ["get", index] => shown(vec.get(read(index)?)),
+        ["get_mut", index, new] => written(vec.get_mut(read(index)?), read(new)?),
+        ["put", index, new] => item(vec.put(read(index)?, read(new)?)),
+        ["swap", first, second] => done(vec.swap(read(first)?, read(second)?)),
+        ["index", index] => {
+            let index: usize = read(index)?;
+            if index < vec.len() {
+                Answer::Item(Some(vec[index]))
+            } else {
+                Answer::NO_ITEM
+            }
         }
-        Call::Push(item) => match vec.push(item) {
-            Ok(index) => Answer::Number(index),
-            Err(error) => Answer::Error(error),
-        },
-        Call::Pop => Answer::Item(vec.pop()),
-        Call::First => shown(vec.first()),
-        Call::Last => shown(vec.last()),
-        Call::Item(index, call) => answer_item(vec, index, call),
-        Call::Swap(first, second) => done(vec.swap(first, second)),
-        Call::Extend(items) => done(vec.extend(items)),
-        Call::FromIter(items) => keep(StableVec::from_iter(alloc, items), vec),
-        Call::Clone => keep(vec.clone(), other),
-        Call::CloneIn => keep(vec.clone_in(alloc), other),
-        Call::PartialCmp => Answer::PartialOrder((*vec).partial_cmp(other)),
-        Call::Cmp => Answer::Order((*vec).cmp(other)),
-        Call::Hash => Answer::Hash(hash_of(vec)),
-        call => answer_place(vec, call),
-    }
-}
-
-// Makes a call on the item at an index.
-fn answer_item(vec: &mut StableVec<i64>, index: usize, call: ItemCall) -> Answer {
-    match call {
-        ItemCall::Get => shown(vec.get(index)),
-        ItemCall::GetMut(new) => written(vec.get_mut(index), new),
-        ItemCall::Put(new) => item(vec.put(index, new)),
-        ItemCall::Index | ItemCall::IndexMut(_) if index >= vec.len() => { Answer::Word("no item") }
-        ItemCall::Index => Answer::Item(Some(vec[index])),
-        ItemCall::IndexMut(new) => {
-            vec[index] = new;
-            Answer::Word("written")
+        ["index_mut", index, new] => {
+            let (index, new): (usize, i64) = (read(index)?, read(new)?);
+            if index < vec.len() {
+                vec[index] = new;
+                Answer::Word("written")
+            } else {
+                Answer::NO_ITEM
+            }
         }
-        _ => Answer::BAD,
-    }
-}
-
-/// Makes a call on where the items lie.
-pub fn answer_place(vec: &StableVec<i64>, call: Call<'_>) -> Answer {
-    match call {
-        Call::Room => Answer::Number(vec.room()),
-        Call::OpenBuckets => Answer::Number(vec.open_buckets()),
-        Call::Slots => Answer::Number(vec.slots()),
-        Call::Place(index) if index < MAX_LEN => {
-            let (bucket, slot) = StableVec::<i64>::place(index);
-            Answer::Numbers(bucket, slot)
-        }
-        Call::SizeOfBucketAt(number) if number < 27 => {
-            Answer::Number(StableVec::<i64>::size_of_bucket_at(number))
-        }
-        Call::Place(_) | Call::SizeOfBucketAt(_) => Answer::Word("none"),
-        _ => Answer::BAD,
-    }
+        _ => return answer_walk(vec, words, out),
+    })
 }
 
 // Goes over all items. Where it writes, each item is shown as it was, and they become the numbers from one on.
-fn answer_walk(vec: &mut StableVec<i64>, walk: Walk<'_>, out: &mut Line) {
-    match walk {
-        Walk::Iter(steps) => walk_steps(vec.iter(), steps, Plain, out),
-        Walk::For => write_all(vec.len(), &*vec, Plain, out),
-        Walk::IterMut(steps, first) => walk_steps(vec.iter_mut(), steps, Renewed(first), out),
-        Walk::SlicesMut(steps, first) => walk_steps(vec.slices_mut(), steps, Renewed(first), out),
-        Walk::ForMut(first) => write_all(vec.len(), vec, Renewed(first), out),
-        Walk::RevMut(first) => {
-            let len = vec.len();
-            write_all(len, vec.iter_mut().rev(), Renewed(first), out)
+fn answer_walk(vec: &mut StableVec<i64>, words: &[&str], out: &mut Line) -> Reply {
+    match *words {
+        ["iter", steps] => walk_steps(vec.iter(), steps_of(steps)?, Plain, out),
+        ["for"] => write_all(vec.len(), &*vec, Plain, out),
+        ["iter_mut", steps, first] => {
+            let first = Renewed(read(first)?);
+            walk_steps(vec.iter_mut(), steps_of(steps)?, first, out)
         }
-        walk => walk_buckets(vec, walk, out),
+        ["slices_mut", steps, first] => {
+            let first = Renewed(read(first)?);
+            walk_steps(vec.slices_mut(), steps_of(steps)?, first, out)
+        }
+        ["for_mut", first] => write_all(vec.len(), vec, Renewed(read(first)?), out),
+        ["rev_mut", first] => {
+            let (len, first) = (vec.len(), Renewed(read(first)?));
+            write_all(len, vec.iter_mut().rev(), first, out)
+        }
+        _ => return answer_place(vec, words, out),
     }
+    Ok(Answer::Written)
 }
 
-/// Goes over the buckets, or the items of one.
-pub fn walk_buckets(vec: &StableVec<i64>, walk: Walk<'_>, out: &mut Line) {
-    match walk {
-        Walk::Slices(steps) => walk_steps(vec.slices(), steps, Bucket, out),
-        Walk::Bucket(number) => bucket(vec, number, out),
-        _ => bad(out),
+/// Makes a call on where the items lie.
+pub fn answer_place(vec: &StableVec<i64>, words: &[&str], out: &mut Line) -> Reply {
+    Ok(match *words {
+        ["room"] => Answer::Number(vec.room()),
+        ["open_buckets"] => Answer::Number(vec.open_buckets()),
+        ["slots"] => Answer::Number(vec.slots()),
+        ["place", index] => {
+            let index: usize = read(index)?;
+            if index < MAX_LEN {
+                let (bucket, slot) = StableVec::<i64>::place(index);
+                Answer::Numbers(bucket, slot)
+            } else {
+                Answer::Word("none")
+            }
+        }
+        ["size_of_bucket_at", number] => {
+            let number: usize = read(number)?;
+            if number < 27 {
+                Answer::Number(StableVec::<i64>::size_of_bucket_at(number))
+            } else {
+                Answer::Word("none")
+            }
+        }
+        _ => return walk_buckets(vec, words, out),
+    })
+}
+
+// Goes over the buckets, or the items of one.
+fn walk_buckets(vec: &StableVec<i64>, words: &[&str], out: &mut Line) -> Reply {
+    match *words {
+        ["slices", steps] => walk_steps(vec.slices(), steps_of(steps)?, Bucket, out),
+        ["bucket", number] => bucket(vec, read(number)?, out),
+        _ => return Err(Answer::BAD),
     }
+    Ok(Answer::Written)
 }
 
 // What the standard library's hasher makes of a vector.

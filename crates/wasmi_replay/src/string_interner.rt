@@ -1,58 +1,73 @@
 //! Calls on a `StringInterner`. A line names a symbol by its number.
 
-use crate::answers::{Answer, bad, done, keep, write};
+use crate::answers::{Answer, Reply, done, keep};
 use crate::format::Text;
-use crate::interner_call::InternerCall;
 use crate::line::Line;
 use crate::replay::Container;
-use crate::walk::walk_steps;
+use crate::walk::{Left, walk_steps};
+use crate::words::{read, steps_of};
 use std::alloc::Global;
 use std::hash::{DefaultHasher, Hash, Hasher};
 use wasmi_arena::ArenaError;
-use wasmi_collections::StringInterner;
 use wasmi_collections::string_interner::{InternHint, Steps, Sym};
+use wasmi_collections::{StringInterner, string_interner};
+
+impl<'a> Left for string_interner::Iter<'a> {
+    fn left(&self) -> Option<usize> {
+        Some(self.len())
+    }
+}
 
 impl Container for StringInterner {
     fn empty(alloc: Global) -> Self {
         StringInterner::new(alloc)
     }
 
-    fn answer(&mut self, other: &mut Self, _alloc: Global, line: &str, out: &mut Line) {
-        let Some(call) = InternerCall::parse(line) else {
-            return bad(out);
-        };
-        match call {
-            InternerCall::GetCounted(text) => counted(self, text, out),
-            InternerCall::GetOrInternWithHint(hint, text) => hinted(self, text, hint, out),
-            InternerCall::Iter(steps) => walk_steps(self.iter(), steps, Text, out),
-            InternerCall::Resolve(number) => match self.resolve(Sym::from_u32(number)) {
-                Some(text) => writeln!(out, "\"{text}\""),
-                None => writeln!(out, "none"),
-            },
-            InternerCall::Symbols(first, second) => symbols(first, second, out),
-            call => write(out, answer_call(self, other, call)),
-        }
+    fn answer(&mut self, other: &mut Self, _: Global, words: &[&str], out: &mut Line) -> Reply {
+        Ok(match *words {
+            ["len"] => Answer::Number(self.len()),
+            ["is_empty"] => Answer::Truth(self.is_empty()),
+            ["clear"] => {
+                self.clear();
+                Answer::DONE
+            }
+            ["contains", text] => Answer::Truth(self.contains(text)),
+            ["get", text] => Answer::Key(self.get(text).map(Sym::into_usize)),
+            ["get_or_intern", text] => number(self.get_or_intern(text)),
+            ["extend", texts] => done(self.extend(texts.split(','))),
+            ["clone"] => keep(self.clone(), other),
+            _ => return answer_symbol(self, words, out),
+        })
     }
 }
 
-fn answer_call(
-    interner: &mut StringInterner,
-    other: &mut StringInterner,
-    call: InternerCall<'_>,
-) -> Answer {
-    match call {
-        InternerCall::Len => Answer::Number(interner.len()),
-        InternerCall::IsEmpty => Answer::Truth(interner.is_empty()),
-        InternerCall::Clear => {
-            interner.clear();
-            Answer::DONE
+// Makes a call that writes what it comes to.
+fn answer_symbol(interner: &mut StringInterner, words: &[&str], out: &mut Line) -> Reply {
+    match *words {
+        ["get_counted", text] => counted(interner, text, out),
+        ["get_or_intern_with_hint", hint, text] => {
+            let hint = hint_of(hint)?;
+            write!(out, "{hint:?} ");
+            return Ok(number(interner.get_or_intern_with_hint(text, hint)));
         }
-        InternerCall::Contains(text) => Answer::Truth(interner.contains(text)),
-        InternerCall::Get(text) => Answer::Key(interner.get(text).map(Sym::into_usize)),
-        InternerCall::GetOrIntern(text) => number(interner.get_or_intern(text)),
-        InternerCall::Extend(texts) => done(interner.extend(texts.split(','))),
-        InternerCall::Clone => keep(interner.clone(), other),
-        _ => Answer::BAD,
+        ["iter", steps] => walk_steps(interner.iter(), steps_of(steps)?, Text, out),
+        ["resolve", number] => match interner.resolve(Sym::from_u32(read(number)?)) {
+            Some(text) => writeln!(out, "\"{text}\""),
+            None => writeln!(out, "none"),
+        },
+        ["symbols", first, second] => symbols(read(first)?, read(second)?, out),
+        _ => return Err(Answer::BAD),
+    }
+    Ok(Answer::Written)
+}
+
+// The hint that a word is.
+fn hint_of(word: &str) -> Result<InternHint, Answer> {
+    match word {
+        "none" => Ok(InternHint::None),
+        "likely_exists" => Ok(InternHint::LikelyExists),
+        "likely_new" => Ok(InternHint::LikelyNew),
+        _ => Err(Answer::BAD),
     }
 }
 
@@ -62,12 +77,6 @@ fn number(symbol: Result<Sym, ArenaError>) -> Answer {
         Ok(symbol) => Answer::Number(symbol.into_usize()),
         Err(error) => Answer::Error(error),
     }
-}
-
-// Writes the hint, and the number of the symbol.
-fn hinted(interner: &mut StringInterner, text: &str, hint: InternHint, out: &mut Line) {
-    write!(out, "{hint:?} ");
-    write(out, number(interner.get_or_intern_with_hint(text, hint)))
 }
 
 // Writes the symbol of a text, and whether there were as few comparisons as a binary search makes: at

@@ -2,8 +2,13 @@
 ghost use Rattle.std.specs.Iterator.{IsFinite, IsFiniteIterable};
 
 use crate::format::Format;
-use crate::left::Left;
 use crate::line::Line;
+
+/// An iterator that is asked how many items are left.
+pub trait Left {
+    /// `None` if it doesn't know.
+    fn left(&self) -> Option<usize>;
+}
 
 /// Takes so many items from an iterator, asks it how many are left, and takes these by a `for`.
 pub fn walk<I: ExactSizeIterator, F: Format<I::Item>>(
