@@ -22,7 +22,7 @@ module _ (texts : List (List ℕ)) (distinct : AreDistinctTexts texts) (text : L
       same_from_decides (bytes_eq text (get_or texts k [])) (symbol == k) (
         λ same. same_Some symbol k (sym is ∙ symbol_of-at text texts k distinct (stands k below same)),
         λ equal. let at = subst (λ s. slice_get texts s ≡ Some text) equal (symbol_of-Some text texts symbol is) in
-        (bytes_eq-Decides text (get_or texts k [])).1 (sym (get_or_from_slice_get texts k text [] at)),
+            (bytes_eq-Decides text (get_or texts k [])).1 (sym (get_or_from_slice_get texts k text [] at)),
       ) (Decides-eqb symbol k)
 
   -- and never where the text has none
