@@ -164,7 +164,7 @@ impl Generator {
     }
 }
 
-/// The key that a word is, of a call that would take a part of one, too.
+/// The key that a word is. A look-up also takes what a key can be borrowed as, so its type is said here.
 pub fn number(word: &str) -> Result<i64, &'static str> {
     read(word)
 }
