@@ -22,7 +22,7 @@ const FAR: [usize; 10] = [
 ];
 
 /// Lines that name no call, or not with its numbers.
-const BAD: [&str; 12] = [
+pub const NO_CALLS: [&str; 12] = [
     "",
     " ",
     "Len",
@@ -110,7 +110,7 @@ impl Generator {
             if done % CONTENT_EVERY == 0 {
                 self.line(self.kind.all);
             } else if self.random.once_in(500) {
-                let bad = self.random.one_of(&BAD);
+                let bad = self.random.one_of(&NO_CALLS);
                 self.line(bad);
             } else {
                 let call = self.pending.pop();

@@ -10,9 +10,10 @@ mod generate;
 mod public_calls;
 mod random;
 
+use answers::BAD;
 use compare::{compare, Comparison, Order};
 use containers::{Kind, KINDS};
-use generate::generate;
+use generate::{generate, NO_CALLS};
 use public_calls::Counts;
 use std::env;
 use std::error::Error;
@@ -110,6 +111,9 @@ impl Run {
         }
         let port = fs::read(&answers)?;
         let rust_crate = containers::answer(input);
+        if let Some(line) = misspelt(input, &rust_crate) {
+            return Err(format!("{container}: `{line}` is drawn as a call, and is none").into());
+        }
         let comparison = compare(input, &port, rust_crate.as_bytes(), Order::of(container));
         if comparison.differences == 0 {
             fs::remove_file(&calls)?;
@@ -123,6 +127,13 @@ impl Run {
     fn file(&self, name: &str, kind: &str) -> PathBuf {
         Path::new(&self.folder).join(format!("{name}.{kind}"))
     }
+}
+
+/// A line that is answered as none that is a call, and that isn't drawn for it.
+fn misspelt<'a>(input: &'a str, answers: &str) -> Option<&'a str> {
+    let mut answered = input.split_terminator('\n').zip(answers.lines());
+    let (line, _) = answered.find(|(line, answer)| *answer == BAD && !NO_CALLS.contains(line))?;
+    Some(line)
 }
 
 fn print_row(container: &str, seed: u64, calls: usize, comparison: &Comparison) {
