@@ -103,14 +103,19 @@ module _ {K T : Type 0} (keys : Keys K) where
         ap (λ o. cons_option o (filter_map f (range_with_len (i + 1) (length xs)))) (ap f (omega arith) ∙ reads 0 (omega arith))
         ∙ ap (λ (ys : List T). x ∷ ys) (gathered f (i + 1) xs (λ j low. ap f (omega arith) ∙ reads (suc j) (omega (arith, low))))
 
-    -- an index has its values in the order of their keys
+    -- an index has the value of each place under its number,
+    pub numbered_at : (index : List (T × K)) → IsPermutation (keyed keys all) index → length all ≤ keys.count → (n : ℕ) → n < length all → value_numbered keys index n ≡ slice_get all n
+    numbered_at index same few n low =
+        numbered_is n index
+        (All-permutation IsPlaced (keyed keys all) index same (each_placed 0 all (λ k. ap (slice_get all) (omega arith)) (omega (arith, few))))
+        (sym (list_any-IsPermutation (λ (e : T × K). nat_eq (keys.number e.1) n) (keyed keys all) index same) ∙ has_number n 0 all (omega arith) (omega (arith, low)) (omega (arith, few)))
+
+    -- and so has its values in the order of their keys
     pub in_order-keyed : (index : List (T × K)) → IsPermutation (keyed keys all) index → length all ≤ keys.count → in_order keys index ≡ all
     in_order-keyed index same few =
         ap (λ n. filter_map (value_numbered keys index) (range_with_len 0 n)) (length_permutation (keyed keys all) index same ∙ length-keyed_from 0 all)
         ∙ gathered (value_numbered keys index) 0 all (λ j low.
-        ap (value_numbered keys index) (omega arith) ∙ numbered_is j index
-        (All-permutation IsPlaced (keyed keys all) index same (each_placed 0 all (λ k. ap (slice_get all) (omega arith)) (omega (arith, few))))
-        (sym (list_any-IsPermutation (λ (e : T × K). nat_eq (keys.number e.1) j) (keyed keys all) index same) ∙ has_number j 0 all (omega arith) (omega (arith, low)) (omega (arith, few))))
+        ap (value_numbered keys index) (omega arith) ∙ numbered_at index same few j low)
 
 -- An index into which a new value was put.
 module _ {K T : Type 0} (keys : Keys K) {eq : T → T → Bool} (laws : IsEquivalence eq) (handed : List T) (index : List (T × K)) (value : T)

@@ -78,18 +78,20 @@ fn move_key<Key: ArenaKey, T: Eq + Hash + Clone, A: Allocator + Clone>(
 ) -> Result<(), ArenaError>
     requires is { IsIndex Key.keys T.eq (in_order Key.keys index.old.entries) index.old.entries }
     requires few { length (in_order Key.keys index.old.entries) ≤ Key.keys.count }
+    requires within { Key.keys.number key < length (in_order Key.keys index.old.entries) }
     requires absent { position (T.eq value) (in_order Key.keys index.old.entries) ≡ None }
     ensures ok { OnOk result (IsIndex Key.keys T.eq
         (slice_set (in_order Key.keys index.old.entries) (Key.keys.number key) value) index.new.entries) }
     ensures errors { IsOkUnless result ArenaError.OutOfSystemMemory }
     ensures err { OnErr result (index.new ≡ index.old) }
 {
+    // proof: first, for what the call says of the key.
     let number = key.into_usize();
     if has_key(index, item, key) {
         return move_entry(index, item, key, value);
     }
     let Some(handed) = handed_at(index, number) else {
-        return Err(ArenaError::OutOfSystemMemory);
+        unreachable!();
     };
     let old = handed.clone()?;
     if !has_key(index, &old, key) {

@@ -8,6 +8,11 @@ use Rattle.wasmi_collections.proofs.DedupReplace.{position-set_new, position-set
 use Rattle.wasmi_collections.proofs.Results.{ok_unless, on_ok, when_ok}
 use Rattle.wasmi_collections.proofs.arena.dedup.DedupArena.replace.Goals as goal
 
+pub move_key-requires-clause-within : goal.move_key-requires-clause-within
+move_key-requires-clause-within g c =
+    let low = within (g.Key.ArenaKey.keys.number c.args.key) c.self.inside.items.items c.in_ok-there.there.now c.in_ok-there.ensures.item in
+    let same = c.self.invariant.1 in omega (arith, low, same)
+
 is_absent : (g : _) (c : goal.After-put-2 g) → position (g.T.PartialEq.eq c.args.value) (in_order g.Key.ArenaKey.keys c.self.inside.index.entries) ≡ None
 is_absent g c = index-absent g.Key.ArenaKey.keys g.T.PartialEq.eq c.self.inside.index.entries (length c.self.inside.items.items) c.args.value c.self.invariant c.in_default.ensures
 
