@@ -1,10 +1,11 @@
-//! What no clause says of keys and errors: where types of keys end, and texts.
+//! What no clause says of keys and errors: where types of keys end, hashes, and texts.
 use std::alloc::AllocError;
+use std::hash::{DefaultHasher, Hash, Hasher};
 use std::num::NonZero;
 use wasmi_arena::ArenaError::{
     AliasingPairAccess, DuplicateItem, KeyOutOfBounds, NotEnoughKeys, OutOfSystemMemory,
 };
-use wasmi_arena::{ArenaError, ArenaKey};
+use wasmi_arena::{ArenaError, ArenaKey, TypedKey};
 use wasmi_vectors::assert_equal;
 
 #[test]
@@ -22,6 +23,23 @@ fn keys_have_their_numbers(rt: HostRuntime) {
         assert_equal!(rt; u32::from_usize(n).expect(&rt, "u32").into_usize(), n);
         assert_equal!(rt; NonZero::<u32>::from_usize(n).expect(&rt, "u32").into_usize(), n);
         assert_equal!(rt; NonZero::<usize>::from_usize(n).expect(&rt, "usize").into_usize(), n);
+    }
+}
+
+// What has such keys.
+enum Hashed {}
+
+fn hash_of(number: u32) -> u64 {
+    let mut hasher = DefaultHasher::new();
+    TypedKey::<Hashed>::from_u32(number).hash(&mut hasher);
+    hasher.finish()
+}
+
+// Each bit of the number tells.
+#[test]
+fn keys_that_differ_hash_apart(rt: HostRuntime) {
+    for bit in 0..32u32 {
+        assert!(rt; hash_of(1u32.wrapping_shl(bit)) != hash_of(0), "of {bit}");
     }
 }
 

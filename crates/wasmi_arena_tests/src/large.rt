@@ -151,6 +151,8 @@ fn calls_take_constant_time(rt: HostRuntime) {
         let index = turn % 131_072;
         let of_vec = (vec.len(), vec.room(), vec.is_empty()) == (131_072, 131_040, false)
             && vec.get(index).is_some()
+            && vec.first().is_some()
+            && vec.last().is_some()
             && vec.get_mut(index).is_some()
             && vec.put(index, 7).is_ok()
             && vec.swap(index, 131_071 - index).is_ok()
@@ -160,6 +162,7 @@ fn calls_take_constant_time(rt: HostRuntime) {
             && vec.push(7) == Ok(131_071);
         let of_arena = (arena.len(), arena.is_empty()) == (131_072 + turn, false)
             && arena.get(index).is_ok()
+            && arena.last().is_some()
             && arena.put(index, 7).is_ok()
             && arena.has(index)
             && arena.iter().next_back().is_some()
@@ -169,4 +172,25 @@ fn calls_take_constant_time(rt: HostRuntime) {
         }
     }
     assert_equal!(rt; turns, 262_144);
+}
+
+// The 24th bucket of numbers takes 2 GiB. It is asked for, and refused.
+#[test]
+fn a_block_of_two_gigabytes_is_asked_for(rt: HostRuntime) {
+    let log = Log::new();
+    let handle = Observed::new(rt.alloc(), &log);
+    let mut arena: StableArena<usize, u64, Observed<'_>> = StableArena::new(handle);
+    log.refuse_once(24);
+    assert_equal!(rt; arena.alloc_many(268_435_425).err(), Some(ArenaError::OutOfSystemMemory));
+    assert_equal!(rt; (log.requests(), arena.len()), (24, 0));
+}
+
+#[test]
+fn a_run_asks_for_its_replies_alone(rt: HostRuntime) {
+    let mut arena: StableArena<usize, u8> = StableArena::new(rt.alloc());
+    let commands = (0..9usize)
+        .map(|key| ArenaCommand::Has(key))
+        .collect(rt.alloc());
+    let replies = run_arena(rt.alloc(), &mut arena, commands.expect(&rt, "")).expect(&rt, "");
+    assert_equal!(rt; (replies.len(), replies.capacity()), (9, 9));
 }

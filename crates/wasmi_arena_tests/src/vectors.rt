@@ -159,6 +159,19 @@ fn lists_of_two_lengths_compare_no_item(rt: HostRuntime) {
     assert_equal!(rt; (vec == longer, notes.compared()), (false, 0));
 }
 
+// Of 97 items, of which the last ones differ.
+#[test]
+fn each_pair_is_compared_once(rt: HostRuntime) {
+    let notes = Notes::new();
+    let items = (0..97).map(|number| Noted::new(number, &notes));
+    let one = StableVec::from_iter(rt.alloc(), items).expect(&rt, "");
+    let items = (0..97).map(|number| Noted::new(number % 96, &notes));
+    let other = StableVec::from_iter(rt.alloc(), items).expect(&rt, "");
+    assert_equal!(rt; (one == other, notes.compared()), (false, 97));
+    assert_equal!(rt; (one.cmp(&other), notes.compared()), (Ordering::Greater, 97));
+    assert_equal!(rt; (one.partial_cmp(&other), notes.compared()), (Some(Ordering::Greater), 97));
+}
+
 // Of eight buckets the same text as that of a `Vec`.
 #[test]
 fn debug_texts_of_vectors(rt: HostRuntime) {

@@ -157,3 +157,23 @@ fn a_run_asks_for_its_replies_alone(rt: HostRuntime) {
     let replies = run_dedup(heap, &mut DedupArena::new(rt.alloc()), commands);
     assert_equal!(rt; asks_for_these(&log, before, &replies.expect(&rt, "")), Ok(true));
 }
+
+#[test]
+fn a_run_hashes_once(rt: HostRuntime) {
+    let notes = Notes::new();
+    let mut set: hashed::Set<Noted<'_>> = hashed::Set::new(rt.alloc());
+    let commands = (0..20u32).map(|number| SetCommand::Insert(Noted::new(number / 2, &notes)));
+    let commands = commands.collect(rt.alloc()).expect(&rt, "");
+    run_set(rt.alloc(), &mut set, commands).expect(&rt, "");
+    assert_equal!(rt; (set.len(), notes.hashed()), (10, 20));
+}
+
+#[test]
+fn a_value_without_room_is_not_cloned(rt: HostRuntime) {
+    let (log, notes) = (Log::new(), Notes::new());
+    let heap = Logged::new(rt.alloc(), &log);
+    let mut arena: DedupArena<usize, Noted<'_>, Logged<'_>> = DedupArena::new(heap);
+    log.refuse_from(1);
+    let refused = arena.alloc(Noted::new(1, &notes)).err();
+    assert_equal!(rt; (refused, notes.cloned()), (Some(ArenaError::OutOfSystemMemory), 0));
+}

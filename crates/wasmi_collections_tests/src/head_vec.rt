@@ -206,4 +206,5 @@ fn the_last_items_alone_are_compared(rt: HostRuntime) {
     }
     assert_equal!(rt; (one.cmp(&other), notes.compared()), (Ordering::Greater, 1));
     assert_equal!(rt; (one.partial_cmp(&other), notes.compared()), (Some(Ordering::Greater), 1));
+    assert_equal!(rt; (one == other, notes.compared()), (false, 1));
 }

@@ -26,6 +26,9 @@ fn many_values_and_texts(rt: HostRuntime) {
     assert_equal!(rt; (numbers.len(), texts.len(), interner.len()), (5_000, 5_000, 5_000));
     assert_equal!(rt; (texts.key_of_str(long.as_str()), texts.key_of_str("4500")), (Some(4_500), None));
     assert_equal!(rt; interner.get(long.as_str()).map(|symbol| symbol.into_u32()), Some(4_500));
+    for number in 5_000..2_097_153u32 {
+        assert_equal!(rt; numbers.alloc(number), Ok(number as usize));
+    }
 }
 
 // Adds a number, puts another in its place, and then that one again, by both calls.

@@ -5,6 +5,7 @@ use std::mem::replace;
 use wasmi_arena::{ArenaCommand, ArenaError, run_arena};
 use wasmi_dense::{Arena, ComponentVec};
 use wasmi_vectors::assert_equal;
+use wasmi_vectors::noted::{Noted, Notes};
 use wasmi_vectors::observed::{Log, Observed};
 use wasmi_vectors::tally::{Item, Tally};
 use wasmi_vectors::tiny::Tiny;
@@ -98,6 +99,20 @@ fn many_that_come_one_by_one_ask_seldom(rt: HostRuntime) {
         assert_equal!(rt; arena.alloc_many(1).expect(&rt, "").start, number);
     }
     assert_equal!(rt; log.requests(), 9);
+    for number in 1_000..2_097_153usize {
+        assert_equal!(rt; arena.alloc(7), Ok(number));
+    }
+    assert_equal!(rt; log.requests(), 21);
+}
+
+#[test]
+fn arenas_of_two_lengths_compare_no_item(rt: HostRuntime) {
+    let notes = Notes::new();
+    let few = (0..96).map(|number| Noted::new(number, &notes));
+    let arena: Arena<usize, Noted<'_>> = Arena::from_iter(rt.alloc(), few).expect(&rt, "");
+    let more = (0..97).map(|number| Noted::new(number, &notes));
+    let longer: Arena<usize, Noted<'_>> = Arena::from_iter(rt.alloc(), more).expect(&rt, "");
+    assert_equal!(rt; (arena == longer, notes.compared()), (false, 0));
 }
 
 // Refused by a key, for want of a key, and as a command; one that makes way comes back.

@@ -395,3 +395,15 @@ fn slots_are_doubled_beside_a_long_rest(rt: HostRuntime) {
     interner.get_or_intern(more.as_str()).expect(&rt, "");
     assert_equal!(rt; (log.requests().wrapping_sub(requests), log.bytes().wrapping_sub(bytes)), (1, 131_320));
 }
+
+#[test]
+fn long_texts_ask_seldom(rt: HostRuntime) {
+    let log = Log::new();
+    let mut interner = StringInterner::new(Logged::new(rt.alloc(), &log));
+    let long = "x".repeat(rt.alloc(), 5_000).expect(&rt, "");
+    for number in 0..1_000u32 {
+        let text = format!(in rt.alloc(); "{number}{}", long.as_str()).expect(&rt, "");
+        interner.get_or_intern(text.as_str()).expect(&rt, "");
+    }
+    assert!(rt; log.requests() < 50, "{} requests", log.requests());
+}

@@ -1,4 +1,5 @@
 //! The texts of an interner: visited, handed in by an iterator, and dropped.
+use std::hash::{DefaultHasher, Hash, Hasher};
 use wasmi_arena::{ArenaError, ArenaKey};
 use wasmi_interner::{StringInterner, Sym};
 use wasmi_vectors::assert_equal;
@@ -74,4 +75,18 @@ fn texts_of_an_iterator_are_interned(rt: HostRuntime) {
     drop(interner);
     drop(handle);
     assert_equal!(rt; log.amiss(), 0);
+}
+
+fn hash_of(number: u32) -> u64 {
+    let mut hasher = DefaultHasher::new();
+    Sym::from_u32(number).hash(&mut hasher);
+    hasher.finish()
+}
+
+// Each bit of the number tells.
+#[test]
+fn symbols_that_differ_hash_apart(rt: HostRuntime) {
+    for bit in 0..32u32 {
+        assert!(rt; hash_of(1u32.wrapping_shl(bit)) != hash_of(0), "of {bit}");
+    }
 }

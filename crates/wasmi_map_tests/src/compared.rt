@@ -37,6 +37,9 @@ fn a_call_compares_as_a_read_does(rt: HostRuntime) {
             compares_as_a_read(&mut map, &mut set, &notes, keys).expect(&rt, ""),
             "of {number}"
         );
+        let known = map.get(&Noted::new(key, &notes)).copied();
+        let read = notes.compared();
+        assert_equal!(rt; (Some(map[&Noted::new(key, &notes)]), notes.compared()), (known, read));
     }
 }
 
@@ -125,4 +128,17 @@ fn a_test_of_two_sets_is_linear(rt: HostRuntime) {
     assert_equal!(rt; answers, (true, true));
     let answers = (one.is_disjoint(&behind), notes.compared() <= 200);
     assert_equal!(rt; answers, (true, true));
+}
+
+#[test]
+fn a_slice_is_hashed_once(rt: HostRuntime) {
+    let notes = Notes::new();
+    let mut set: hashed::Set<Vec<Noted<'_>>> = hashed::Set::new(rt.alloc());
+    let element = Vec::from_array(rt.alloc(), [Noted::new(1, &notes)]).expect(&rt, "");
+    set.insert(element).expect(&rt, "");
+    let one = [Noted::new(1, &notes)];
+    notes.hashed();
+    assert_equal!(rt; (set.contains_slice(one.as_slice()), notes.hashed()), (true, 1));
+    assert_equal!(rt; (set.get_slice(one.as_slice()).is_some(), notes.hashed()), (true, 1));
+    assert_equal!(rt; (set.take_slice(one.as_slice()).is_some(), notes.hashed()), (true, 1));
 }

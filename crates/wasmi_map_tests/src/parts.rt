@@ -137,3 +137,20 @@ fn what_is_in_both_is_dropped_once(rt: HostRuntime) {
     assert_equal!(rt; (map.len(), set.len()), (11, 11));
     assert_equal!(rt; (keys.dropped(), values.get(), elements.dropped()), (4, 4, 4));
 }
+
+// They would take minutes if they went over the entries.
+#[test]
+fn the_ends_take_no_walk(rt: HostRuntime) {
+    let pairs = (0..131_072u32).map(|key| (key, key));
+    let map = Map::from_iter(rt.alloc(), pairs).expect(&rt, "");
+    let set = Set::from_iter(rt.alloc(), 0..131_072u32).expect(&rt, "");
+    let mut turns = 0u32;
+    for _ in 0..131_072u32 {
+        let of_map = (map.first_key_value(), map.last_key_value())
+            == (Some((&0, &0)), Some((&131_071, &131_071)));
+        if of_map && (set.first(), set.last()) == (Some(&0), Some(&131_071)) {
+            turns = turns.wrapping_add(1);
+        }
+    }
+    assert_equal!(rt; turns, 131_072);
+}

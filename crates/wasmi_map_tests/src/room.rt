@@ -142,3 +142,18 @@ fn what_is_empty_gives_its_room_back(rt: HostRuntime) {
         assert!(rt; map.capacity() < 8 && set.capacity() < 8 && map.is_empty() && set.is_empty());
     }
 }
+
+// Of a map exactly half full.
+#[test]
+fn half_of_the_room_is_given_back(rt: HostRuntime) {
+    let pairs = (0..1_000u32).map(|key| (key, key));
+    let mut map = Map::from_iter(rt.alloc(), pairs).expect(&rt, "");
+    let room = map.capacity();
+    map.retain(|key, _| (*key as usize) < room / 2);
+    map.shrink_to_fit();
+    assert!(rt;
+        map.len() == room / 2 && map.capacity() < room,
+        "{} of {room}",
+        map.capacity()
+    );
+}
