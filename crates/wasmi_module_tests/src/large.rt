@@ -25,12 +25,12 @@ fn module_of(
 }
 
 #[test]
-fn a_name_of_70_000_bytes(rt: HostRuntime) {
-    let head = b"\x02\xf9\xa2\x04\x01\xf0\xa2\x04";
-    let bytes = module_of(rt.alloc(), head, 70_000, b"m", b"\x01f\x02\0\0").or_abort(&rt);
+fn a_name_of_a_megabyte(rt: HostRuntime) {
+    let head = b"\x02\xc9\x84\x3d\x01\xc0\x84\x3d";
+    let bytes = module_of(rt.alloc(), head, 1_000_000, b"m", b"\x01f\x02\0\0").or_abort(&rt);
     let module = decode(rt.alloc(), bytes.as_slice()).or_abort(&rt);
     for import in &module.imports {
-        assert_equal!(rt; (import.module.len(), import.field), (70_000, "f"));
+        assert_equal!(rt; (import.module.len(), import.field), (1_000_000, "f"));
     }
     assert_equal!(rt; module.imports.len(), 1);
 }
