@@ -106,13 +106,16 @@ fn many_that_come_one_by_one_ask_seldom(rt: HostRuntime) {
 }
 
 #[test]
-fn arenas_of_two_lengths_compare_no_item(rt: HostRuntime) {
+fn arenas_compare_as_few_items_as_tell(rt: HostRuntime) {
     let notes = Notes::new();
     let few = (0..96).map(|number| Noted::new(number, &notes));
     let arena: Arena<usize, Noted<'_>> = Arena::from_iter(rt.alloc(), few).expect(&rt, "");
     let more = (0..97).map(|number| Noted::new(number, &notes));
     let longer: Arena<usize, Noted<'_>> = Arena::from_iter(rt.alloc(), more).expect(&rt, "");
     assert_equal!(rt; (arena == longer, notes.compared()), (false, 0));
+    let others = (0..96).map(|number| Noted::new(95u32.wrapping_sub(number), &notes));
+    let other: Arena<usize, Noted<'_>> = Arena::from_iter(rt.alloc(), others).expect(&rt, "");
+    assert_equal!(rt; (arena == other, notes.compared()), (false, 1));
 }
 
 // Refused by a key, for want of a key, and as a command; one that makes way comes back.
