@@ -13,15 +13,10 @@ fn compares_as_a_read<'a>(
     set: &mut Set<Noted<'a>>,
     notes: &Notes,
     key: (Noted<'a>, Noted<'a>),
-    number: u32,
 ) -> Result<bool, ArenaError> {
     let _there = map.contains_key(&key.0);
     let read = notes.compared();
-    if number % 2 == 0 {
-        map.insert(key.0, number)?;
-    } else {
-        let _there = map.try_insert(key.0, number)?;
-    }
+    map.insert(key.0, 1)?;
     let inserted = notes.compared();
     let there = set.contains(&key.1);
     let found = notes.compared();
@@ -35,11 +30,11 @@ fn a_call_compares_as_a_read_does(rt: HostRuntime) {
     let notes = Notes::new();
     let mut map: Map<Noted<'_>, u32> = Map::new(rt.alloc());
     let mut set: Set<Noted<'_>> = Set::new(rt.alloc());
-    for number in 0..120u32 {
-        let key = number / 3;
+    for number in 0..80u32 {
+        let key = number / 2;
         let keys = (Noted::new(key, &notes), Noted::new(key, &notes));
         assert!(rt;
-            compares_as_a_read(&mut map, &mut set, &notes, keys, number).expect(&rt, ""),
+            compares_as_a_read(&mut map, &mut set, &notes, keys).expect(&rt, ""),
             "of {number}"
         );
         let known = map.get(&Noted::new(key, &notes)).copied();
@@ -116,12 +111,7 @@ fn each_key_is_cloned_once(rt: HostRuntime) {
         map.insert(Noted::new(key, &notes), key).expect(&rt, "");
         other.insert(Noted::new(key, &notes), key).expect(&rt, "");
     }
-    let mut copy = map.clone().expect(&rt, "");
-    assert_equal!(rt; (copy.len(), notes.cloned()), (100, 100));
-    notes.compared();
-    assert!(rt; copy == map && notes.compared() < 400);
-    copy.pop_last();
-    assert_equal!(rt; (copy == map, notes.compared()), (false, 0));
+    assert_equal!(rt; (map.clone().expect(&rt, "").len(), notes.cloned()), (100, 100));
     assert_equal!(rt; (other.clone().expect(&rt, "").len(), notes.cloned()), (100, 100));
 }
 

@@ -129,8 +129,6 @@ fn a_hashed_call_hashes_its_key_once(rt: HostRuntime) {
                 .expect(&rt, "")
                 .or_insert(number)
                 .expect(&rt, "");
-        } else if number % 8 < 4 {
-            let _there = map.try_insert(key, number).expect(&rt, "");
         } else {
             map.insert(key, number).expect(&rt, "");
         }
