@@ -37,9 +37,6 @@ fn a_call_compares_as_a_read_does(rt: HostRuntime) {
             compares_as_a_read(&mut map, &mut set, &notes, keys).expect(&rt, ""),
             "of {number}"
         );
-        let known = map.get(&Noted::new(key, &notes)).copied();
-        let read = notes.compared();
-        assert_equal!(rt; (Some(map[&Noted::new(key, &notes)]), notes.compared()), (known, read));
     }
 }
 
