@@ -13,17 +13,13 @@ use Rattle.wasmi_arena.specs.Bucket.{Bucket}
 use Rattle.wasmi_arena.specs.StableVec.{bucket_at}
 use Rattle.wasmi_arena.specs.Table.{items_of, items_in, bucket_filled, bucket_with, bucket_cut, with_item, write, bucket_from, IsTable, AreFilled, IsLaidOut, IsAhead}
 use Rattle.wasmi_arena.proofs.Doubling.{start-size, size-suc, size_pos, start_mono, start_below, fewest_is, fewest_is_least, fewest_of_none, fewest_of_place, below_of_start, place-next, place-last}
-use Rattle.wasmi_arena.proofs.Table.{get_or-IsTable, items_of-IsTable, IsTable-set, IsTable-write, IsTable-cut, IsTable-take, AreFilled-take, IsTable-none}
+use Rattle.wasmi_arena.proofs.Table.{items_in-bucket_from, get_or-IsTable, items_of-IsTable, IsTable-set, IsTable-write, IsTable-cut, IsTable-take, AreFilled-take, IsTable-none}
 
 module _ {T : Type 0} where
   -- the bucket of a list that has an item
   pub bucket_from-some : (width : ℕ) (items : List T) → 0 < length items → bucket_from width items ≡ Some record { items = take width items; capacity = width }
   bucket_from-some width [] some = absurd (omega arith)
   bucket_from-some width (x ∷ xs) some = refl
-
-  items_in-bucket_from : (width : ℕ) (items : List T) → items_in (bucket_from width items) ≡ take width items
-  items_in-bucket_from width [] = sym (take_all {A = T} width [] (omega arith))
-  items_in-bucket_from width (x ∷ xs) = refl
 
   abbrev capacity_of : Option (Bucket T) → ℕ
   capacity_of None = 0

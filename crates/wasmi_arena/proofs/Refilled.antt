@@ -4,6 +4,7 @@ use Rattle.std.proofs.lemmas.List.{take_all}
 use Rattle.std.specs.List.{refill}
 use Rattle.wasmi_arena.specs.Bucket.{Bucket}
 use Rattle.wasmi_arena.specs.Table.{items_of, items_in, with_items, refilled, bucket_from, IsTable, IsLaidOut}
+use Rattle.wasmi_arena.proofs.Table.{items_in-bucket_from}
 
 module _ {T : Type 0} where
   -- these items, with the first of them written over as far as the others go
@@ -135,10 +136,6 @@ module _ {T : Type 0} where
   with_items-bucket_from width [] ws = refl
   with_items-bucket_from width (x ∷ xs) [] = ap (λ (ys : List T). Some record { items = ys; capacity = width }) (refill-over (take width (x ∷ xs)) [] ∙ take-over width (x ∷ xs) [])
   with_items-bucket_from width (x ∷ xs) (w ∷ ws) = ap (λ (ys : List T). Some record { items = ys; capacity = width }) (refill-over (take width (x ∷ xs)) (w ∷ ws) ∙ take-over width (x ∷ xs) (w ∷ ws))
-
-  items_in-bucket_from : (width : ℕ) (items : List T) → items_in (bucket_from width items) ≡ take width items
-  items_in-bucket_from width [] = sym (take_all {A = T} width [] (omega arith))
-  items_in-bucket_from width (x ∷ xs) = refl
 
   IsTable-over : (width : ℕ) (items : List T) (buckets : List (Option (Bucket T))) (ws : List T) → IsTable width items buckets → IsTable width (over items ws) (refilled buckets ws)
   IsTable-over width items [] ws table = rw table refl

@@ -10,7 +10,7 @@ use Rattle.std.specs.Borrow.{Bor}
 use Rattle.std.specs.Slice.Iter.{iter_rest, iter_steps_back}
 use Rattle.std.specs.declared.slice.Iter.{Iter}
 use Rattle.wasmi_arena.specs.Bucket.{Bucket}
-use Rattle.wasmi_arena.specs.Table.{items_of, bucket_filled, bucket_cut, with_item, write, bucket_from, IsTable, AreFilled, IsAhead}
+use Rattle.wasmi_arena.specs.Table.{items_of, items_in, bucket_filled, bucket_cut, with_item, write, bucket_from, IsTable, AreFilled, IsAhead}
 
 -- twice the width before is the width after
 mul-pow_suc : (width b : ℕ) → width * 2 ^ suc b ≡ 2 * width * 2 ^ b
@@ -21,6 +21,10 @@ module _ {T : Type 0} where
   items_of-bucket_from : (width : ℕ) (items : List T) (buckets : List (Option (Bucket T))) → items_of (bucket_from width items ∷ buckets) ≡ take width items ++ items_of buckets
   items_of-bucket_from width [] buckets = rw (take_all {A = T} width [] (omega arith)) refl
   items_of-bucket_from width (x ∷ xs) buckets = refl
+
+  pub items_in-bucket_from : (width : ℕ) (items : List T) → items_in (bucket_from width items) ≡ take width items
+  items_in-bucket_from width [] = sym (take_all {A = T} width [] (omega arith))
+  items_in-bucket_from width (x ∷ xs) = refl
 
   -- the buckets of a table hold its items
   pub items_of-IsTable : (width : ℕ) (items : List T) (buckets : List (Option (Bucket T))) → IsTable width items buckets → items_of buckets ≡ items

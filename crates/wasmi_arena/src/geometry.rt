@@ -24,7 +24,7 @@ pub(crate) fn place(index: usize) -> (usize, usize)
 
 // How many slots a bucket has.
 #[inline]
-pub(crate) fn size_of(bucket: usize) -> usize
+pub(crate) fn bucket_size(bucket: usize) -> usize
     requires { bucket < BUCKETS }
     ensures { result ≡ size bucket }
 {

@@ -1,6 +1,7 @@
 //! Laws: what the definitions of `specs/` tell, and what derived calls do, as contracts of functions.
-ghost use Rattle.std.specs.Prelude.{◌≡◌, ℕ, ◌+◌, ◌-◌, ◌*◌, ◌^◌, ◌<◌, ◌≤◌, [], ◌∷◌, List, length, map, slice_get, IsSomeAnd, IsTrue, ◌↔◌, Ok, ◌≢◌, ◌⊎◌, take, Some};
+ghost use Rattle.std.specs.Prelude.{◌≡◌, ℕ, ◌+◌, ◌-◌, ◌*◌, ◌^◌, ◌<◌, ◌≤◌, [], ◌∷◌, List, length, map, slice_get, fold, IsSomeAnd, IsTrue, ◌↔◌, Ok, ◌≢◌, ◌⊎◌, take, Some};
 ghost use Rattle.std.specs.Borrow.{Bor};
+ghost use Rattle.std.specs.Hash as fed;
 ghost use Rattle.std.specs.Iterator.{Yields, YieldsFirst, YieldsFirstBy};
 ghost use Rattle.std.specs.List.{AllZip, flat_map, range_with_len};
 ghost use Rattle.std.specs.Cmp.Lexicographic.{slice_cmp};
@@ -15,10 +16,11 @@ ghost use Rattle.wasmi_arena.specs.declared.run.ArenaCommand.{ArenaCommand};
 use crate::{
     AnyArena, ArenaError, ArenaKey, ArenaKeys, ArenaReply, BUCKETS, StableArena,
     StableArenaIntoIter, StableArenaIter, StableArenaIterMut, StableVec, StableVecIntoIter,
-    StableVecIter, StableVecIterMut,
+    StableVecIter, StableVecIterMut, TypedKey,
 };
 use std::alloc::{AllocError, Allocator};
 use std::cmp::Ordering;
+use std::hash::{Hash, Hasher};
 use std::num::NonZero;
 
 /// The 27 buckets, each with its number of slots and its first index.
@@ -214,6 +216,13 @@ pub fn keys_of_types()
     ensures non_zero_u32_count { ⟦<NonZero<u32> as ArenaKey>⟧.keys.count ≡ 2 ^ 32 - 1 }
     ensures non_zero_u32_first { (⟦<NonZero<u32> as ArenaKey>⟧.keys.key 0).value ≡ 1 }
 {}
+
+/// A hasher is fed the number of a key, and nothing else.
+pub fn hashed_keys<Of, H: Hasher>(key: TypedKey<Of>, state: &mut H)
+    ensures { state.new ≡ fold H.write state.old (fed.u32 key) }
+{
+    key.hash(state);
+}
 
 /// Where the clone of an item equals it, clones of the items of a list are that list. So `clone` and
 /// `clone_in` return the same items.

@@ -1,5 +1,5 @@
 //! Commands to an arena, and their replies.
-ghost use Rattle.std.specs.Prelude.{◌≡◌, [], IfOk, IsOk, IsOkUnless, OnErr};
+ghost use Rattle.std.specs.Prelude.{◌≡◌, [], IfOk, IsOk, IsOkUnless, OnErr, vec_len, vec_capacity};
 ghost use Rattle.wasmi_arena.specs.Arena.{arena_limit, ArenaStep, ArenaRun};
 
 use crate::{AnyArena, ArenaError, ArenaKey};
@@ -71,6 +71,7 @@ pub fn run_arena<Key: ArenaKey, T: Drop, S: AnyArena<Key, T>, B: Allocator>(
 ) -> Result<Vec<ArenaReply<Key, T>, B>, ArenaError>
     ensures run { IfOk result (λ replies. ArenaRun Key.keys (arena_limit Key.keys S.BOUNDED) S.state
         arena.old commands.items replies.items arena.new) }
+    ensures exact { IfOk result (λ replies. vec_capacity replies ≡ vec_len commands) }
     ensures errors { IsOkUnless result ArenaError.OutOfSystemMemory }
     ensures err { OnErr result (arena.new ≡ arena.old) }
     ensures empty { commands.items ≡ [] → IsOk result }

@@ -25,7 +25,7 @@ mod slices_mut;
 
 use crate::bucket_table::fill::{fill_next, open_with};
 use crate::bucket_table::lend::slot_mut;
-use crate::geometry::{BUCKETS, MAX_LEN, is_limit, place, size_of, start_of};
+use crate::geometry::{BUCKETS, MAX_LEN, bucket_size, is_limit, place, start_of};
 use crate::raw::option::unwrap_ref;
 use crate::{ArenaError, Bucket, BucketTable};
 pub use into_iter::StableVecIntoIter;
@@ -81,7 +81,7 @@ impl<T> StableVec<T> {
         requires { bucket < BUCKETS }
         ensures { result ≡ size bucket }
     {
-        size_of(bucket)
+        bucket_size(bucket)
     }
 }
 

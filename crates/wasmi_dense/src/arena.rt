@@ -152,6 +152,7 @@ impl<Key: ArenaKey, T, A: Allocator> Arena<Key, T, A> {
         ensures ok { OnOk result (self.new.items ≡ self.old.items ++ item ∷ []) }
         ensures room { OnOk result (self.old.room ≤ self.new.room + 1) }
         ensures kept { 0 < self.old.room → OnOk result (self.old.room ≡ self.new.room + 1) }
+        ensures grown { self.old.room ≡ 0 → OnOk result (length self.old.items ≤ self.new.room + 1) }
         ensures has_key { OnOk result (length self.old.items < Key.keys.count) }
         ensures no_key { IsErrOf result ArenaError.NotEnoughKeys
             ↔ (Key.keys.count ≤ length self.old.items) }
@@ -162,8 +163,9 @@ impl<Key: ArenaKey, T, A: Allocator> Arena<Key, T, A> {
         ensures err { OnErr result (self.new ≡ self.old) }
     {
         let key = self.next_key()?;
-        if self.items.len() == self.items.capacity() {
-            self.items.reserve(1)?;
+        let len = self.items.len();
+        if len == self.items.capacity() {
+            self.items.reserve_exact(len.max(4))?;
         }
         self.items.push_reserved(item);
         Ok(key)

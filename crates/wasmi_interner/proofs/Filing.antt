@@ -19,10 +19,10 @@ use Rattle.wasmi_interner.specs.LenOrder.{len_cmp}
 use Rattle.wasmi_interner.specs.LenOrderLaws.{len_cmp_total, len_cmp-Equal}
 use Rattle.wasmi_interner.specs.inner.RestBlocks.{RestState}
 use Rattle.wasmi_interner.specs.Search.{IsFound, IsSearchable}
-use Rattle.wasmi_interner.specs.inner.Slots.{Table, IsGap, IsTaken, Puts, is_empty_slot, is_marker, gap, one, rest, says, met_in, with_slot}
+use Rattle.wasmi_interner.specs.inner.HashTable.{HashTableState, IsGap, IsTaken, Puts, is_empty_slot, is_marker, gap, one, rest, says, met_in, with_slot}
 use Rattle.wasmi_interner.specs.declared.entry.Entry.{Entry}
-use Rattle.wasmi_interner.specs.declared.index.Place.{Place}
-use Rattle.wasmi_interner.specs.declared.index.Place.TheVariants.{Gap, Beside, Rest}
+use Rattle.wasmi_interner.specs.declared.index.Vacancy.{Vacancy}
+use Rattle.wasmi_interner.specs.declared.index.Vacancy.TheVariants.{Gap, Beside, Rest}
 use Rattle.wasmi_interner.proofs.Meeting.{found_in, marker_full, says_one, says_some}
 use Rattle.wasmi_interner.proofs.Symbols.{distinct-push, symbol_of-at}
 
@@ -259,7 +259,7 @@ rest_few texts entries is =
 
 -- ---- where a text is filed
 
-module _ (texts : List (List ℕ)) (table : Table) (entries : List Entry) (is : IsIndexOf texts table entries) (text : List ℕ) where
+module _ (texts : List (List ℕ)) (table : HashTableState) (entries : List Entry) (is : IsIndexOf texts table entries) (text : List ℕ) where
   filed_hash : (s : ℕ) → slice_get texts s ≡ Some text → (met_in table (hash_of text) ≡ one s) ⊎ ((met_in table (hash_of text) ≡ rest) × Contains (map (λ e. e.symbol) entries) s)
   filed_hash s at =
       let reads : get_or texts s [] ≡ text = get_or_from_slice_get texts s text [] at in
@@ -299,16 +299,6 @@ module _ (texts : List (List ℕ)) (hash : ℕ) (text : List ℕ) where
       ap (λ o. ordering_then o (len_cmp (text_at texts entry) text)) same
       ∙ ap (λ t. len_cmp t text) (ap (λ k. get_or texts k []) (sym at) ∙ get_or_from_slice_get texts n other [] reads)
 
-pub one_searchable : (order : Ordering) → IsSearchable (order ∷ [])
-one_searchable Less = record { less = 1; is_there = false; greater = 0; orders_are = refl }
-one_searchable Equal = record { less = 0; is_there = true; greater = 0; orders_are = refl }
-one_searchable Greater = record { less = 0; is_there = false; greater = 1; orders_are = refl }
-
-pub one_found : (order : Ordering) (found : Result ℕ ℕ) → IsFound (order ∷ []) found → (is_ok found ≡ true → order ≡ Equal) × (order ≡ Equal → is_ok found ≡ true)
-one_found order (Ok zero) is = (λ ok. same_Some order Equal is, λ same. refl)
-one_found order (Ok (suc place)) is = absurd (none-some Equal is)
-one_found order (Err less) is = (λ ok. absurd (true≢false (sym ok)), λ same. absurd (no_equal less is.0 0 (ap (λ os. slice_get os 0) (sym is.1) ∙ ap Some same)))
-
 -- ---- what a search of the rest finds
 
 module _ (texts : List (List ℕ)) (hash : ℕ) (text : List ℕ) (entries : List Entry) where
@@ -342,7 +332,7 @@ found_own texts entries distinct each entry within rank is =
     (rank, omega (arith, below, length-map entries (λ (e : Entry). e.symbol)), get_or_from_slice_get (map (λ (e : Entry). e.symbol) entries) rank entry.symbol entry.symbol read)
 
 -- the entry of a slot that is met
-pub taken_entry : (texts : List (List ℕ)) (table : Table) (hash place : ℕ) (is : IsTaken table hash place) → All (IsSlotOf texts) table.slots → (slot : Entry) → slice_get table.slots place ≡ Some slot
+pub taken_entry : (texts : List (List ℕ)) (table : HashTableState) (hash place : ℕ) (is : IsTaken table hash place) → All (IsSlotOf texts) table.slots → (slot : Entry) → slice_get table.slots place ≡ Some slot
     → IsEntryOf texts slot × (slot ≡ record { hash = hash; symbol = is.symbol })
 taken_entry texts table hash place is each slot at =
     let same : slot ≡ record { hash = hash; symbol = is.symbol } = same_Some slot (record { hash = hash; symbol = is.symbol }) (sym at ∙ is.there) in
@@ -358,18 +348,18 @@ set_contains xs place slot x there = elim (cases_eq there.0 place) [
   | inr elsewhere ↦ inr (there.0, omega (arith, there.1, length-set xs place slot), sym (get_or-set_other xs place there.0 slot x elsewhere) ∙ there.2)
 ]
 
-pub put_contains : (old : Table) (slot : Entry) (new : Table) → Puts old slot new → (x : Entry) → Contains new.slots x → (x ≡ slot) ⊎ Contains old.slots x
+pub put_contains : (old : HashTableState) (slot : Entry) (new : HashTableState) → Puts old slot new → (x : Entry) → Contains new.slots x → (x ≡ slot) ⊎ Contains old.slots x
 put_contains old slot new puts x there = elim puts.same [
-  | inl same ↦ inr (subst (λ (t : Table). Contains t.slots x) same there)
-  | inr set_one ↦ set_contains old.slots set_one.0 slot x (subst (λ (t : Table). Contains t.slots x) set_one.1 there)
+  | inl same ↦ inr (subst (λ (t : HashTableState). Contains t.slots x) same there)
+  | inr set_one ↦ set_contains old.slots set_one.0 slot x (subst (λ (t : HashTableState). Contains t.slots x) set_one.1 there)
 ]
 
 -- what is met for a slot stays so
-pub put_kept : (old : Table) (slot : Entry) (new : Table) → Puts old slot new → (other : Entry) → met_in old other.hash ≡ says other → met_in new other.hash ≡ says other
+pub put_kept : (old : HashTableState) (slot : Entry) (new : HashTableState) → Puts old slot new → (other : Entry) → met_in old other.hash ≡ says other → met_in new other.hash ≡ says other
 put_kept old slot new puts other is = puts.others other.hash (λ none. says_some other (sym is ∙ none)) ∙ is
 
 -- so a table has what another has, once all slots of that one are put to it, and a marker for each entry of the rest
-pub all_carried : (old : Table) (entries : List Entry) (new : Table)
+pub all_carried : (old : HashTableState) (entries : List Entry) (new : HashTableState)
     → ((k : ℕ) (d : Entry) → k < length old.slots → is_empty_slot (get_or old.slots k d) ≡ false → met_in new (get_or old.slots k d).hash ≡ says (get_or old.slots k d))
     → All (λ entry. met_in new entry.hash ≡ rest) entries
     → ((slot : Entry) → is_empty_slot slot ≡ false → is_marker slot ≡ false → Contains new.slots slot → Contains old.slots slot) → Carries old entries new
@@ -427,7 +417,7 @@ not_empty slot n is few = elim (eqb_tells slot.symbol 4294967295) [
 marker_is_slot : (texts : List (List ℕ)) (slot : Entry) → is_marker slot ≡ true → IsSlotOf texts slot
 marker_is_slot texts slot mark = λ full none. absurd (true≢false (sym mark ∙ none))
 
-module _ (texts : List (List ℕ)) (table : Table) (entries : List Entry) (is : IsIndexOf texts table entries) where
+module _ (texts : List (List ℕ)) (table : HashTableState) (entries : List Entry) (is : IsIndexOf texts table entries) where
   abbrev hash_at : ℕ → ℕ
   hash_at s = hash_of (get_or texts s [])
 
@@ -457,7 +447,7 @@ module _ (texts : List (List ℕ)) (table : Table) (entries : List Entry) (is : 
   }
 
   -- a wider table that has the same
-  pub carried : (wider : Table) → Carries table entries wider → IsIndexOf texts wider entries
+  pub carried : (wider : HashTableState) → Carries table entries wider → IsIndexOf texts wider entries
   carried wider carries = record {
     distinct = is.distinct;
     slots = λ k d within full none.
@@ -486,7 +476,7 @@ module _ (texts : List (List ℕ)) (table : Table) (entries : List Entry) (is : 
     slots_longer = All-weaker (IsSlotOf texts) (IsSlotOf all) (λ slot its full none. longer texts text slot (its full none)) table.slots is.slots
 
     -- what is filed stays so
-    filed_longer : (wider : Table) (others : List Entry) → ((hash : ℕ) → (met_in table hash ≡ gap → ⊥) → met_in wider hash ≡ met_in table hash) → ((s : ℕ) → Contains (symbols entries) s → Contains (symbols others) s)
+    filed_longer : (wider : HashTableState) (others : List Entry) → ((hash : ℕ) → (met_in table hash ≡ gap → ⊥) → met_in wider hash ≡ met_in table hash) → ((s : ℕ) → Contains (symbols entries) s → Contains (symbols others) s)
         → IsFiled all wider others (length texts) → (s : ℕ) → s < length all → IsFiled all wider others s
     filed_longer wider others kept old new s within = elim (cases_lt s (length texts)) [
       | inl before ↦
@@ -529,7 +519,7 @@ module _ (texts : List (List ℕ)) (table : Table) (entries : List Entry) (is : 
     }
 
 -- an index of no texts
-pub no_index : (table : Table) (entries : List Entry) → table.slots ≡ [] → entries ≡ [] → IsIndexOf [] table entries
+pub no_index : (table : HashTableState) (entries : List Entry) → table.slots ≡ [] → entries ≡ [] → IsIndexOf [] table entries
 unfolding IsDistinct IsStrictlySortedBy
 no_index table entries none without = record {
   distinct = tt;
@@ -539,9 +529,9 @@ no_index table entries none without = record {
 }
 
 -- a new text's entry that is put to its place makes an index with that text
-pub inserted : (texts : List (List ℕ)) (table : Table) (others : RestState) → IsIndexOf texts table others.entries → (text : List ℕ) → symbol_of texts text ≡ None
-    → (entry : Entry) → entry.symbol ≡ length texts → entry.hash ≡ hash_of text → (hash : ℕ) → hash ≡ hash_of text → (place : Place) → IsReady texts table others hash text place
-    → (new : Table) (entries : List Entry) → Inserts table others.entries place entry new entries → IsIndexOf (texts ++ text ∷ []) new entries
+pub inserted : (texts : List (List ℕ)) (table : HashTableState) (others : RestState) → IsIndexOf texts table others.entries → (text : List ℕ) → symbol_of texts text ≡ None
+    → (entry : Entry) → entry.symbol ≡ length texts → entry.hash ≡ hash_of text → (hash : ℕ) → hash ≡ hash_of text → (place : Vacancy) → IsReady texts table others hash text place
+    → (new : HashTableState) (entries : List Entry) → Inserts table others.entries place entry new entries → IsIndexOf (texts ++ text ∷ []) new entries
 inserted texts table others is text absent entry last hashed hash same (Gap place) ready new entries puts =
     rw (puts.0, puts.1) (filled_gap texts table others.entries is text absent entry last hashed place (subst (λ h. IsGap table h place) same ready.0) ready.1)
 inserted texts table others is text absent entry last hashed hash same (Beside place) ready new entries puts = absurd ready

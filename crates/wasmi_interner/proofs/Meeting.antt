@@ -4,7 +4,7 @@ use Rattle.std.proofs.lemmas.Bool.{cases_lt, le-leb}
 use Rattle.std.proofs.lemmas.Bool.Decides.{eqb_tells, leb_tells}
 use Rattle.std.proofs.lemmas.List.{drop-set-add, drop-set-lt, length-drop, length-set, get_or-drop, get_or-take}
 use Rattle.std.proofs.lemmas.Option.{same_Some, slice_get-get_or}
-use Rattle.wasmi_interner.specs.inner.Slots.{Table, Meeting, IsGap, IsTaken, is_empty_slot, is_marker, gap, one, rest, says, met, met_from, met_in, with_slot}
+use Rattle.wasmi_interner.specs.inner.HashTable.{HashTableState, Meeting, IsGap, IsTaken, is_empty_slot, is_marker, gap, one, rest, says, met, met_from, met_in, with_slot}
 use Rattle.wasmi_interner.specs.declared.entry.Entry.{Entry}
 
 -- what is met with a slot in front
@@ -165,7 +165,7 @@ apart_from other held hash same apart = elim (eqb_tells held other) [
 ]
 
 -- the slots within reach of a home
-module _ (table : Table) (hash home : ℕ) (slots window : List Entry) (at : home ≡ hash / 2 ^ table.shift) (same : slots ≡ table.slots) (reach : home + 32 ≤ length slots) (part : window ≡ slice_range slots home (home + 32)) where
+module _ (table : HashTableState) (hash home : ℕ) (slots window : List Entry) (at : home ≡ hash / 2 ^ table.shift) (same : slots ≡ table.slots) (reach : home + 32 ≤ length slots) (part : window ≡ slice_range slots home (home + 32)) where
   fits : home + 32 ≤ length table.slots
   fits = omega (arith, reach, ap length same)
 
@@ -252,7 +252,7 @@ module _ (table : Table) (hash home : ℕ) (slots window : List Entry) (at : hom
 -- ---- a symbol that is met
 
 -- is that of a slot
-pub found_in : (table : Table) (hash symbol : ℕ) → met_in table hash ≡ one symbol
+pub found_in : (table : HashTableState) (hash symbol : ℕ) → met_in table hash ≡ one symbol
     → (slot : Entry) × (k : ℕ) × (k < length table.slots) × ((d : Entry) → get_or table.slots k d ≡ slot) × (slot.hash ≡ hash) × (slot.symbol ≡ symbol) × (is_empty_slot slot ≡ false) × (is_marker slot ≡ false)
 found_in table hash symbol is =
     let home = hash / 2 ^ table.shift in

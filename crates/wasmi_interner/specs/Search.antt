@@ -1,9 +1,9 @@
--- A search in a list that is sorted, seen as how each item compares with what is searched.
+-- A search in a list that is sorted, seen as how each item compares with what is sought.
 use Rattle.std.specs.Prelude.{◌≡◌, ℕ, ◌<◌, ◌≤◌, ◌⊎◌, Bool, List, [], ◌∷◌, ◌++◌, replicate, Option, Some, Result, Ok, Err, if◌then◌else◌, slice_get}
 use Rattle.std.specs.declared.cmp.Ordering.{Ordering}
 use Rattle.std.specs.declared.cmp.Ordering.TheVariants.{Less, Equal, Greater}
 
--- so many items are `Less`, then one is `Equal` if what is searched is there, and so many are `Greater`.
+-- so many items are `Less`, then one is `Equal` if what is sought is there, and so many are `Greater`.
 -- Of `1 true 2`: `Less`, `Equal`, `Greater`, `Greater`.
 abbrev pub sorted_orders : ℕ → Bool → ℕ → List Ordering
 sorted_orders less is_there greater =
@@ -27,7 +27,7 @@ IsFound orders (Err less) = (greater : ℕ) × (orders ≡ replicate less Less +
 abbrev pub IsInOrder : (ℕ → Option Ordering) → ℕ → Type 0
 IsInOrder order count = (i j : ℕ) → i < j → j < count → (order i ≡ Some Less) ⊎ (order j ≡ Some Greater)
 
--- what is searched at so many places stands or belongs from `low` on and before `high`, or belongs at `high`
+-- what is sought at so many places stands or belongs from `low` on and before `high`, or belongs at `high`
 pub record IsNarrowed (order : ℕ → Option Ordering) (count low high : ℕ) : Type 0 where
   pub ends : low ≤ high
   pub within : high ≤ count

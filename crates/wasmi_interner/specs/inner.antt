@@ -1,5 +1,5 @@
 pub mod Hash
+pub mod HashTable
 pub mod Index
 pub mod RestBlocks
-pub mod Slots
 pub mod Texts

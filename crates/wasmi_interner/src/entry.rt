@@ -1,6 +1,6 @@
 //! An entry of the index of an interner.
-ghost use Rattle.std.specs.Prelude.{◌≡◌, ◌<◌, List, [], ◌∷◌, Some, true, length, nat_lt, slice_get};
-ghost use Rattle.wasmi_interner.specs.inner.Slots.{is_empty_slot, is_marker};
+ghost use Rattle.std.specs.Prelude.{◌≡◌, ◌<◌, List, Some, true, length, nat_lt, slice_get};
+ghost use Rattle.wasmi_interner.specs.inner.HashTable.{is_empty_slot, is_marker};
 ghost use Rattle.wasmi_interner.specs.declared.entry.Entry.{Entry};
 
 use crate::Sym;
@@ -19,7 +19,7 @@ pub(crate) struct Entry {
 const EMPTY: u32 = u32::MAX;
 
 // and of a marker.
-const APART: u32 = u32::MAX - 1;
+const MARKER: u32 = u32::MAX - 1;
 
 impl Entry {
     // An empty slot.
@@ -39,7 +39,7 @@ impl Entry {
     {
         Entry {
             hash,
-            symbol: Sym::from_u32(APART),
+            symbol: Sym::from_u32(MARKER),
         }
     }
 
@@ -48,7 +48,7 @@ impl Entry {
     pub(crate) fn fits(symbol: Sym) -> bool
         ensures { result ≡ nat_lt symbol 4294967294 }
     {
-        symbol.into_u32() < APART
+        symbol.into_u32() < MARKER
     }
 
     // Whether the slot is empty.
@@ -64,7 +64,7 @@ impl Entry {
     pub(crate) fn is_marker(&self) -> bool
         ensures { result ≡ is_marker self.now }
     {
-        self.symbol.into_u32() == APART
+        self.symbol.into_u32() == MARKER
     }
 }
 
@@ -77,14 +77,4 @@ pub(crate) trait Entries {
     fn at(&self, place: usize) -> Entry
         requires { place < length (entries self.now) }
         ensures { slice_get (entries self.now) place ≡ Some result };
-}
-
-// An entry by itself.
-impl Entries for Entry {
-    ghost entries = { λ entry. entry ∷ [] };
-
-    #[inline]
-    fn at(&self, _place: usize) -> Entry {
-        *self
-    }
 }

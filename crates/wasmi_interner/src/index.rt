@@ -4,11 +4,11 @@ ghost use Rattle.wasmi_interner.specs.BinaryDigits.{digits};
 ghost use Rattle.wasmi_interner.specs.inner.Index.{BelongsAt, Carries, Inserts, IsEntryOf, IsIndexOf, IsReady, IsRestOf, orders_with, text_at};
 ghost use Rattle.wasmi_interner.specs.Interner.{symbol_of};
 ghost use Rattle.wasmi_interner.specs.Search.{IsFound};
-ghost use Rattle.wasmi_interner.specs.inner.Slots.{IsTaken, met_in, rest};
+ghost use Rattle.wasmi_interner.specs.inner.HashTable.{IsTaken, met_in, rest};
 
 use crate::entry::{Entries, Entry};
 use crate::rest::Rest;
-use crate::slots::{Met, Slots};
+use crate::hash_table::{HashTable, Met};
 use crate::sought::Sought;
 use crate::texts::Texts;
 use crate::{Steps, Sym};
@@ -22,13 +22,13 @@ use wasmi_arena::ArenaError;
 // So names that were made to have one hash, or near ones, cost no more than a search of sorted ones.
 #[derive(Drop)]
 pub(crate) struct Index<A: Allocator> {
-    slots: Slots<A>,
+    slots: HashTable<A>,
     rest: Rest<A>,
 }
 
 // Where a text belongs that isn't there.
 #[derive(Drop)]
-pub(crate) enum Place {
+pub(crate) enum Vacancy {
     // In this slot, which is empty.
     Gap(usize),
     // In the rest, beside the text of this slot, which has the same hash.
@@ -45,7 +45,7 @@ impl<A: Allocator> Index<A> {
         ensures { IsIndexOf [] result.slots result.rest.entries }
     {
         Index {
-            slots: Slots::new(alloc),
+            slots: HashTable::new(alloc),
             rest: Rest::new(alloc),
         }
     }
@@ -63,7 +63,7 @@ impl<A: Allocator> Index<A> {
     // Where an empty slot is met for its hash, the text isn't there. The first text is compared all the same, so
     // that a step is taken wherever there are texts.
     #[inline]
-    pub(crate) fn find(&self, sought: &Sought<'_, A>, steps: &mut Steps) -> Result<Sym, Place>
+    pub(crate) fn find(&self, sought: &Sought<'_, A>, steps: &mut Steps) -> Result<Sym, Vacancy>
         requires indexed { IsIndexOf sought.now.texts.now self.now.slots self.now.rest.entries }
         requires countable { steps.old ≤ 2 ^ 63 }
         ensures there { IfOk result (λ symbol. symbol_of sought.now.texts.now sought.now.text.now ≡ Some symbol) }
@@ -76,26 +76,26 @@ impl<A: Allocator> Index<A> {
         match self.slots.meet(sought.hash) {
             Met::Gap(place) => match sought.symbol_if_first(steps) {
                 Some(symbol) => Ok(symbol),
-                None => Err(Place::Gap(place)),
+                None => Err(Vacancy::Gap(place)),
             },
             Met::One(place) => {
                 let symbol = self.slots.at(place).symbol;
                 if sought.is_text_of(symbol, steps) {
                     Ok(symbol)
                 } else {
-                    Err(Place::Beside(place))
+                    Err(Vacancy::Beside(place))
                 }
             }
             Met::Rest => match find_in_rest(&self.rest, sought, steps) {
                 Ok(symbol) => Ok(symbol),
-                Err(rank) => Err(Place::Rest(rank)),
+                Err(rank) => Err(Vacancy::Rest(rank)),
             },
         }
     }
 
     // As `find`, of a text that is put in where it isn't there. Slots that are few for the texts are doubled before.
     #[inline]
-    pub(crate) fn find_to_insert(&mut self, sought: &Sought<'_, A>) -> Result<Sym, Place>
+    pub(crate) fn find_to_insert(&mut self, sought: &Sought<'_, A>) -> Result<Sym, Vacancy>
     where
         A: Clone,
         requires { IsIndexOf sought.now.texts.now self.old.slots self.old.rest.entries }
@@ -129,7 +129,7 @@ impl<A: Allocator> Index<A> {
 
     // Twice as many slots, with the same entries in them. None stands further behind its home than here, so there is
     // a slot for each; where there weren't, the old ones would stay.
-    fn doubled(&self) -> Result<Option<Slots<A>>, AllocError>
+    fn doubled(&self) -> Result<Option<HashTable<A>>, AllocError>
     where
         A: Clone,
         requires { 0 < self.now.slots.shift }
@@ -157,10 +157,10 @@ impl<A: Allocator> Index<A> {
     #[inline]
     pub(crate) fn reserve(
         &mut self,
-        place: Place,
+        place: Vacancy,
         symbol: Sym,
         sought: &Sought<'_, A>,
-    ) -> Result<Place, ArenaError>
+    ) -> Result<Vacancy, ArenaError>
     where
         A: Clone,
         requires indexed { IsIndexOf sought.now.texts.now self.old.slots self.old.rest.entries }
@@ -173,32 +173,32 @@ impl<A: Allocator> Index<A> {
         ensures errors { IsOkUnless result ArenaError.OutOfSystemMemory }
     {
         match place {
-            Place::Gap(place) => {
+            Vacancy::Gap(place) => {
                 if Entry::fits(symbol) {
-                    return Ok(Place::Gap(place));
+                    return Ok(Vacancy::Gap(place));
                 }
                 self.slots.set(place, Entry::marker(sought.hash));
             }
-            Place::Beside(place) => self.move_to_rest(place, sought.texts)?,
-            Place::Rest(rank) => return self.reserve_in_rest(rank, sought),
+            Vacancy::Beside(place) => self.move_to_rest(place, sought.texts)?,
+            Vacancy::Rest(rank) => return self.reserve_in_rest(rank, sought),
         }
         let rank = self.rank_in_rest(sought);
         self.reserve_in_rest(rank, sought)
     }
 
     // Makes room in the rest for the entry of a new text, which belongs at a rank there, and returns that place.
-    fn reserve_in_rest(&mut self, rank: usize, sought: &Sought<'_, A>) -> Result<Place, ArenaError>
+    fn reserve_in_rest(&mut self, rank: usize, sought: &Sought<'_, A>) -> Result<Vacancy, ArenaError>
     where
         A: Clone,
         requires indexed { IsIndexOf sought.now.texts.now self.old.slots self.old.rest.entries }
-        requires belongs { BelongsAt sought.now.texts.now self.old.slots self.old.rest.entries sought.now.hash sought.now.text.now (Place.Rest rank) }
+        requires belongs { BelongsAt sought.now.texts.now self.old.slots self.old.rest.entries sought.now.hash sought.now.text.now (Vacancy.Rest rank) }
         requires few { length sought.now.texts.now < 2 ^ 32 }
         ensures ready { IfOk result (λ place. IsReady sought.now.texts.now self.new.slots self.new.rest sought.now.hash sought.now.text.now place) }
         ensures indexed { IsIndexOf sought.now.texts.now self.new.slots self.new.rest.entries }
         ensures errors { IsOkUnless result ArenaError.OutOfSystemMemory }
     {
         self.rest.reserve()?;
-        Ok(Place::Rest(rank))
+        Ok(Vacancy::Rest(rank))
     }
 
     // The rank where the entry of a new text belongs in the rest.
@@ -206,7 +206,7 @@ impl<A: Allocator> Index<A> {
         requires indexed { IsIndexOf sought.now.texts.now self.now.slots self.now.rest.entries }
         requires absent { symbol_of sought.now.texts.now sought.now.text.now ≡ None }
         requires met { met_in self.now.slots sought.now.hash ≡ rest }
-        ensures { BelongsAt sought.now.texts.now self.now.slots self.now.rest.entries sought.now.hash sought.now.text.now (Place.Rest result) }
+        ensures { BelongsAt sought.now.texts.now self.now.slots self.now.rest.entries sought.now.hash sought.now.text.now (Vacancy.Rest result) }
     {
         match find_in_rest(&self.rest, sought, &mut Steps::new()) {
             Ok(_) => unreachable!(),
@@ -238,14 +238,14 @@ impl<A: Allocator> Index<A> {
 
     // Puts an entry to a place, where there is room.
     #[inline]
-    pub(crate) fn insert(&mut self, place: Place, entry: Entry)
+    pub(crate) fn insert(&mut self, place: Vacancy, entry: Entry)
         requires { (texts : List (List ℕ)) × (hash : ℕ) × (text : List ℕ) × IsReady texts self.old.slots self.old.rest hash text place }
         ensures { Inserts self.old.slots self.old.rest.entries place entry self.new.slots self.new.rest.entries }
     {
         match place {
-            Place::Gap(place) => self.slots.set(place, entry),
-            Place::Rest(rank) => self.rest.insert(rank, entry),
-            Place::Beside(_) => unreachable!(),
+            Vacancy::Gap(place) => self.slots.set(place, entry),
+            Vacancy::Rest(rank) => self.rest.insert(rank, entry),
+            Vacancy::Beside(_) => unreachable!(),
         }
     }
 

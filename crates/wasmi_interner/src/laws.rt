@@ -1,7 +1,8 @@
 //! Laws of the length order, of symbols and interned texts, and of the steps of a search, as contracts of functions.
-ghost use Rattle.std.specs.Prelude.{◌≡◌, ◌↔◌, ◌==◌, ◌<◌, ◌≤◌, ◌^◌, ◌∷◌, ◌++◌, [], ℕ, List, false, length, map, position, IsTrue, None, Some, slice_get, slice_index_or};
+ghost use Rattle.std.specs.Prelude.{◌≡◌, ◌↔◌, ◌==◌, ◌<◌, ◌≤◌, ◌^◌, ◌∷◌, ◌++◌, [], ℕ, List, false, fold, length, map, position, IsTrue, None, Some, slice_get, slice_index_or};
 ghost use Rattle.std.specs.Cmp.{IsTotalOrder};
 ghost use Rattle.std.specs.Cmp.Lexicographic.{slice_cmp};
+ghost use Rattle.std.specs.Hash as fed;
 ghost use Rattle.std.specs.List.{All};
 ghost use Rattle.std.specs.Ordering.{nat_cmp};
 ghost use Rattle.std.specs.Str.{bytes_eq};
@@ -11,6 +12,7 @@ ghost use Rattle.wasmi_interner.specs.LenOrder.{len_cmp, text_of};
 
 use crate::{LenOrder, Sym};
 use std::cmp::Ordering;
+use std::hash::{Hash, Hasher};
 
 /// The length order is a total order of texts. Two texts are equal in it only if they are the same. Of two
 /// texts that differ in length the shorter is less, and texts of one length are compared byte by byte.
@@ -51,6 +53,13 @@ pub fn ordered_symbols(a: Sym, b: Sym) -> Ordering
     ensures { result ≡ nat_cmp a b }
 {
     a.cmp(&b)
+}
+
+/// A hasher is fed the number of a symbol, and nothing else.
+pub fn hashed_symbols<H: Hasher>(symbol: Sym, state: &mut H)
+    ensures { state.new ≡ fold H.write state.old (fed.u32 symbol) }
+{
+    symbol.hash(state);
 }
 
 /// The symbol of an interned text resolves to the text, and interning the text again gives the same symbol

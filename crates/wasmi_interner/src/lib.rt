@@ -5,13 +5,13 @@
 
 mod entry;
 mod hash;
+mod hash_table;
 mod index;
 mod iter;
 pub mod laws;
 mod len_order;
 mod probe;
 mod rest;
-mod slots;
 mod sought;
 mod steps;
 mod string_interner;

@@ -6,15 +6,15 @@ ghost use Rattle.wasmi_interner.specs.Search.{IsSearchable, IsFound};
 
 use std::cmp::Ordering;
 
-/// A list that [`search`] looks into: it tells how the item at a place compares with what is searched.
+/// A list that [`search`] looks into: it tells how the item at a place compares with what is sought.
 pub trait Probe {
-    /// How each item compares with what is searched, from the first to the last.
+    /// How each item compares with what is sought, from the first to the last.
     ghost orders: { Self → List Ordering };
 
     /// How many times an item was looked at.
     ghost looks: { Self → ℕ };
 
-    /// Compares the item at a place with what is searched: `Less` where the item is less.
+    /// Compares the item at a place with what is sought: `Less` where the item is less.
     fn look(&mut self, at: usize) -> Ordering
         requires within { at < length (orders self.old) }
         requires countable { looks self.old < 2 ^ 64 - 1 }

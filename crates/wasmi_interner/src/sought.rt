@@ -1,4 +1,4 @@
-//! A text that is searched.
+//! A text that is sought.
 ghost use Rattle.std.specs.Prelude.{◌≡◌, ℕ, ◌+◌, ◌<◌, ◌≤◌, ◌^◌, ◌↔◌, List, [], length, IfSome, IsTrue, Some, slice_get};
 ghost use Rattle.std.specs.List.{All};
 ghost use Rattle.wasmi_interner.specs.BinaryDigits.{digits};
@@ -15,7 +15,7 @@ use std::alloc::Allocator;
 use std::cmp::Ordering;
 use std::mem;
 
-// A text that is searched among the texts of an interner, and its hash.
+// A text that is sought among the texts of an interner, and its hash.
 #[derive(Drop)]
 pub(crate) struct Sought<'a, A: Allocator> {
     pub(crate) texts: &'a Texts<A>,
@@ -25,7 +25,7 @@ pub(crate) struct Sought<'a, A: Allocator> {
 }
 
 impl<'a, A: Allocator> Sought<'a, A> {
-    // A text that is searched among these.
+    // A text that is sought among these.
     #[inline]
     pub(crate) fn new(texts: &'a Texts<A>, text: &'a str) -> Self
         ensures texts { result.texts.now ≡ texts.now }
@@ -46,11 +46,8 @@ impl<'a, A: Allocator> Sought<'a, A> {
         ensures same { IsTrue result ↔ (slice_get self.now.texts.now symbol ≡ Some self.now.text.now) }
         ensures counted { steps.new ≡ steps.old + 1 }
     {
-        let entry = Entry {
-            hash: self.hash,
-            symbol,
-        };
-        self.place_among(&entry, 1, steps).is_ok()
+        steps.tick();
+        self.texts.get(symbol.into_usize()) == self.text
     }
 
     // The first symbol, if it is that of this text. A step, if there are texts.
@@ -118,7 +115,7 @@ impl<'a, A: Allocator> Sought<'a, A> {
     }
 }
 
-// A text that is searched among entries, and how many of these it was compared with.
+// A text that is sought among entries, and how many of these it was compared with.
 #[derive(Drop)]
 struct Comparison<'a, E: Entries, A: Allocator> {
     sought: &'a Sought<'a, A>,

@@ -9,7 +9,7 @@ ghost use Rattle.wasmi_arena.specs.Geometry.{size};
 ghost use Rattle.wasmi_arena.specs.Growth.{Came};
 ghost use Rattle.wasmi_arena.specs.Table.{items_in, bucket_with, FillsBucket};
 
-use crate::geometry::{BUCKETS, size_of};
+use crate::geometry::{BUCKETS, bucket_size};
 use crate::raw::option::unwrap_mut;
 use crate::{ArenaError, Bucket};
 use std::alloc::Allocator;
@@ -55,7 +55,7 @@ pub(crate) fn open_with<T: Drop, A: Allocator + Clone>(
     ensures err { OnErr result (buckets.new ≡ buckets.old) }
     ensures without_size { type_size T.row ≡ 0 → A.is_infallible alloc.now → IsOk result }
 {
-    let capacity = size_of(bucket);
+    let capacity = bucket_size(bucket);
     let mut opened = Bucket::open(alloc.clone()?, capacity)?;
     opened.push(0, value);
     buckets[bucket] = Some(opened);
@@ -76,7 +76,7 @@ pub(crate) fn open_apart<T: Drop, A: Allocator + Clone>(
     ensures without_size { type_size T.row ≡ 0 → A.is_infallible alloc.now → IsOk result }
 {
     for bucket in first..last {
-        let capacity = size_of(bucket);
+        let capacity = bucket_size(bucket);
         buckets[bucket] = Some(Bucket::open(alloc.clone()?, capacity)?);
     }
     Ok(())
@@ -118,8 +118,5 @@ pub(crate) fn fill_bucket_from<T, A: Allocator, I: Iterator<Item = T>>(
     ensures goes { IfSome result.1 (λ rest.
         I.can_next rest × UpTo (I.remaining rest) (count (I.remaining items))) }
 {
-    match &mut buckets[place.0] {
-        Some(open) => open.push_from(place.1, items),
-        None => unreachable!(),
-    }
+    unwrap_mut(&mut buckets[place.0]).push_from(place.1, items)
 }

@@ -3,6 +3,7 @@ ghost use Rattle.std.specs.Prelude.{◌≡◌, ◌+◌, ◌<◌, length, slice_g
 ghost use Rattle.wasmi_arena.specs.Table.{items_in, bucket_cut};
 
 use crate::Bucket;
+use crate::raw::option::unwrap_mut;
 use std::alloc::Allocator;
 
 // Takes an open bucket out of a table.
@@ -38,9 +39,6 @@ pub(crate) fn pop_from<T: Drop, A: Allocator>(
             None => unreachable!(),
         }
     } else {
-        match &mut buckets[place.0] {
-            Some(open) => open.pop(place.1),
-            None => unreachable!(),
-        }
+        unwrap_mut(&mut buckets[place.0]).pop(place.1)
     }
 }

@@ -3,7 +3,7 @@ ghost use Rattle.std.specs.Prelude.{◌≡◌, [], IfOk, IsOk, IsOkUnless};
 ghost use Rattle.std.specs.List.{All, AllZip};
 ghost use Rattle.std.specs.Mem.{type_size};
 
-use crate::geometry::size_of;
+use crate::geometry::bucket_size;
 use crate::{ArenaError, Bucket, StableVec};
 use std::alloc::Allocator;
 
@@ -37,7 +37,7 @@ impl<T: Clone, A: Allocator> StableVec<T, A> {
     {
         let mut made = StableVec::new(alloc);
         for part in self.slices() {
-            let capacity = size_of(made.open_buckets());
+            let capacity = bucket_size(made.open_buckets());
             let mut next = Bucket::open(made.alloc.clone()?, capacity)?;
             next.push_clones(part)?;
             made.append_bucket(next, part.len());

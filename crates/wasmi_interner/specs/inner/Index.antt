@@ -9,10 +9,10 @@ use Rattle.wasmi_interner.specs.inner.Hash.{hash_of}
 use Rattle.wasmi_interner.specs.Interner.{AreDistinctTexts}
 use Rattle.wasmi_interner.specs.LenOrder.{len_cmp}
 use Rattle.wasmi_interner.specs.inner.RestBlocks.{RestState}
-use Rattle.wasmi_interner.specs.inner.Slots.{Table, IsGap, IsTaken, met_in, one, rest, is_empty_slot, is_marker, with_slot}
+use Rattle.wasmi_interner.specs.inner.HashTable.{HashTableState, IsGap, IsTaken, met_in, one, rest, is_empty_slot, is_marker, with_slot}
 use Rattle.wasmi_interner.specs.declared.entry.Entry.{Entry}
-use Rattle.wasmi_interner.specs.declared.index.Place.{Place}
-use Rattle.wasmi_interner.specs.declared.index.Place.TheVariants.{Gap, Beside, Rest}
+use Rattle.wasmi_interner.specs.declared.index.Vacancy.{Vacancy}
+use Rattle.wasmi_interner.specs.declared.index.Vacancy.TheVariants.{Gap, Beside, Rest}
 
 -- texts are compared by their hashes, and where these are equal by their length order
 abbrev pub hash_cmp : List ℕ → List ℕ → Ordering
@@ -49,21 +49,21 @@ pub record IsRestOf (texts : List (List ℕ)) (entries : List Entry) : Type 0 wh
   pub ascending : IsStrictlySortedBy hash_cmp (map (text_at texts) entries)
 
 -- where the entry of a symbol stands: in the slot that is met for the hash of its text, or in the rest
-abbrev pub IsFiled : List (List ℕ) → Table → List Entry → ℕ → Type 0
+abbrev pub IsFiled : List (List ℕ) → HashTableState → List Entry → ℕ → Type 0
 IsFiled texts table entries symbol =
     let hash = hash_of (slice_index_or texts symbol []) in
     (met_in table hash ≡ one symbol)
     ⊎ ((met_in table hash ≡ rest) × Contains (map (λ entry. entry.symbol) entries) symbol)
 
 -- slots and the rest are an index of these texts
-pub record IsIndexOf (texts : List (List ℕ)) (table : Table) (entries : List Entry) : Type 0 where
+pub record IsIndexOf (texts : List (List ℕ)) (table : HashTableState) (entries : List Entry) : Type 0 where
   pub distinct : AreDistinctTexts texts
   pub slots : All (IsSlotOf texts) table.slots
   pub rest : IsRestOf texts entries
   pub filed : (symbol : ℕ) → symbol < length texts → IsFiled texts table entries symbol
 
 -- where a text of this hash belongs that isn't there
-abbrev pub BelongsAt : List (List ℕ) → Table → List Entry → ℕ → List ℕ → Place → Type 0
+abbrev pub BelongsAt : List (List ℕ) → HashTableState → List Entry → ℕ → List ℕ → Vacancy → Type 0
 BelongsAt texts table entries hash text (Gap place) = IsGap table hash place
 BelongsAt texts table entries hash text (Beside place) = IsTaken table hash place
 BelongsAt texts table entries hash text (Rest rank) =
@@ -72,7 +72,7 @@ BelongsAt texts table entries hash text (Rest rank) =
     × (greater : ℕ) × (orders_with texts hash text entries ≡ replicate rank Less ++ replicate greater Greater)
 
 -- there is room for the entry of such a text at this place
-abbrev pub IsReady : List (List ℕ) → Table → RestState → ℕ → List ℕ → Place → Type 0
+abbrev pub IsReady : List (List ℕ) → HashTableState → RestState → ℕ → List ℕ → Vacancy → Type 0
 IsReady texts table others hash text (Gap place) = IsGap table hash place × (length texts < 4294967294)
 IsReady texts table others hash text (Beside place) = ⊥
 IsReady texts table others hash text (Rest rank) =
@@ -81,13 +81,13 @@ IsReady texts table others hash text (Rest rank) =
     × (greater : ℕ) × (orders_with texts hash text others.entries ≡ replicate rank Less ++ replicate greater Greater)
 
 -- an entry was put to a place
-abbrev pub Inserts : Table → List Entry → Place → Entry → Table → List Entry → Type 0
+abbrev pub Inserts : HashTableState → List Entry → Vacancy → Entry → HashTableState → List Entry → Type 0
 Inserts table entries (Gap place) entry new others = (new ≡ with_slot table place entry) × (others ≡ entries)
 Inserts table entries (Beside place) entry new others = ⊥
 Inserts table entries (Rest rank) entry new others = (new ≡ table) × (others ≡ insert entries rank entry)
 
 -- what a table has for hashes and entries, a wider one has
-pub record Carries (table : Table) (entries : List Entry) (wider : Table) : Type 0 where
+pub record Carries (table : HashTableState) (entries : List Entry) (wider : HashTableState) : Type 0 where
   pub ones : (hash symbol : ℕ) → met_in table hash ≡ one symbol → met_in wider hash ≡ one symbol
   pub rests : All (λ entry. met_in wider entry.hash ≡ rest) entries
   pub slots : (slot : Entry) → is_empty_slot slot ≡ false → is_marker slot ≡ false → Contains wider.slots slot → Contains table.slots slot

@@ -1,7 +1,7 @@
 use Rattle.std.proofs.Common.{◌≡◌, ◌∙◌, ap, arith, true≢false, sym, inl, inr, get_or}
 use Rattle.std.proofs.lemmas.Bool.{cases_eq}
 use Rattle.std.proofs.lemmas.Option.{get_or_from_slice_get, slice_get_within}
-use Rattle.wasmi_interner.specs.inner.Slots.{Puts, is_marker, met_in, says}
+use Rattle.wasmi_interner.specs.inner.HashTable.{Puts, is_marker, met_in, says}
 use Rattle.wasmi_interner.specs.declared.entry.Entry.{Entry}
 use Rattle.wasmi_interner.proofs.Filing.{all_carried, put_contains, put_kept}
 use Rattle.wasmi_interner.proofs.Meeting.{says_rest}

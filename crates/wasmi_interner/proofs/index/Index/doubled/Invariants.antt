@@ -1,6 +1,6 @@
 use Rattle.std.proofs.Common.{◌≡◌, ◌<◌, ℕ, false, length, get_or}
 use Rattle.std.specs.List.{Contains}
-use Rattle.wasmi_interner.specs.inner.Slots.{is_empty_slot, is_marker, met_in, rest, says}
+use Rattle.wasmi_interner.specs.inner.HashTable.{is_empty_slot, is_marker, met_in, rest, says}
 use Rattle.wasmi_interner.specs.declared.entry.Entry.{Entry}
 use Rattle.wasmi_interner.proofs.index.Index.doubled.Given as goal
 

@@ -1,5 +1,5 @@
 use Rattle.std.proofs.Common.{◌≡◌, ◌∙◌, Some, ap, arith, length, slice_get, sym, subst, true≢false}
-use Rattle.wasmi_interner.specs.inner.Slots.{met_in}
+use Rattle.wasmi_interner.specs.inner.HashTable.{met_in}
 use Rattle.wasmi_interner.specs.declared.entry.Entry.{Entry}
 use Rattle.wasmi_interner.proofs.BinaryDigits.{digits_some}
 use Rattle.wasmi_interner.proofs.Filing.{in_rest, not_at_gap, only_one, rest_without, taken_entry}

@@ -1,11 +1,11 @@
--- The slots of an interner's index: what a search of them for a hash meets.
+-- The hash table of an interner's index: what a search of its slots for a hash meets.
 use Rattle.std.specs.Prelude.{ℕ, zero, suc, ◌≡◌, ◌+◌, ◌⊎◌, ◌==◌, ◌<◌, ◌/◌, ◌^◌, Bool, true, false, cond, List, [], ◌∷◌, length, drop, nat_le, Some, slice_get, slice_set}
 use Rattle.wasmi_interner.specs.declared.entry.Entry.{Entry}
-use Rattle.wasmi_interner.specs.declared.slots.Met.{Met}
-use Rattle.wasmi_interner.specs.declared.slots.Met.TheVariants.{Gap, One, Rest}
+use Rattle.wasmi_interner.specs.declared.hash_table.Met.{Met}
+use Rattle.wasmi_interner.specs.declared.hash_table.Met.TheVariants.{Gap, One, Rest}
 
 -- slots, and by how many bits a hash is shifted to its home among them
-pub record Table : Type 0 where
+pub record HashTableState : Type 0 where
   pub slots : List Entry
   pub shift : ℕ
 
@@ -37,15 +37,15 @@ met (suc n) (slot ∷ slots) hash = cond (is_empty_slot slot) gap (cond (slot.ha
 unfoldable pub met_from : ℕ → List Entry → ℕ → Meeting
 met_from home slots hash = cond (nat_le (home + 32) (length slots)) (met 32 (drop home slots) hash) rest
 
-abbrev pub met_in : Table → ℕ → Meeting
+abbrev pub met_in : HashTableState → ℕ → Meeting
 met_in table hash = met_from (hash / 2 ^ table.shift) table.slots hash
 
 -- the table with another entry in a slot
-abbrev pub with_slot : Table → ℕ → Entry → Table
+abbrev pub with_slot : HashTableState → ℕ → Entry → HashTableState
 with_slot table place slot = record { slots = slice_set table.slots place slot; shift = table.shift }
 
 -- this slot is the one that is met for a hash, and empty
-pub record IsGap (table : Table) (hash place : ℕ) : Type 0 where
+pub record IsGap (table : HashTableState) (hash place : ℕ) : Type 0 where
   pub within : place < length table.slots
   pub now : met_in table hash ≡ gap
   -- an entry that is put there is met,
@@ -54,7 +54,7 @@ pub record IsGap (table : Table) (hash place : ℕ) : Type 0 where
   pub others : (slot : Entry) (other : ℕ) → (met_in table other ≡ gap → ⊥) → met_in (with_slot table place slot) other ≡ met_in table other
 
 -- this slot is the one that is met for a hash, and has a symbol
-pub record IsTaken (table : Table) (hash place : ℕ) : Type 0 where
+pub record IsTaken (table : HashTableState) (hash place : ℕ) : Type 0 where
   pub within : place < length table.slots
   pub symbol : ℕ
   pub there : slice_get table.slots place ≡ Some (record { hash = hash; symbol = symbol })
@@ -67,13 +67,13 @@ pub record IsTaken (table : Table) (hash place : ℕ) : Type 0 where
   pub others : (slot : Entry) (other : ℕ) → slot.hash ≡ hash → is_marker slot ≡ true → (other ≡ hash → ⊥) → met_in (with_slot table place slot) other ≡ met_in table other
 
 -- what `meet` says of a hash
-abbrev pub Meets : Table → ℕ → Met → Type 0
+abbrev pub Meets : HashTableState → ℕ → Met → Type 0
 Meets table hash (Gap place) = IsGap table hash place
 Meets table hash (One place) = IsTaken table hash place
 Meets table hash Rest = met_in table hash ≡ rest
 
 -- A slot was put among others, so that it is met: what was met for other hashes is met, and no other slots are there.
-pub record Puts (old : Table) (slot : Entry) (new : Table) : Type 0 where
+pub record Puts (old : HashTableState) (slot : Entry) (new : HashTableState) : Type 0 where
   pub met : met_in new slot.hash ≡ says slot
   pub others : (hash : ℕ) → (met_in old hash ≡ gap → ⊥) → met_in new hash ≡ met_in old hash
   pub same : (new ≡ old) ⊎ ((place : ℕ) × (new ≡ with_slot old place slot))

@@ -1,7 +1,7 @@
-//! The slots of the index of an interner.
+//! The hash table of the index of an interner.
 ghost use Rattle.std.specs.Prelude.{◌≡◌, ◌<◌, [], length, IfOk, IsTrue, Some, false, slice_get, true};
 ghost use Rattle.std.specs.List.{All};
-ghost use Rattle.wasmi_interner.specs.inner.Slots.{Meets, Puts, is_empty_slot, with_slot};
+ghost use Rattle.wasmi_interner.specs.inner.HashTable.{Meets, Puts, is_empty_slot, with_slot};
 
 use crate::entry::Entry;
 use std::alloc::{AllocError, Allocator};
@@ -10,7 +10,7 @@ use std::marker::Model;
 // Slots for entries, some behind the home of each hash: 2^power homes, which the upper bits of a hash tell, and then
 // the slots within reach of the last one.
 #[derive(Drop)]
-pub(crate) struct Slots<A: Allocator> {
+pub(crate) struct HashTable<A: Allocator> {
     slots: Vec<Entry, A>,
     // By how many bits a hash is shifted to its home.
     shift: u32,
@@ -36,23 +36,23 @@ pub(crate) enum Met {
     Rest,
 }
 
-impl<A: Allocator> Model for Slots<A> {
+impl<A: Allocator> Model for HashTable<A> {
     ghost use Rattle.std.specs.Prelude.{◌≤◌, vec_items};
-    ghost use Rattle.wasmi_interner.specs.inner.Slots.{Table};
+    ghost use Rattle.wasmi_interner.specs.inner.HashTable.{HashTableState};
 
-    ghost Value = { Table };
+    ghost Value = { HashTableState };
 
     ghost view = { λ slots. record { slots = vec_items slots.slots; shift = slots.shift } };
 
     ghost invariant = { λ slots. slots.shift ≤ 32 };
 }
 
-impl<A: Allocator> Slots<A> {
+impl<A: Allocator> HashTable<A> {
     // No slots.
     pub(crate) fn new(alloc: A) -> Self
         ensures { result.slots ≡ [] }
     {
-        Slots {
+        HashTable {
             slots: Vec::new(alloc),
             shift: 32,
         }
@@ -130,7 +130,7 @@ impl<A: Allocator> Slots<A> {
         };
         let len = (1 << (32 - shift)) + REACH - 1;
         let alloc = self.slots.allocator().clone()?;
-        Ok(Slots {
+        Ok(HashTable {
             slots: vec![in alloc; Entry::empty(); len]?,
             shift,
         })
@@ -164,7 +164,7 @@ impl<A: Allocator> Slots<A> {
         A: Clone,
         ensures { IfOk result (λ other. other ≡ self.now) }
     {
-        Ok(Slots {
+        Ok(HashTable {
             slots: self.slots.clone()?,
             shift: self.shift,
         })

@@ -1,5 +1,5 @@
 use Rattle.wasmi_interner.proofs.Meeting.{ArePassed}
-use Rattle.wasmi_interner.proofs.slots.Slots.meet.Given as goal
+use Rattle.wasmi_interner.proofs.hash_table.HashTable.meet.Given as goal
 
 -- the slots so far are passed by
 abbrev pub invariant-loop-place : goal.invariant-loop-place
