@@ -143,7 +143,7 @@ impl<Key: ArenaKey, T, A: Allocator> Arena<Key, T, A> {
     /// Fails with `NotEnoughKeys` if there is no key for one more, and then with `OutOfSystemMemory` if
     /// the vector must grow, which is only where [`room`](Arena::room) is 0, and there is no memory for
     /// it. After an error the arena is as before, and the item is dropped. Constant time, but for the
-    /// growth.
+    /// growth, which at least doubles the vector.
     #[inline]
     pub fn alloc(&mut self, item: T) -> Result<Key, ArenaError>
     where

@@ -139,3 +139,111 @@ fn a_slice_is_hashed_once(rt: HostRuntime) {
     assert_equal!(rt; (set.get_slice(one.as_slice()).is_some(), notes.hashed()), (true, 1));
     assert_equal!(rt; (set.take_slice(one.as_slice()).is_some(), notes.hashed()), (true, 1));
 }
+
+// Of an ordered map: `try_insert` and an index beside a read of the key.
+fn compared_by_a_call<'a>(
+    map: &mut Map<Noted<'a>, u32>,
+    notes: &'a Notes,
+    number: u32,
+) -> Result<[u64; 3], ArenaError> {
+    let key = Noted::new(number, notes);
+    notes.compared();
+    let there = map.contains_key(&key);
+    let read = notes.compared();
+    if there {
+        let _value = map[&key];
+    } else {
+        let _value = map.get(&key);
+    }
+    let indexed = notes.compared();
+    let _back = map.try_insert(key, 1)?;
+    Ok([read, indexed, notes.compared()])
+}
+
+#[test]
+fn a_call_searches_once(rt: HostRuntime) {
+    let notes = Notes::new();
+    let mut map: Map<Noted<'_>, u32> = Map::new(rt.alloc());
+    for number in 0..80u32 {
+        let [read, indexed, inserted] =
+            compared_by_a_call(&mut map, &notes, number / 2).expect(&rt, "");
+        assert_equal!(rt; (indexed, inserted), (read, read), "of {number}");
+    }
+}
+
+// A read, an index and a `try_insert` of a hashed map, of a key that is there or isn't.
+#[test]
+fn a_call_hashes_once(rt: HostRuntime) {
+    let notes = Notes::new();
+    let mut map: hashed::Map<Noted<'_>, u32> = hashed::Map::new(rt.alloc());
+    map.reserve(100).expect(&rt, "");
+    for number in 0..80u32 {
+        let key = Noted::new(number / 2, &notes);
+        notes.hashed();
+        let there = map.contains_key(&key);
+        assert_equal!(rt; (there, notes.hashed()), (number % 2 == 1, 1), "of {number}");
+        if there {
+            assert_equal!(rt; (map[&key], notes.hashed()), (number / 2, 1), "of {number}");
+        }
+        let back = map.try_insert(key, number / 2).expect(&rt, "");
+        assert_equal!(rt; (back.is_err(), notes.hashed()), (there, 1), "of {number}");
+    }
+}
+
+// Of 0 to `len`, once to be inserted.
+fn pairs<'a>(notes: &'a Notes, len: u32) -> impl Iterator<Item = (Noted<'a>, u32)> {
+    (0..len).map(move |key| (Noted::new(key, notes), key))
+}
+
+#[test]
+fn maps_of_two_lengths_differ_at_once(rt: HostRuntime) {
+    let notes = Notes::new();
+    let one: Map<Noted<'_>, u32> = Map::from_iter(rt.alloc(), pairs(&notes, 100)).expect(&rt, "");
+    let more = Map::from_iter(rt.alloc(), pairs(&notes, 101)).expect(&rt, "");
+    notes.compared();
+    assert_equal!(rt; (one == more, more == one, notes.compared()), (false, false, 0));
+    let one: hashed::Map<Noted<'_>, u32> =
+        hashed::Map::from_iter(rt.alloc(), pairs(&notes, 100)).expect(&rt, "");
+    let more = hashed::Map::from_iter(rt.alloc(), pairs(&notes, 101)).expect(&rt, "");
+    notes.hashed();
+    assert_equal!(rt; (one == more, more == one, notes.hashed()), (false, false, 0));
+}
+
+// The hashed set of the elements from one number on, so many of them.
+fn hashed_elements<'a>(
+    alloc: Global,
+    first: u32,
+    len: u32,
+    notes: &'a Notes,
+) -> Result<hashed::Set<Noted<'a>>, ArenaError> {
+    hashed::Set::from_iter(
+        alloc,
+        (0..len).map(|more| Noted::new(first.wrapping_add(more), notes)),
+    )
+}
+
+#[test]
+fn a_hashed_set_of_two_clones_what_it_has(rt: HostRuntime) {
+    let notes = Notes::new();
+    let one = hashed_elements(rt.alloc(), 0, 50, &notes).expect(&rt, "");
+    let other = hashed_elements(rt.alloc(), 25, 50, &notes).expect(&rt, "");
+    assert_equal!(rt; (one.bitor(&other).expect(&rt, "").len(), notes.cloned()), (75, 75));
+    assert_equal!(rt; (one.bitand(&other).expect(&rt, "").len(), notes.cloned()), (25, 25));
+    assert_equal!(rt; (one.bitxor(&other).expect(&rt, "").len(), notes.cloned()), (50, 50));
+    assert_equal!(rt; (one.sub(&other).expect(&rt, "").len(), notes.cloned()), (25, 25));
+}
+
+#[test]
+fn a_test_of_two_hashed_sets_walks_the_smaller(rt: HostRuntime) {
+    let notes = Notes::new();
+    let few = hashed_elements(rt.alloc(), 0, 10, &notes).expect(&rt, "");
+    let many = hashed_elements(rt.alloc(), 10, 1_000, &notes).expect(&rt, "");
+    let all = hashed_elements(rt.alloc(), 0, 1_000, &notes).expect(&rt, "");
+    notes.hashed();
+    assert_equal!(rt; (few.is_disjoint(&many), notes.hashed() <= 10), (true, true));
+    assert_equal!(rt; (many.is_disjoint(&few), notes.hashed() <= 10), (true, true));
+    assert_equal!(rt; (few.is_subset(&all), notes.hashed() <= 10), (true, true));
+    assert_equal!(rt; (all.is_superset(&few), notes.hashed() <= 10), (true, true));
+    assert_equal!(rt; (few.intersection(&all).count(), notes.hashed() <= 10), (10, true));
+    assert_equal!(rt; (all.intersection(&few).count(), notes.hashed() <= 10), (10, true));
+}
