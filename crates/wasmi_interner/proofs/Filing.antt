@@ -1,5 +1,5 @@
 -- Facts on the index of an interner: the rest in order, and where each text is filed.
-use Rattle.std.proofs.Common.{◌≡◌, ◌≢◌, ℕ, zero, suc, ◌+◌, ◌<◌, ◌≤◌, ◌⊎◌, ◌↔◌, Bool, true, false, true≢false, ◌||◌, List, [], ◌∷◌, ◌++◌, length, take, drop, map, replicate, get_or, set, Some, None, option_map, Result, Ok, Err, is_ok, slice_get, refl, sym, ap, subst, ◌∙◌, inl, inr, arith, Ordering, Less, Equal, Greater, nat_eq}
+use Rattle.std.proofs.Common.{◌≡◌, ◌≢◌, ℕ, zero, suc, ◌+◌, ◌<◌, ◌≤◌, ◌⊎◌, ◌↔◌, Bool, true, false, true≢false, ◌||◌, List, [], ◌∷◌, ◌++◌, length, take, drop, map, replicate, get_or, set, Some, None, option_map, slice_get, refl, sym, ap, subst, ◌∙◌, inl, inr, arith, Ordering, Less, Equal, Greater, nat_eq}
 use Rattle.std.specs.Cmp.{IsTotalOrder, Equal-is, nat_cmp_total, on_total, then_total, unsigned_ties}
 use Rattle.std.specs.List.{All, AllByRecursion, Contains, IsDistinct, insert, list_any}
 use Rattle.std.specs.List.Sorted.{IsStrictlySortedBy}
@@ -18,12 +18,12 @@ use Rattle.wasmi_interner.specs.Interner.{symbol_of, AreDistinctTexts}
 use Rattle.wasmi_interner.specs.LenOrder.{len_cmp}
 use Rattle.wasmi_interner.specs.LenOrderLaws.{len_cmp_total, len_cmp-Equal}
 use Rattle.wasmi_interner.specs.inner.RestBlocks.{RestState}
-use Rattle.wasmi_interner.specs.Search.{IsFound, IsSearchable}
+use Rattle.wasmi_interner.specs.Search.{IsSearchable}
 use Rattle.wasmi_interner.specs.inner.HashTable.{HashTableState, IsGap, IsTaken, Puts, is_empty_slot, is_marker, gap, one, rest, says, met_in, with_slot}
 use Rattle.wasmi_interner.specs.declared.entry.Entry.{Entry}
 use Rattle.wasmi_interner.specs.declared.index.Vacancy.{Vacancy}
 use Rattle.wasmi_interner.specs.declared.index.Vacancy.TheVariants.{Gap, Beside, Rest}
-use Rattle.wasmi_interner.proofs.Meeting.{found_in, marker_full, says_one, says_some}
+use Rattle.wasmi_interner.proofs.Meeting.{found_in, says_one, says_some}
 use Rattle.wasmi_interner.proofs.Symbols.{distinct-push, symbol_of-at}
 
 -- ---- texts by hash and length

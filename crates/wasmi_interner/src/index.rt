@@ -7,8 +7,8 @@ ghost use Rattle.wasmi_interner.specs.Search.{IsFound};
 ghost use Rattle.wasmi_interner.specs.inner.HashTable.{IsTaken, met_in, rest};
 
 use crate::entry::{Entries, Entry};
-use crate::rest::Rest;
 use crate::hash_table::{HashTable, Met};
+use crate::rest::Rest;
 use crate::sought::Sought;
 use crate::texts::Texts;
 use crate::{Steps, Sym};
@@ -187,7 +187,11 @@ impl<A: Allocator> Index<A> {
     }
 
     // Makes room in the rest for the entry of a new text, which belongs at a rank there, and returns that place.
-    fn reserve_in_rest(&mut self, rank: usize, sought: &Sought<'_, A>) -> Result<Vacancy, ArenaError>
+    fn reserve_in_rest(
+        &mut self,
+        rank: usize,
+        sought: &Sought<'_, A>,
+    ) -> Result<Vacancy, ArenaError>
     where
         A: Clone,
         requires indexed { IsIndexOf sought.now.texts.now self.old.slots self.old.rest.entries }
