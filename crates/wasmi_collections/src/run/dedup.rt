@@ -1,5 +1,5 @@
 //! Commands to a deduplicating arena, and their replies.
-ghost use Rattle.std.specs.Prelude.{◌≡◌, [], IfOk, IsOk, IsOkUnless, OnErr};
+ghost use Rattle.std.specs.Prelude.{◌≡◌, [], IfOk, IsOk, IsOkUnless, OnErr, vec_len, vec_capacity};
 ghost use Rattle.wasmi_collections.specs.DedupSteps.{DedupStep};
 ghost use Rattle.wasmi_collections.specs.Runs.{IsRun};
 
@@ -79,6 +79,7 @@ pub fn run_dedup<Key: ArenaKey, T: Eq + Hash + Clone, A: Allocator + Clone, B: A
 ) -> Result<Vec<DedupReply<Key, T>, B>, ArenaError>
     ensures run { IfOk result (λ replies. IsRun (DedupStep Key.keys T.eq T.is_clone) (λ state. state)
         arena.old commands.items replies.items arena.new) }
+    ensures exact { IfOk result (λ replies. vec_capacity replies ≡ vec_len commands) }
     ensures errors { IsOkUnless result ArenaError.OutOfSystemMemory }
     ensures err { OnErr result (arena.new ≡ arena.old) }
     ensures empty { commands.items ≡ [] → IsOk result }

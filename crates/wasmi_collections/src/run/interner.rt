@@ -1,5 +1,5 @@
 //! Commands to an interner, and their replies.
-ghost use Rattle.std.specs.Prelude.{◌≡◌, [], IfOk, IsOk, IsOkUnless, OnErr};
+ghost use Rattle.std.specs.Prelude.{◌≡◌, [], IfOk, IsOk, IsOkUnless, OnErr, vec_len, vec_capacity};
 ghost use Rattle.wasmi_collections.specs.InternerSteps.{InternStep};
 ghost use Rattle.wasmi_collections.specs.Runs.{IsRun};
 
@@ -61,6 +61,7 @@ pub fn run_interner<A: Allocator + Clone, B: Allocator>(
     commands: Vec<InternCommand, B>,
 ) -> Result<Vec<InternReply, B>, ArenaError>
     ensures run { IfOk result (λ replies. IsRun InternStep (λ texts. texts) interner.old commands.items replies.items interner.new) }
+    ensures exact { IfOk result (λ replies. vec_capacity replies ≡ vec_len commands) }
     ensures errors { IsOkUnless result ArenaError.OutOfSystemMemory }
     ensures err { OnErr result (interner.new ≡ interner.old) }
     ensures empty { commands.items ≡ [] → IsOk result }

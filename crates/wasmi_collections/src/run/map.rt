@@ -1,5 +1,5 @@
 //! Commands to a map, and their replies.
-ghost use Rattle.std.specs.Prelude.{◌≡◌, [], IfOk, IsOk, IsOkUnless, OnErr};
+ghost use Rattle.std.specs.Prelude.{◌≡◌, [], IfOk, IsOk, IsOkUnless, OnErr, vec_len, vec_capacity};
 ghost use Rattle.wasmi_collections.specs.MapSteps.{MapStep};
 ghost use Rattle.wasmi_collections.specs.Runs.{IsRun};
 
@@ -74,6 +74,7 @@ pub fn run_map<K: Drop, V: Drop, M: AnyMap<K, V>, B: Allocator>(
     commands: Vec<MapCommand<K, V>, B>,
 ) -> Result<Vec<MapReply<V>, B>, ArenaError>
     ensures run { IfOk result (λ replies. IsRun (MapStep M.eq) M.entries map.old commands.items replies.items map.new) }
+    ensures exact { IfOk result (λ replies. vec_capacity replies ≡ vec_len commands) }
     ensures errors { IsOkUnless result ArenaError.OutOfSystemMemory }
     ensures err { OnErr result (map.new ≡ map.old) }
     ensures empty { commands.items ≡ [] → IsOk result }

@@ -1,5 +1,5 @@
 //! Commands to a set, and their replies.
-ghost use Rattle.std.specs.Prelude.{◌≡◌, [], IfOk, IsOk, IsOkUnless, OnErr};
+ghost use Rattle.std.specs.Prelude.{◌≡◌, [], IfOk, IsOk, IsOkUnless, OnErr, vec_len, vec_capacity};
 ghost use Rattle.wasmi_collections.specs.Runs.{IsRun};
 ghost use Rattle.wasmi_collections.specs.SetSteps.{SetStep};
 
@@ -66,6 +66,7 @@ pub fn run_set<T: Drop, S: AnySet<T>, B: Allocator>(
     commands: Vec<SetCommand<T>, B>,
 ) -> Result<Vec<SetReply, B>, ArenaError>
     ensures run { IfOk result (λ replies. IsRun (SetStep S.eq) S.elements set.old commands.items replies.items set.new) }
+    ensures exact { IfOk result (λ replies. vec_capacity replies ≡ vec_len commands) }
     ensures errors { IsOkUnless result ArenaError.OutOfSystemMemory }
     ensures err { OnErr result (set.new ≡ set.old) }
     ensures empty { commands.items ≡ [] → IsOk result }
