@@ -1,6 +1,7 @@
 //! Times the rows and prints the table; writes the chart to the file that its first argument names. With a second
 //! argument it times only the rows whose names have that word. A third names the same program of another build, which
-//! times them too: the lesser time counts. `time --lines` WORD prints the times alone.
+//! times them too: the lesser time counts. `time --lines` WORD prints the times alone. Standard error has each time as it is
+//! taken.
 
 use std::process::{Command, ExitCode, Stdio};
 use std::{env, fs};
@@ -34,7 +35,11 @@ fn measure(word: &str) -> Outcome<Vec<Entry>> {
     settle_heap();
     let mut entries = Vec::new();
     each(ROWS, word, |row| {
-        entries.extend(row.sizes.iter().map(|n| Entry::new(row, *n)));
+        for n in row.sizes {
+            let entry = Entry::new(row, *n);
+            eprintln!("{entry}: {}", entry.times);
+            entries.push(entry);
+        }
         Ok(())
     })?;
     Ok(entries)
