@@ -40,6 +40,7 @@ impl<K: Eq + Hash, V, S: BuildHasher, A: Allocator> Map<K, V, S, A> {
 }
 
 // The same of the map of the standard library.
+// proof: a call of its own, since what an entry leaves is known only of a parameter's own map.
 #[inline]
 fn put_new<K: Eq + Hash + Drop, V: Drop, S: BuildHasher, A: Allocator + Clone>(
     inner: &mut HashMap<K, V, S, A>,

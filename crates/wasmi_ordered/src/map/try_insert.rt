@@ -42,6 +42,7 @@ impl<K: Hash + Ord, V, A: Allocator> Map<K, V, A> {
 }
 
 // The same of the map of the standard library.
+// proof: a call of its own, since what an entry leaves is known only of a parameter's own map.
 #[inline]
 fn put_new<K: Ord + Drop, V: Drop, A: Allocator + Clone>(
     inner: &mut BTreeMap<K, V, A>,
