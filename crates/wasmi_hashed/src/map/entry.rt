@@ -76,6 +76,7 @@ impl<K: Eq + Hash, V, S: BuildHasher, A: Allocator> Map<K, V, S, A> {
             (λ _. (map_with_value (place entry) last).entries ≡ set_value (K.eq key) self.old.entries last)) }
         ensures hasher { IfOk result (λ entry. (last : V)
             → hasher_of (map_with_value (place entry) last) ≡ self.old.hasher) }
+        // The standard library says the state only of a map with a value written, so there must be one.
         ensures state { IfOk result (λ entry. (last : V)
             → hasher_of (entry_map_ref (place entry)).now ≡ self.old.hasher) }
         ensures removed { IfOk result (λ entry. IsPermutation (remove_entry (K.eq key) self.old.entries)
