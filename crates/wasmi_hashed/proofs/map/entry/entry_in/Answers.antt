@@ -3,7 +3,7 @@ use Rattle.std.proofs.lemmas.Result.{IfOk-weaker}
 use Rattle.std.specs.HashMap.{hasher_of}
 use Rattle.std.specs.HashMap.Entry.{entry_map_ref}
 use Rattle.wasmi_hashed.proofs.NewEntry.{state_with_value}
-use Rattle.wasmi_hashed.proofs.map.entry.place_in.Goals as goal
+use Rattle.wasmi_hashed.proofs.map.entry.entry_in.Goals as goal
 
 pub returns : goal.returns
 returns g c =
