@@ -2,7 +2,7 @@ use Rattle.std.proofs.Common.{◌∙◌, ap, get_or}
 use Rattle.std.proofs.lemmas.Option.{none-some, slice_get-get_or}
 use Rattle.wasmi_collections.specs.Dedup.{in_order, value_numbered}
 use Rattle.wasmi_collections.proofs.Dedup.{numbered_at}
-use Rattle.wasmi_collections.proofs.arena.dedup.replace.move_key.Goals as goal
+use Rattle.wasmi_collections.proofs.arena.dedup.replace.exchange_at_key.Goals as goal
 
 pub unreachable-requires : goal.unreachable-requires
 unreachable-requires g c =

@@ -3,7 +3,7 @@ use Rattle.wasmi_map_specs.specs.Maps.{value_at, ChangesAt}
 use Rattle.wasmi_collections.specs.Dedup.{in_order}
 use Rattle.wasmi_collections.proofs.Dedup.{entries-inserted}
 use Rattle.wasmi_collections.proofs.DedupReplace.{IsIndex-set}
-use Rattle.wasmi_collections.proofs.arena.dedup.replace.move_entry.Goals as goal
+use Rattle.wasmi_collections.proofs.arena.dedup.replace.exchange_value.Goals as goal
 
 pub returns-clause-ok : goal.returns-clause-ok
 returns-clause-ok g c =
