@@ -13,8 +13,8 @@ use wasmi_arena::ArenaError;
 
 /// The replies to all lines of a script, in order, each ended by a line feed.
 ///
-/// Each line is read once. A text of `a` or `d` is copied once, a new one of `d` once more, and a new one of
-/// `i` once. Expected time is linear in the text and the replies. The only error is running out of memory.
+/// A text of `a` is copied once, a new one of `d` or a new kind twice, a new one of `i` or a new name once.
+/// Expected time is linear in the text and the replies. The only error is running out of memory.
 pub fn answer<A: Allocator + Copy>(alloc: A, text: &str) -> Result<String<A>, ArenaError>
     ensures output { IfOk result (λ output. string_bytes output ≡ output_of text.now) }
     ensures errors { IsOkUnless result ArenaError.OutOfSystemMemory }
