@@ -2,7 +2,7 @@ use Rattle.std.proofs.Common.{◌≡◌, ltb, true, false, string_bytes, decimal
 use Rattle.std.proofs.lemmas.Bool.{le-ltb, lt-ltb}
 use Rattle.wasmi_arena.specs.Geometry.{max_len, bucket_of, slot_of}
 use Rattle.wasmi_script_lib.proofs.ReplyLemmas.{OnOk-same, place_text}
-use Rattle.wasmi_script_lib.proofs.texts.Texts.place.Goals as goal
+use Rattle.wasmi_script_lib.proofs.texts.ScriptTexts.place.Goals as goal
 
 pub returns-then-index-lt-MAX_LEN : goal.returns-then-index-lt-MAX_LEN
 returns-then-index-lt-MAX_LEN g c =

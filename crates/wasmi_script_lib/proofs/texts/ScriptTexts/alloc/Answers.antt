@@ -5,13 +5,13 @@ use Rattle.wasmi_arena.specs.declared.error.ArenaError.{ArenaError}
 use Rattle.wasmi_script_lib.specs.Replies.{error_reply}
 use Rattle.wasmi_script_lib.specs.Sessions.{AddsReply, with_texts}
 use Rattle.wasmi_script_lib.specs.States.{State}
-use Rattle.wasmi_script_lib.specs.declared.texts.Texts.{Texts}
+use Rattle.wasmi_script_lib.specs.declared.texts.ScriptTexts.{ScriptTexts}
 use Rattle.wasmi_script_lib.proofs.KeptLemmas.{kept-last, no-key}
 use Rattle.wasmi_script_lib.proofs.ReplyLemmas.{OnOk-both, not_memory, word_text}
-use Rattle.wasmi_script_lib.proofs.texts.Texts.alloc.Goals as goal
+use Rattle.wasmi_script_lib.proofs.texts.ScriptTexts.alloc.Goals as goal
 
 -- what is kept, with these texts for those of `a`
-abbrev with_kept : {A : Type 0} → Texts A → List (List ℕ) → State
+abbrev with_kept : {A : Type 0} → ScriptTexts A → List (List ℕ) → State
 with_kept texts kept = record (with_texts texts) { kept = kept }
 
 pub returns-in_ok-writeln-in-Ok-clause-state : goal.returns-in_ok-writeln-in-Ok-clause-state

@@ -7,13 +7,13 @@ use Rattle.wasmi_collections.specs.Dedup.{DedupState}
 use Rattle.wasmi_script_lib.specs.Replies.{error_reply}
 use Rattle.wasmi_script_lib.specs.Sessions.{AddsReply, with_texts}
 use Rattle.wasmi_script_lib.specs.States.{State, keys}
-use Rattle.wasmi_script_lib.specs.declared.texts.Texts.{Texts}
+use Rattle.wasmi_script_lib.specs.declared.texts.ScriptTexts.{ScriptTexts}
 use Rattle.wasmi_script_lib.proofs.DistinctLemmas.{given-number, no-number}
 use Rattle.wasmi_script_lib.proofs.ReplyLemmas.{OnOk-both, not_memory, word_text}
-use Rattle.wasmi_script_lib.proofs.texts.Texts.dedup.Goals as goal
+use Rattle.wasmi_script_lib.proofs.texts.ScriptTexts.dedup.Goals as goal
 
 -- what is kept, with these texts for those of `d`
-abbrev with_deduped : {A : Type 0} → Texts A → List (List ℕ) → State
+abbrev with_deduped : {A : Type 0} → ScriptTexts A → List (List ℕ) → State
 with_deduped texts deduped = record (with_texts texts) { deduped = deduped }
 
 abbrev texts_of : {A : Type 0} → DedupState (String A) → List (List ℕ)

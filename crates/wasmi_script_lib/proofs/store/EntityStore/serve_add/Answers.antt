@@ -5,7 +5,7 @@ use Rattle.wasmi_script_lib.specs.Replies.{error_reply}
 use Rattle.wasmi_script_lib.specs.Sessions.{AddsReply, with_store}
 use Rattle.wasmi_script_lib.proofs.EntityLemmas.{key-added, no-entity_key}
 use Rattle.wasmi_script_lib.proofs.ReplyLemmas.{OnOk-both, not_memory, word_text}
-use Rattle.wasmi_script_lib.proofs.store.EntityStore.add_entity.Goals as goal
+use Rattle.wasmi_script_lib.proofs.store.EntityStore.serve_add.Goals as goal
 
 pub returns-in_ok-writeln-in-Ok-clause-state : goal.returns-in_ok-writeln-in-Ok-clause-state
 returns-in_ok-writeln-in-Ok-clause-state g c =

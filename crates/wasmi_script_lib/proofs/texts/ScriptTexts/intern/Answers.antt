@@ -4,13 +4,13 @@ use Rattle.wasmi_arena.specs.declared.error.ArenaError.{ArenaError}
 use Rattle.wasmi_script_lib.specs.Replies.{error_reply}
 use Rattle.wasmi_script_lib.specs.Sessions.{AddsReply, with_texts}
 use Rattle.wasmi_script_lib.specs.States.{State, symbols}
-use Rattle.wasmi_script_lib.specs.declared.texts.Texts.{Texts}
+use Rattle.wasmi_script_lib.specs.declared.texts.ScriptTexts.{ScriptTexts}
 use Rattle.wasmi_script_lib.proofs.DistinctLemmas.{given-number, no-number}
 use Rattle.wasmi_script_lib.proofs.ReplyLemmas.{OnOk-both, not_memory, word_text}
-use Rattle.wasmi_script_lib.proofs.texts.Texts.intern.Goals as goal
+use Rattle.wasmi_script_lib.proofs.texts.ScriptTexts.intern.Goals as goal
 
 -- what is kept, with these texts for those of `i`
-abbrev with_interned : {A : Type 0} → Texts A → List (List ℕ) → State
+abbrev with_interned : {A : Type 0} → ScriptTexts A → List (List ℕ) → State
 with_interned texts interned = record (with_texts texts) { interned = interned }
 
 pub returns-in_ok-writeln-in-Ok-clause-state : goal.returns-in_ok-writeln-in-Ok-clause-state

@@ -2,7 +2,7 @@ use Rattle.std.proofs.Common.{decimal, length, string_bytes, sym, ◌∙◌}
 use Rattle.std.proofs.lemmas.List.{length-map}
 use Rattle.wasmi_arena.specs.Geometry.{slots}
 use Rattle.wasmi_script_lib.proofs.ReplyLemmas.{OnOk-same, counts_text}
-use Rattle.wasmi_script_lib.proofs.texts.Texts.count.Goals as goal
+use Rattle.wasmi_script_lib.proofs.texts.ScriptTexts.count.Goals as goal
 
 pub returns : goal.returns
 returns g c =

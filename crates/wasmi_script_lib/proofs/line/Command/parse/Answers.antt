@@ -2,7 +2,7 @@ use Rattle.std.proofs.Common.{◌≡◌, false, [], ◌∷◌, sym, ◌∙◌, r
 use Rattle.std.specs.Str.{bytes_eq}
 use Rattle.std.proofs.lemmas.Bool.{false≢true}
 use Rattle.wasmi_script_lib.proofs.LineLemmas.{bytes_eq-no_cut}
-use Rattle.wasmi_script_lib.proofs.line.Line.parse.Goals as goal
+use Rattle.wasmi_script_lib.proofs.line.Command.parse.Goals as goal
 
 -- a line that can't be cut after two bytes asks for nothing
 pub returns-in_err-head : goal.returns-in_err-head

@@ -2,7 +2,7 @@ use Rattle.std.proofs.Common.{◌≡◌, Some, None, true, false, codes, ltb, sl
 use Rattle.std.proofs.lemmas.Bool.{false_from_ne_true, lt-ltb, ltb-true}
 use Rattle.wasmi_script_lib.specs.States.{symbols}
 use Rattle.wasmi_script_lib.proofs.ReplyLemmas.{OnOk-same, word_text}
-use Rattle.wasmi_script_lib.proofs.texts.Texts.resolve.Goals as goal
+use Rattle.wasmi_script_lib.proofs.texts.ScriptTexts.resolve.Goals as goal
 
 pub returns-in_default : goal.returns-in_default
 returns-in_default g c =
