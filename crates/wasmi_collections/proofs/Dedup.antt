@@ -1,4 +1,5 @@
 -- Facts on the values handed in to a deduplicating arena, and on its index.
+-- for src/arena/dedup.rt, src/arena/dedup/
 use Rattle.std.proofs.Common.{All, ◌≡◌, ℕ, ◌+◌, ◌<◌, ◌≤◌, suc, Bool, true, false, cond, List, [], ◌∷◌, ◌++◌, length, length-append, map, MatchOption, Option, Some, None, option_map, find, filter_map, position, slice_get, nat_eq, IsPermutation, refl, sym, ap, ◌∙◌, subst, is_some, eqb-true, ◌||◌, true≢false, arith}
 use Rattle.std.specs.Cmp.{IsEquivalence}
 use Rattle.std.specs.Map.{set_value}
@@ -160,7 +161,7 @@ map-none f None none = refl
 map-none f (Some x) none = absurd (true≢false (sym (ap is_some none)))
 
 -- a value that an index doesn't find isn't among those handed in
-position-absent : {K T : Type 0} (keys : Keys K) (eq : T → T → Bool) (handed : List T) (index : List (T × K)) (value : T) → IsIndex keys eq handed index → value_at eq index value ≡ None → position (eq value) handed ≡ None
+pub position-absent : {K T : Type 0} (keys : Keys K) (eq : T → T → Bool) (handed : List T) (index : List (T × K)) (value : T) → IsIndex keys eq handed index → value_at eq index value ≡ None → position (eq value) handed ≡ None
 position-absent keys eq handed index value is none = map-none keys.key (position (eq value) handed) (sym none ∙ is.finds value)
 
 -- and so of the index of an arena

@@ -1,4 +1,5 @@
 -- A value that takes the place of another among those handed in to a deduplicating arena, and in its index.
+-- for src/arena/dedup/replace.rt, src/laws.rt
 use Rattle.std.proofs.Common.{◌≡◌, ◌≢◌, ℕ, zero, suc, ◌+◌, ◌<◌, Bool, true, false, cond, not, List, [], ◌∷◌, length, Option, Some, None, option_map, filter, position, slice_get, slice_set, IsPermutation, refl, sym, ap, ◌∙◌, subst, is_some, inl, inr, true≢false, arith}
 use Rattle.std.specs.Cmp.{IsEquivalence}
 use Rattle.std.specs.List.{AllByRecursion, IsDistinct, position_from}

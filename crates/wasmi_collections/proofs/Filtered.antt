@@ -1,4 +1,5 @@
 -- A filter of a list that changes its order, and a map's entries without one.
+-- for src/arena/dedup/replace.rt
 use Rattle.std.proofs.Common.{◌≡◌, ℕ, zero, suc, ◌<◌, Bool, true, false, cond, not, List, [], ◌∷◌, length, filter, get_or, slice_set, IsPermutation, refl, sym, ap, ◌∙◌, arith}
 use Rattle.std.specs.Cmp.{IsEquivalence}
 use Rattle.std.specs.List.{AllByRecursion, IsDistinct, swap}

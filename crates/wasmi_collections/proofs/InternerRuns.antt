@@ -1,4 +1,5 @@
 -- What an interner replies to two texts in a run.
+-- for src/laws/interner.rt
 use Rattle.std.proofs.Common.{◌≡◌, ℕ, zero, suc, List, [], ◌∷◌, map, Some, slice_get, sym, ap, ◌∙◌, ◌↔◌}
 use Rattle.std.proofs.lemmas.Option.{none-some, same_Some}
 use Rattle.wasmi_interner.specs.Interner.{symbol_of}

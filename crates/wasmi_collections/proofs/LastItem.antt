@@ -1,4 +1,5 @@
 -- Facts on the last item of a list, and what stands before it.
+-- for src/head_vec.rt
 use Rattle.std.proofs.Common.{inl, ◌≡◌, ◌≢◌, Ordering, Less, Equal, Greater, ◌⊎◌, Bool, ◌&&◌, List, [], ◌∷◌, ◌++◌, Option, Some, None, refl, ap, sym, ◌∙◌}
 use Rattle.std.specs.List.{AllZip}
 use Rattle.std.specs.Option.{option_eq, option_cmp, option_partial_cmp, option_to_list, IfNone}

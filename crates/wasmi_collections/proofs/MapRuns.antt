@@ -1,4 +1,5 @@
 -- What a map replies, and what it becomes, follows from what it reads and how many entries it has.
+-- for src/laws.rt
 use Rattle.std.proofs.Common.{◌≡◌, ℕ, ◌+◌, ◌-◌, Bool, true, false, cond, List, length, Option, Some, None, refl, sym, ap, ◌∙◌, arith, is_some}
 use Rattle.std.specs.Map.{update}
 use Rattle.wasmi_map_specs.specs.Maps.{value_at}

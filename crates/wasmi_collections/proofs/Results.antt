@@ -1,4 +1,5 @@
 -- Facts on results, and on those that are known to be values.
+-- for src/arena/dedup.rt, src/arena/dedup/replace.rt
 use Rattle.std.proofs.Common.{Result, Ok, Err, IsOk, OnOk, IsOkUnless, ◌≡◌, refl, sym, ap, true≢false}
 
 -- where the one error that there is doesn't come

@@ -1,4 +1,5 @@
 -- Facts on runs.
+-- for src/run/, src/laws.rt
 use Rattle.std.proofs.Common.{◌≡◌, ℕ, ◌+◌, List, [], ◌∷◌, ◌++◌, length, length-append, refl, subst, arith}
 use Rattle.std.specs.List.{AllByRecursion}
 use Rattle.wasmi_collections.specs.Runs.{IsRun}

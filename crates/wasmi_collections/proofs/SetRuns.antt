@@ -1,4 +1,5 @@
 -- What a set replies, and what it becomes, follows from what is in it and how many elements it has.
+-- for src/laws.rt
 use Rattle.std.proofs.Common.{◌≡◌, ℕ, ◌+◌, ◌-◌, Bool, true, false, not, cond, List, length, refl, sym, ap, ◌∙◌, arith}
 use Rattle.std.specs.Set.{is_member}
 use Rattle.wasmi_collections.specs.MapCalls.{one_if}

@@ -1,6 +1,6 @@
 //! Containers of the Wasmi interpreter.
 //!
-//! - [`StableVec`]: a vector that only grows, whose items stay where they are
+//! - [`StableVec`]: a vector that grows without moving its items
 //! - [`StableArena`]: such a vector under typed keys
 //! - [`Arena`]: a list under typed keys, in one vector
 //! - [`DedupArena`]: an arena that gives equal values one key

@@ -1,4 +1,5 @@
 -- The standard library's map or set with nothing in it is this crate's with nothing in it.
+-- for src/map.rt, src/set.rt
 use Rattle.std.proofs.Common.{◌≡◌, ap, []}
 use Rattle.std.specs.HashMap.{HashMap}
 use Rattle.std.specs.HashSet.{HashSet}

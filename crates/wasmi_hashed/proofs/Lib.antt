@@ -1,6 +1,6 @@
 mod Same
 mod NewEntry
-mod Places
+mod LentOn
 mod Rows
 mod Values
 mod Drains

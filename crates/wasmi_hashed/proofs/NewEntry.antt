@@ -1,4 +1,5 @@
--- What an insertion leaves where the key is new, and which state the map of a place has.
+-- What an insertion leaves where the key is new, and which state the map of an entry has.
+-- for src/map.rt, src/map/entry.rt, src/map/try_insert.rt
 use Rattle.std.proofs.Common.{◌≡◌, Bool, List, ◌∷◌, Option, Some, None, MatchOption, is_some, true≢false, refl, ap, ◌∙◌}
 use Rattle.std.specs.HashMap.{hasher_of}
 use Rattle.std.specs.HashMap.Entry.{entry_map_ref}
@@ -6,7 +7,7 @@ use Rattle.std_collections.specs.Layout.HashMapEntry.{map_with_value}
 use Rattle.std.specs.List.Sorted.{IsPermutation}
 use Rattle.std.specs.Map.{set_value}
 use Rattle.std.proofs.lemmas.Map.Steps.{set_value_same}
-use Rattle.std.specs.declared.collections.hash_map.Entry.{Entry as Place}
+use Rattle.std.specs.declared.collections.hash_map.Entry.{Entry as InnerEntry}
 use Rattle.std.specs.declared.collections.hash_map.Entry.TheVariants.{Occupied, Vacant}
 use Rattle.std.specs.declared.cmp.PartialEq as eq
 use Rattle.std.specs.declared.hash.Hash as hash
@@ -19,9 +20,9 @@ pub entries_with_new : {K V : Type 0} (same : K → K → Bool) (before after : 
 entries_with_new same before after key value None is entered none = entered
 entries_with_new same before after key value (Some other) is entered none = absurd (true≢false (ap is_some (is ∙ none)))
 
--- a value written into a place leaves the state
+-- a value written into an entry leaves the state
 module _ {K V S A H : Type 0} {g : eq.Ghosts K} {h : hash.Ghosts K} {b : builder.Ghosts S H} {w : hasher.Ghosts H} where
-  pub state_with_value : (there : Place K V S A H g h b w) (last : V) → hasher_of (map_with_value there last) ≡ hasher_of (entry_map_ref there).now
+  pub state_with_value : (there : InnerEntry K V S A H g h b w) (last : V) → hasher_of (map_with_value there last) ≡ hasher_of (entry_map_ref there).now
   unfolding map_with_value
   state_with_value (Occupied occupied) last = refl
   state_with_value (Vacant vacant) last = refl

@@ -1,14 +1,15 @@
--- Places, as `HandedOn.antt` takes them, what one leaves that is used up, and the names that walks on them cite. Assumes `Logic`.
+-- Entries, as `HandedOn.antt` takes them, what one leaves that is used up, and the names that walks on them cite. Assumes `Logic`.
+-- for src/map/entry.rt, src/map/entry/
 pub use Rattle.std.specs.HashMap.{HashMap, IsUnchanged}
 pub use Rattle.std.specs.HashMap.Entry.{entry_key, entry_map_ref, entry_value, map_with_value, map_without_entry, with_entry_value, IsWritten}
 pub use Rattle.std.specs.declared.collections.hash_map.Entry.TheVariants.{Occupied, Vacant}
-pub use Rattle.wasmi_hashed.specs.MapEntry.{place, with_value, IsPlaceOf, IsOfInner, map_of, inner_rests, inner_without, inner_stays}
+pub use Rattle.wasmi_hashed.specs.MapEntry.{inner_entry, with_value, IsEntryOf, IsOfInner, map_of, inner_rests, inner_without, inner_stays}
 use Rattle.std.specs.declared.alloc.Allocator as alloc
 use Rattle.std.specs.declared.cmp.PartialEq as eq
 use Rattle.std.specs.declared.hash.Hash as hash
 use Rattle.std.specs.declared.hash.Hasher as hasher
 use Rattle.std.specs.declared.hash.BuildHasher as builder
-use Rattle.std.specs.declared.collections.hash_map.Entry.{Entry as Place}
+use Rattle.std.specs.declared.collections.hash_map.Entry.{Entry as InnerEntry}
 use Rattle.std.specs.contracts.collections.HashMap.{the_row as MapRow}
 use Rattle.std.specs.contracts.collections.hash_map.Entry as TableEntry
 use Rattle.std.specs.contracts.collections.hash_map.OccupiedEntry as TableHeld
@@ -23,7 +24,7 @@ use Rattle.wasmi_hashed.specs.contracts.map.entry.VacantEntry as FreeType
 use Rattle.wasmi_hashed.proofs.map.entry.Entry.TheLaws as EntryLaws
 use Rattle.wasmi_hashed.proofs.map.entry.OccupiedEntry.TheLaws as HeldLaws
 use Rattle.wasmi_hashed.proofs.map.entry.VacantEntry.TheLaws as FreeLaws
-use Rattle.wasmi_map_specs.proofs.HandedOn.{PlaceRow, LeavesNone}
+use Rattle.wasmi_map_specs.proofs.HandedOn.{EntryRow, LeavesNone}
 use Rattle.wasmi_map_specs.proofs.Walk.{‵, ◌$◌, ◌∵◌, ◌∷◌, [], !, ◌⊑◌, done, fjoin, gone, left, let_go, move, nothing, param, param_laws, qed, use0, ◌≡◌, keep, named, see, yes, at, refl, rewrite}
 use base.Fml.{fres}
 use base.Logic.{ent}
@@ -41,7 +42,7 @@ use types.Logic.{Logic, sem}
 
 module _ (X Y S Z N : RattleType) (p : eq.Ghosts X.Denot) (h : hash.Ghosts X.Denot) (s : builder.Ghosts S.Denot N.Denot) (n : hasher.Ghosts N.Denot) (g : alloc.Ghosts Z.Denot)
     (LX : Laws X) (LY : Laws Y) (LS : Laws S) (LZ : Laws Z) (LN : Laws N) where
-  -- nothing is left of a place that is handed on
+  -- nothing is left of an entry that is handed on
   pub entry_none : LeavesNone (λ ℓ. EntryType.the_row ℓ (param 0 X) (param 1 Y) (param 2 S) (param 3 Z) (param 4 N) p h s n g)
   entry_none M 𝓤 𝓛 ℓ (Held x) f = qed 𝓛 [] ∵ nothing ! $ nothing ! $ nothing ! $ nothing ! $ fjoin ! $ fjoin ! $ fjoin ! $ done !
   entry_none M 𝓤 𝓛 ℓ (Free x) f = qed 𝓛 [] ∵ use0 𝓛 (‵ (let_go 4)) (gone 𝓛 4) $ nothing ! $ move ! (1 ∷ 0 ∷ []) $ fjoin ! $ nothing ! $ move ! (1 ∷ 0 ∷ []) $ fjoin ! $ done !
@@ -53,7 +54,7 @@ module _ (X Y S Z N : RattleType) (p : eq.Ghosts X.Denot) (h : hash.Ghosts X.Den
   vacant_none M 𝓤 𝓛 ℓ x f = qed 𝓛 [] ∵ use0 𝓛 (‵ (let_go 4)) (gone 𝓛 4) $ nothing ! $ move ! (1 ∷ 0 ∷ []) $ fjoin ! $ done !
 
   abbrev made : (Here There : NamedLft → RattleType) → ((ℓ : NamedLft) → Laws (Here ℓ)) → ((ℓ : NamedLft) → Laws (There ℓ))
-      → LeavesNone Here → ((ℓ : NamedLft) → (Here ℓ).Denot → (There ℓ).Denot) → ((ℓ : NamedLft) → (There ℓ).Denot → Place X.Denot Y.Denot S.Denot Z.Denot N.Denot p h s n) → PlaceRow
+      → LeavesNone Here → ((ℓ : NamedLft) → (Here ℓ).Denot → (There ℓ).Denot) → ((ℓ : NamedLft) → (There ℓ).Denot → InnerEntry X.Denot Y.Denot S.Denot Z.Denot N.Denot p h s n) → EntryRow
   made Here There here_laws there_laws leaves_none inner as_entry = record {
     Here = Here;
     There = There;
@@ -68,17 +69,17 @@ module _ (X Y S Z N : RattleType) (p : eq.Ghosts X.Denot) (h : hash.Ghosts X.Den
     map_with = λ ℓ y. map_with_value (as_entry ℓ y);
   }
 
-  abbrev pub entry : PlaceRow
+  abbrev pub entry : EntryRow
   entry = made (λ ℓ. EntryType.the_row ℓ (param 0 X) (param 1 Y) (param 2 S) (param 3 Z) (param 4 N) p h s n g) (λ ℓ. TableEntry.the_row ℓ (param 0 X) (param 1 Y) (param 2 S) (param 3 Z) (param 4 N) p h s n g)
       (λ ℓ. EntryLaws.the_row_laws ℓ (param 0 X) (param 1 Y) (param 2 S) (param 3 Z) (param 4 N) p h s n g (param_laws 0 X LX) (param_laws 1 Y LY) (param_laws 2 S LS) (param_laws 3 Z LZ) (param_laws 4 N LN)) (λ ℓ. TableEntryLaws.the_row_laws ℓ (param 0 X) (param 1 Y) (param 2 S) (param 3 Z) (param 4 N) p h s n g (param_laws 0 X LX) (param_laws 1 Y LY) (param_laws 2 S LS) (param_laws 3 Z LZ) (param_laws 4 N LN))
-      entry_none (λ ℓ x. place x) (λ ℓ y. y)
+      entry_none (λ ℓ x. inner_entry x) (λ ℓ y. y)
 
-  abbrev pub occupied : PlaceRow
+  abbrev pub occupied : EntryRow
   occupied = made (λ ℓ. HeldType.the_row ℓ (param 0 X) (param 1 Y) (param 2 S) (param 3 Z) (param 4 N) p h s n g) (λ ℓ. TableHeld.the_row ℓ (param 0 X) (param 1 Y) (param 2 S) (param 3 Z) (param 4 N) p h s n g)
       (λ ℓ. HeldLaws.the_row_laws ℓ (param 0 X) (param 1 Y) (param 2 S) (param 3 Z) (param 4 N) p h s n g (param_laws 0 X LX) (param_laws 1 Y LY) (param_laws 2 S LS) (param_laws 3 Z LZ) (param_laws 4 N LN)) (λ ℓ. TableHeldLaws.the_row_laws ℓ (param 0 X) (param 1 Y) (param 2 S) (param 3 Z) (param 4 N) p h s n g (param_laws 0 X LX) (param_laws 1 Y LY) (param_laws 2 S LS) (param_laws 3 Z LZ) (param_laws 4 N LN))
       occupied_none (λ ℓ x. x.entry) (λ ℓ y. Occupied y)
 
-  abbrev pub vacant : PlaceRow
+  abbrev pub vacant : EntryRow
   vacant = made (λ ℓ. FreeType.the_row ℓ (param 0 X) (param 1 Y) (param 2 S) (param 3 Z) (param 4 N) p h s n g) (λ ℓ. TableFree.the_row ℓ (param 0 X) (param 1 Y) (param 2 S) (param 3 Z) (param 4 N) p h s n g)
       (λ ℓ. FreeLaws.the_row_laws ℓ (param 0 X) (param 1 Y) (param 2 S) (param 3 Z) (param 4 N) p h s n g (param_laws 0 X LX) (param_laws 1 Y LY) (param_laws 2 S LS) (param_laws 3 Z LZ) (param_laws 4 N LN)) (λ ℓ. TableFreeLaws.the_row_laws ℓ (param 0 X) (param 1 Y) (param 2 S) (param 3 Z) (param 4 N) p h s n g (param_laws 0 X LX) (param_laws 1 Y LY) (param_laws 2 S LS) (param_laws 3 Z LZ) (param_laws 4 N LN))
       vacant_none (λ ℓ x. x.entry) (λ ℓ y. Vacant y)
@@ -87,13 +88,13 @@ module _ (X Y S Z N : RattleType) (p : eq.Ghosts X.Denot) (h : hash.Ghosts X.Den
 abbrev pub alive_in : (X Y S Z N : RattleType) → Lfts 6 → List (Type 0)
 alive_in X Y S Z N κs = (κs.1.0 ⊑ X.lives) ∷ (κs.1.1.0 ⊑ Y.lives) ∷ (κs.1.1.1.0 ⊑ S.lives) ∷ (κs.1.1.1.1.0 ⊑ Z.lives) ∷ (κs.1.1.1.1.1.0 ⊑ N.lives) ∷ []
 
--- what a place leaves that is used up
+-- what an entry leaves that is used up
 module _ {M : Type 1} {𝓤 : Ura M} (𝓛 : Logic 𝓤) (K V S A H : RattleType)
     (p : eq.Ghosts K.Denot) (h : hash.Ghosts K.Denot) (s : builder.Ghosts S.Denot H.Denot) (n : hasher.Ghosts H.Denot) (g : alloc.Ghosts A.Denot) where
   abbrev Unused : NamedLft → RattleType
   Unused ℓ = TableFree.the_row ℓ K V S A H p h s n g
 
-  -- the table comes back as it is where the place is gone
+  -- the table comes back as it is where the entry is gone
   pub comes_back : (ℓ : NamedLft) → let T = Unused (record { mir = named 0; lft = ℓ.lft }) in (x : T.Denot) (w : Last (T.exit (at (0 ∷ []))) x)
       → (see (T.exit (at (0 ∷ []))) x w).0.now ≡ (entry_map_ref (Vacant x)).now
       → ent 𝓤 (sem 𝓛 (left (T.exit (at (0 ∷ []))) x w)) (sem 𝓛 (inner_stays K V S A H g (Vacant x)))

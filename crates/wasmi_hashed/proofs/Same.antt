@@ -1,4 +1,5 @@
 -- The standard library's equality of maps and sets in the words of `wasmi_map_specs`.
+-- for src/map/compared.rt, src/set/compared.rt
 use Rattle.std.proofs.Common.{◌≡◌, Bool}
 use Rattle.std.specs.Bool.{one_answer}
 use Rattle.std.specs.Cmp.{IsEquivalence}

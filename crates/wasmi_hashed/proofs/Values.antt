@@ -1,4 +1,5 @@
 -- The standard library's map with other values is this crate's map with them.
+-- for src/map.rt
 use Rattle.std.proofs.Common.{◌≡◌, refl, ap, ◌∙◌, List, [], ◌∷◌}
 use Rattle.std.specs.HashMap.{HashMap, hasher_of}
 use Rattle.std_collections.specs.Layout.Columns.{set_values}

@@ -1,6 +1,6 @@
--- What the place of a key in a hashed map is: that of the standard library's map.
+-- What the entry of a key in a hashed map is: that of the standard library's map.
 use Rattle.std.specs.declared.collections.hash_map.Entry.TheVariants as table
-use Rattle.std.specs.declared.collections.hash_map.Entry.{Entry as Place}
+use Rattle.std.specs.declared.collections.hash_map.Entry.{Entry as InnerEntry}
 use Rattle.std.specs.declared.alloc.Allocator as alloc
 use Rattle.std.specs.declared.alloc.AllocFailed.{AllocFailed}
 use Rattle.std.specs.declared.cmp.PartialEq as eq
@@ -33,15 +33,15 @@ abbrev pub map_of : {K V S : Type 0} → HashMap K V S → Entries K V S
 map_of table = record { entries = table.entries; hasher = hasher_of table }
 
 module _ {K V S A H : Type 0} {g : eq.Ghosts K} {h : hash.Ghosts K} {b : builder.Ghosts S H} {w : hasher.Ghosts H} where
-  -- the place in the table
-  abbrev pub place : Entry K V S A H g h b w → Place K V S A H g h b w
-  place (Occupied occupied) = table.Occupied occupied.entry
-  place (Vacant vacant) = table.Vacant vacant.entry
+  -- the entry in the table
+  abbrev pub inner_entry : Entry K V S A H g h b w → InnerEntry K V S A H g h b w
+  inner_entry (Occupied occupied) = table.Occupied occupied.entry
+  inner_entry (Vacant vacant) = table.Vacant vacant.entry
 
-  -- the place of a key in this map: its key, the stored one if it is there, and its value, the map as it
+  -- the entry of a key in this map: its key, the stored one if it is there, and its value, the map as it
   -- is, and what that becomes with a value written under the key and with the key taken out
-  abbrev pub IsPlaceOf : (K → K → Bool) → Entries K V S → K → Place K V S A H g h b w → Type 0
-  IsPlaceOf same map key there = (entry_value there ≡ None → entry_key there ≡ key) × (same key (entry_key there) ≡ true)
+  abbrev pub IsEntryOf : (K → K → Bool) → Entries K V S → K → InnerEntry K V S A H g h b w → Type 0
+  IsEntryOf same map key there = (entry_value there ≡ None → entry_key there ≡ key) × (same key (entry_key there) ≡ true)
       × (entry_value there ≡ value_at same map.entries key)
       × MatchEntry there (IsSome (value_at same map.entries key) × (lookup_key (same key) map.entries ≡ Some (entry_key there)))
       (value_at same map.entries key ≡ None)
@@ -53,29 +53,29 @@ module _ {K V S A H : Type 0} {g : eq.Ghosts K} {h : hash.Ghosts K} {b : builder
       × IsPermutation (remove_entry (same key) map.entries) (map_without_entry there).entries
 
   -- what a map returns where the map of the standard library returns this
-  abbrev pub IsOfInner : Result (Place K V S A H g h b w) (AllocFailed K) → Result (Entry K V S A H g h b w) ArenaError → Type 0
-  IsOfInner = IsMadeOf place OutOfSystemMemory
+  abbrev pub IsOfInner : Result (InnerEntry K V S A H g h b w) (AllocFailed K) → Result (Entry K V S A H g h b w) ArenaError → Type 0
+  IsOfInner = IsMadeOf inner_entry OutOfSystemMemory
 
-  -- the place of a key that is there, with this value
+  -- the entry of a key that is there, with this value
   abbrev pub with_value : OccupiedEntry K V S A H g h b w → V → OccupiedEntry K V S A H g h b w
   with_value held last = record held { entry = with_entry_value held.entry last }
 
 module _ (K V S A H : RattleType) {g : eq.Ghosts K.Denot} {h : hash.Ghosts K.Denot} {b : builder.Ghosts S.Denot H.Denot} {w : hasher.Ghosts H.Denot} (heap : alloc.Ghosts A.Denot) where
   -- where the call failed, the table has its entries
-  abbrev pub inner_rests : {E : Type 0} → MutBor (HashMap K.Denot V.Denot S.Denot) → Result (Place K.Denot V.Denot S.Denot A.Denot H.Denot g h b w) E → Fml
+  abbrev pub inner_rests : {E : Type 0} → MutBor (HashMap K.Denot V.Denot S.Denot) → Result (InnerEntry K.Denot V.Denot S.Denot A.Denot H.Denot g h b w) E → Fml
   inner_rests m r = RestsIfErr (InnerRow K V S A H g h b w heap) m (λ e. (entry_map_ref e).ghost_name) r (λ now. now.entries ≡ m.now.entries)
 
-  -- the table is in the end the one without the place's key.
+  -- the table is in the end the one without the entry's key.
   -- `remove` leaves it so.
-  abbrev pub inner_without : Place K.Denot V.Denot S.Denot A.Denot H.Denot g h b w → Fml
+  abbrev pub inner_without : InnerEntry K.Denot V.Denot S.Denot A.Denot H.Denot g h b w → Fml
   inner_without there = follows_so (InnerRow K V S A H g h b w heap) V (entry_map_ref there).ghost_name none (λ _ _. Unit {0}) (IsUnchanged (map_without_entry there))
 
-  -- the table is in the end as the place has it.
+  -- the table is in the end as the entry has it.
   -- `into_key` leaves it so.
-  abbrev pub inner_stays : Place K.Denot V.Denot S.Denot A.Denot H.Denot g h b w → Fml
+  abbrev pub inner_stays : InnerEntry K.Denot V.Denot S.Denot A.Denot H.Denot g h b w → Fml
   inner_stays there = follows_if (InnerRow K V S A H g h b w heap) V (entry_map_ref there).ghost_name none (map_with_value there) (entry_map_ref there).now
 
-  -- the place of a key that is there has the value that was written last through the reference, whose lifetime is the
+  -- the entry of a key that is there has the value that was written last through the reference, whose lifetime is the
   -- call's second
   abbrev pub lends_held : MutBor (OccupiedEntry K.Denot V.Denot S.Denot A.Denot H.Denot g h b w) → MutBor V.Denot → Fml
   lends_held held value = follows (HeldType.the_row (record { mir = named 1; lft = [] }) K V S A H g h b w heap) V held.ghost_name value.ghost_name (with_value held.now)
@@ -86,11 +86,11 @@ module _ (K V S A H : RattleType) (m : HashMembers K.Denot) (b : builder.Ghosts 
   lends_inner map table = Lends (MapRow K V S A H (record { eq = m.eq }) (record { hash_input = m.hash_input }) b w heap)
       (InnerRow K V S A H (record { eq = m.eq }) (record { hash_input = m.hash_input }) b w heap) map table map_of
 
-  -- the map is what the place's table is in the end, and where there is no place it has the entries that it had.
+  -- the map is what the entry's table is in the end, and where there is no entry it has the entries that it had.
   -- `*map.entry(2)?.or_insert(b)? = c` on (1, a): (1, a), (2, c).
-  abbrev pub lends_place : {E : Type 0} → MutBor (Entries K.Denot V.Denot S.Denot)
+  abbrev pub lends_entry : {E : Type 0} → MutBor (Entries K.Denot V.Denot S.Denot)
       → Result (Entry K.Denot V.Denot S.Denot A.Denot H.Denot (record { eq = m.eq }) (record { hash_input = m.hash_input }) b w) E → Fml
-  lends_place map r = follows_so (MapRow K V S A H (record { eq = m.eq }) (record { hash_input = m.hash_input }) b w heap)
+  lends_entry map r = follows_so (MapRow K V S A H (record { eq = m.eq }) (record { hash_input = m.hash_input }) b w heap)
       (InnerRow K V S A H (record { eq = m.eq }) (record { hash_input = m.hash_input }) b w heap)
-      map.ghost_name (name_if_ok (λ e. (entry_map_ref (place e)).ghost_name) r) (λ last new. new ≡ map_of last)
+      map.ghost_name (name_if_ok (λ e. (entry_map_ref (inner_entry e)).ghost_name) r) (λ last new. new ≡ map_of last)
       (λ new. OnErr r (new.entries ≡ map.now.entries))

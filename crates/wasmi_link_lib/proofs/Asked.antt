@@ -1,4 +1,5 @@
 -- What is asked for, what is given, and the answer.
+-- for src/imported.rt, src/item.rt, src/linker.rt
 use Rattle.std.proofs.Common.{◌≡◌, ℕ, ◌+◌, ◌<◌, Bool, true, false, cond, List, length, map, get_or, All, Option, Some, None, IsSome, option_map, option_and_then, slice_get, refl, sym, ap, ◌∙◌, subst, arith}
 use Rattle.std.proofs.lemmas.List.{length-map, get_or-map}
 use Rattle.std.proofs.lemmas.List.Elements.{All-map, All-filter}

@@ -1,4 +1,5 @@
 -- Types and names have keys, and to compare keys is to compare types.
+-- for src/types.rt, src/linker.rt
 use Rattle.std.proofs.Common.{◌≡◌, ℕ, Bool, cond, ◌==◌, List, [], ◌∷◌, ◌++◌, map, get_or, Contains, Option, Some, None, IsSome, is_some, position, refl, sym, ap, ◌∙◌, inl, inr, eqb-true, eq-eqb, true≢false}
 use Rattle.std.specs.Bool.{one_answer}
 use Rattle.std.specs.Option.{option_eq}

@@ -1,4 +1,5 @@
 -- Lists that grow at their end, and where an element stands in them.
+-- for src/names.rt, src/types.rt, src/item.rt, src/imported.rt, src/linker.rt
 use Rattle.std.proofs.Common.{◌≡◌, ◌≢◌, ℕ, zero, suc, ◌+◌, ◌<◌, ◌≤◌, Bool, true, false, not, cond, List, [], ◌∷◌, ◌++◌, length, map, get_or, take, fold, filter, flat_map, find, Contains, All, bytes_eq, Option, Some, None, is_some, IsSome, option_map, option_and_then, position, slice_get, ltb, eqb, refl, sym, ap, ◌∙◌, subst, inl, inr, append-nil, append_assoc, add-zero, eq-eqb, ne_eqb, lt-ltb, le-ltb, ltb-true, true≢false, arith}
 use Rattle.std.specs.List.{position_or_len}
 use Rattle.std.specs.Option.{option_or}

@@ -1,4 +1,5 @@
 -- What the tests of types decide.
+-- for src/types.rt, src/laws.rt
 use Rattle.std.proofs.Common.{◌≡◌, ℕ, ◌≤◌, Bool, true, false, cond, ◌==◌, Option, Some, None, IfSome, IsSomeAnd, Decides, refl, sym, ap, ◌∙◌, true≢false, eqb-true, eq-eqb, leb-true, le-leb}
 use Rattle.std.specs.Bool.{beq}
 use Rattle.std.specs.Cmp.Lexicographic.{pointwise}

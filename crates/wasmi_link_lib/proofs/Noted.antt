@@ -1,4 +1,5 @@
 -- What tables by symbols have of modules, one more at a time.
+-- for src/firsts.rt, src/exports.rt, src/linker.rt
 use Rattle.std.proofs.Common.{◌≡◌, ◌≢◌, ℕ, ◌+◌, ◌<◌, ◌≤◌, Bool, true, false, cond, List, [], ◌∷◌, ◌++◌, length, map, get_or, take, find, Option, Some, None, option_map, option_and_then, slice_get, bytes_eq, SomeIff, take_all, length-take-le, refl, sym, ap, ◌∙◌, subst, inl, inr, arith}
 use Rattle.std.specs.Option.{option_or}
 use Rattle.std.proofs.lemmas.Bool.{cases_eq}

@@ -1,4 +1,5 @@
 -- The parts of a path.
+-- for src/path.rt
 use Rattle.std.proofs.Common.{◌≡◌, ℕ, List, [], ◌∷◌, ◌++◌, take, drop, None, refl, sym, ap, ◌∙◌, inl, inr, lit<, get_or, eqb, subst, append_assoc, take-append-drop}
 use Rattle.std.specs.List.{Contains}
 use Rattle.std.specs.Str.{NoCharPasses}

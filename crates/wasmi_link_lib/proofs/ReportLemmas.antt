@@ -1,4 +1,5 @@
 -- The texts of a report, put together.
+-- for src/text.rt, src/text/names.rt
 use Rattle.std.proofs.Common.{◌≡◌, ℕ, ◌+◌, ◌<◌, ◌≤◌, List, [], ◌∷◌, ◌++◌, take, get_or, length, codes, decimal, refl, sym, ap, ◌∙◌, append_assoc, append-nil, zero, suc, cond, false, arith}
 use Rattle.std.specs.Char.{encode_utf8, is_control}
 use Rattle.std.specs.Fmt.{digits}

@@ -1,4 +1,5 @@
 -- Types as they are lent are equal where they are equal as lists.
+-- for src/types.rt
 use denote.Enum.Bare.{sameb, same_true, true_same}
 use Rattle.std.proofs.Common.{◌≡◌, ◌&&◌, rules}
 use Rattle.std.specs.Bool.{one_answer}

@@ -1,4 +1,5 @@
 -- To compare symbols is to compare texts, and what a table by symbols has after a name was noted.
+-- for src/firsts.rt, src/exports.rt
 use Rattle.std.proofs.Common.{◌≡◌, ◌≢◌, ℕ, Bool, true, false, cond, ◌&&◌, ◌==◌, List, [], get_or, Option, Some, None, IsSome, is_some, bytes_eq, refl, sym, ap, ◌∙◌, eqb-true, eq-eqb, ne_eqb, inl, inr, true≢false}
 use Rattle.std.specs.Bool.{one_answer}
 use Rattle.std.specs.Option.{option_or}

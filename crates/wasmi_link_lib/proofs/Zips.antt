@@ -1,4 +1,5 @@
 -- Two lists, element by element.
+-- for src/names.rt, src/linker.rt
 use Rattle.std.proofs.Common.{◌≡◌, ℕ, zero, suc, List, [], ◌∷◌, ◌++◌, fold, bytes_eq, Some, slice_get, sym, ap, ◌∙◌, subst}
 use Rattle.std.specs.List.{AllZip}
 use Rattle.std.proofs.lemmas.Option.{none-some, same_Some}

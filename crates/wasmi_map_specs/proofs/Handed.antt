@@ -1,4 +1,5 @@
 -- What walks by hand share that hand on what another call lends. Assumes `Logic`.
+-- for the proofs by hand of wasmi_ordered and wasmi_hashed
 --     ok_of      a result that is there is made of what it holds
 --     sole      what has one machine type is one machine value
 --     lent_there      a reference that is there.        lent_on      the same of a call that may have failed, and then left the part as it was

@@ -1,6 +1,7 @@
 -- A call on what another call makes of its first parameter: `self.into_inner().call(..)`. Assumes `Logic`.
---     PlaceRow      a place's row and laws.        spent      nothing is left of it
---     hands      the walk where the second call's answer is the function's.        answers, takes      how it ends, and where the place is used up
+-- for the proofs by hand of wasmi_ordered and wasmi_hashed
+--     EntryRow      an entry's row and laws.        spent      nothing is left of it
+--     hands      the walk where the second call's answer is the function's.        answers, takes      how it ends, and where the entry is used up
 --     lends, lends_with, lends_bare      the walk where it is a reference, put into `Ok`;  with a second parameter, which the second call takes;  with no `Ok`
 --     calls_on, also      a call;  a clause that holds by itself
 use Rattle.std.proofs.Common.{◌≡◌, Ok, refl, sym, ap, subst, MutBor}
@@ -45,8 +46,8 @@ use Rattle.wasmi_map_specs.proofs.Words.{Good, Within, typed_of, facts, apart}
 abbrev pub LeavesNone : (NamedLft → RattleType) → Type 2
 LeavesNone Row = (M : Type 1) (𝓤 : Ura M) (𝓛 : Logic 𝓤) (ℓ : NamedLft) (x : (Row ℓ).Denot) (f : Last ((Row ℓ).exit no) x) → ent 𝓤 (emp 𝓤) (sem 𝓛 (left ((Row ℓ).exit no) x f))
 
--- The place of a key: a row, of which nothing is left once it is used up, the standard library's row, the one made of the other, and what the map is that it lies in.
-pub record PlaceRow : Type 2 where
+-- The entry of a key: a row, of which nothing is left once it is used up, the standard library's row, the one made of the other, and what the map is that it lies in.
+pub record EntryRow : Type 2 where
   pub Here : NamedLft → RattleType
   pub There : NamedLft → RattleType
   pub here_laws : (ℓ : NamedLft) → Laws (Here ℓ)
@@ -80,7 +81,7 @@ also {𝓤 = 𝓤} t {φ} {P} x = step (λ s. record { prf = via 𝓤 P s.prf (v
 module _ {M : Type 1} {𝓤 : Ura M} (𝓛 : Logic 𝓤) where
   open 𝓛 use {H}
 
-  pub spent : (P : PlaceRow) (n : ℕ) (at : Lfts n → NamedLft) → Goes 𝓛 n (plain (λ κs. P.Here (at κs))) no (stay_dropped (plain (λ κs. P.Here (at κs))) no)
+  pub spent : (P : EntryRow) (n : ℕ) (at : Lfts n → NamedLft) → Goes 𝓛 n (plain (λ κs. P.Here (at κs))) no (stay_dropped (plain (λ κs. P.Here (at κs))) no)
   spent P n at κs x f vs fit = let none = left ((P.Here (at κs)).exit no) x f in via 𝓤 (emp 𝓤) (top 𝓤 _) (via 𝓤 (sem 𝓛 none) (P.leaves_none M 𝓤 𝓛 (at κs) x f) (𝓛.laws.⇛_intro (sem 𝓛 none)))
 
   module _ (alive : SProp 𝓤) (R : RattleType) where
@@ -116,7 +117,7 @@ module _ {M : Type 1} {𝓤 : Ura M} (𝓛 : Logic 𝓤) where
         -- [what is left of the parameters; the answer; what is said; the tokens]
         move ! (3 ∷ 0 ∷ 1 ∷ 2 ∷ []) $ group ! 4 $ use1 𝓛 (raw P) (leave r) $ use0 𝓛 (raw (fact 𝓤 φ)) (fact_i 𝓤 φ (emp 𝓤) (typed r is)) $ now ! $ done !)))
 
-    -- of a call that uses the place up: its last value says Q of the map
+    -- of a call that uses the entry up: its last value says Q of the map
     pub takes : (R : RattleType) {W : Type 0} (said : W → Fml) (φs : R.Denot → List (Type 0)) (φ : R.Denot → Type 0) (ψ : W → Type 0) (Q : Fml) → ((ws : W) → ψ ws → ent 𝓤 (sem 𝓛 (said ws)) (sem 𝓛 Q))
         → (u : Val) {χ : Type 0} → ((r : R.Denot) → Is R r (u ∷ []) → χ) → {P : SProp 𝓤}
         → ((r : R.Denot) → ent 𝓤 (sep 𝓤 alive (sep 𝓤 (sem 𝓛 (let_go n)) (sep 𝓤 (sem 𝓛 (R.own_val r (u ∷ []))) (sep 𝓤 (sem 𝓛 Q) (facts 𝓤 (φs r) (fact 𝓤 (φ r))))))) P)
@@ -126,7 +127,7 @@ module _ {M : Type 1} {𝓤 : Ura M} (𝓛 : Logic 𝓤) where
         qed 𝓛 (‵ (fsep (said ws) ftrue) ∷ raw (facts 𝓤 (φs r) (sep 𝓤 (fact 𝓤 (φ r)) (fact 𝓤 (ψ ws)))) ∷ []) ∵ fsplit ! $ move ! (2 ∷ []) $ use1 𝓛 (raw (facts 𝓤 (φs r) (fact 𝓤 (φ r))) ⊛ raw (fact 𝓤 (ψ ws))) (apart 𝓤 (φs r) (fact 𝓤 (φ r)) (fact 𝓤 (ψ ws))) $
         split ! $ move ! (1 ∷ []) $ heard ! _ (λ is. move ! (1 ∷ []) $ use1 𝓛 (‵ Q) (go ws is) $ keep ! (0 ∷ 1 ∷ []) $ done !)) u typed leave
 
-  module _ (C : Calls 𝓤 H) (fm : FmC 𝓤 H 𝓛.laws C) (Λ : Loops 𝓤 H) (P : PlaceRow) (ℓ : NamedLft) (x : (P.Here ℓ).Denot) (b : Val) where
+  module _ (C : Calls 𝓤 H) (fm : FmC 𝓤 H 𝓛.laws C) (Λ : Loops 𝓤 H) (P : EntryRow) (ℓ : NamedLft) (x : (P.Here ℓ).Denot) (b : Val) where
     abbrev Here : RattleType
     Here = P.Here ℓ
 
@@ -162,7 +163,7 @@ module _ {M : Type 1} {𝓤 : Ura M} (𝓛 : Logic 𝓤) where
       turned v =
           qed 𝓛 (later (some (λ (r : There.Denot). (raw alive₁ ⊛ ‵ (There.own_val r (v ∷ []))) ⊛ some (λ (ws : W₁). ‵ (L₁ ws) ⊛ raw (fact 𝓤 (r ≡ y))))) ∷ raw within.spare ∷ ‵ others ∷ raw req ∷ []) ∵
           updating ! $ await ! tt $ pick ! (λ r. split ! $ split ! $ move ! (2 ∷ []) $ pick ! (λ ws. split ! $ drop ! $ heard ! _ (λ same.
-          -- [the tokens; the place; the spare tokens; the others; the facts]
+          -- [the tokens; the entry; the spare tokens; the others; the facts]
           rewrite ! 1 (λ (z : There.Denot). ‵ (There.own_val z (v ∷ []))) same refl $
           move ! (0 ∷ 2 ∷ []) $ use2 𝓛 (raw alive) within.whole $ move ! (1 ∷ 2 ∷ []) $ join ! $ move ! (1 ∷ 0 ∷ []) $ join ! $ join ! $ now ! $ done !)))
 

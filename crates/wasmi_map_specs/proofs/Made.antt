@@ -1,4 +1,5 @@
 -- What is known of a result is known of the one that is made of it.
+-- for the proofs by hand of wasmi_ordered and wasmi_hashed
 use Rattle.std.proofs.Common.{◌≡◌, refl, sym, ap, subst}
 use Rattle.std.specs.Borrow.{name_if_ok}
 use Rattle.std.specs.Prelude.{Result, Ok, Err, IfOk, OnErr, IsOkUnless}
@@ -7,11 +8,11 @@ use base.Fml.{GName}
 use mathlib.Core.Option.{some}
 
 module _ {There Here Failed Error : Type 0} (inner : Here → There) (out : Error) where
-  pub of_place : (P : There → Type 0) (there : Result There Failed) (here : Result Here Error) → IsMadeOf inner out there here → IfOk there P → IfOk here (λ h. P (inner h))
-  of_place P (Ok p) (Ok h) same known = subst P (sym same) known
-  of_place P (Ok p) (Err e) same known = absurd same
-  of_place P (Err failed) (Ok h) same known = absurd same
-  of_place P (Err failed) (Err e) same known = tt
+  pub of_entry : (P : There → Type 0) (there : Result There Failed) (here : Result Here Error) → IsMadeOf inner out there here → IfOk there P → IfOk here (λ h. P (inner h))
+  of_entry P (Ok p) (Ok h) same known = subst P (sym same) known
+  of_entry P (Ok p) (Err e) same known = absurd same
+  of_entry P (Err failed) (Ok h) same known = absurd same
+  of_entry P (Err failed) (Err e) same known = tt
 
   pub of_absence : (P : Type 0) (there : Result There Failed) (here : Result Here Error) → IsMadeOf inner out there here → OnErr there P → OnErr here P
   of_absence P (Ok p) (Ok h) same known = tt

@@ -1,4 +1,5 @@
 -- Values that are written leave the keys.
+-- for src/map.rt of wasmi_ordered and wasmi_hashed
 use Rattle.std.proofs.Common.{◌≡◌, refl, ap, List, [], ◌∷◌, length, arith}
 use Rattle.std.specs.Map.{keys_of}
 use Rattle.wasmi_map_specs.specs.Values.{with_values, KeepsKeys}

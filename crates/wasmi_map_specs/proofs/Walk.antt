@@ -1,4 +1,5 @@
--- The names that walks on places cite, handed on.
+-- The names that walks on entries cite, handed on.
+-- for the proofs by hand of wasmi_ordered and wasmi_hashed
 pub use Rattle.std.proofs.Common.{◌≡◌, ◌∙◌, [], ◌∷◌, Ok, None, MutBor, refl, ap, subst, lit<}
 pub use Rattle.std.proofs.raw_atomic.Walks.{leaves}
 pub use Rattle.std.specs.Borrow.{Bor, name_if_ok}

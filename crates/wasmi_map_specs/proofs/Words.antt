@@ -1,4 +1,5 @@
 -- How parameters are stored, and the lifetimes and facts of a call beside those of a call in it. Assumes `Logic`.
+-- for the proofs by hand of wasmi_ordered and wasmi_hashed
 --     Spelling R      how a value of R is stored: `one_of` a row's laws, in one machine value, or `ref_of` a reference.        Spellings, Words, lists, Fitting      of a list of types
 --     proved_by      `proved_at` at those machine values
 --     facts φs R      each fact, beside R.        Within      a call's tokens and facts beside those that a call in it is handed: `all_of` them, or `but_last`, all but the last lifetime's and R

@@ -1,4 +1,5 @@
 -- Lists of names that grow, and stay distinct.
+-- for src/check.rt
 use Rattle.std.proofs.Common.{◌≡◌, ◌≢◌, ℕ, zero, suc, ◌+◌, ◌<◌, length, List, [], ◌∷◌, ◌++◌, get_or, take, Bor, BTreeSet, Bool, true, false, cond, ◌||◌, not, map, refl, sym, ap, subst, ◌∙◌, inl, inr, arith, length-append}
 use Rattle.std.specs.List.{list_any}
 use Rattle.std.specs.BTreeSet.{contains_by, contains, Updates}

@@ -1,4 +1,5 @@
 -- From the sections of a module to the module.
+-- for src/decoder.rt
 use Rattle.std.proofs.Common.{◌≡◌, ℕ, ◌+◌, ◌<◌, length, List, [], ◌∷◌, cond, Bool, map, refl, sym, ap, subst, ◌∙◌, inl, inr}
 use Rattle.std.specs.List.{All, count_by, fold}
 use Rattle.std.proofs.lemmas.List.{length-map}

@@ -1,4 +1,5 @@
 -- Numbers in LEB128, a byte at a time.
+-- for src/numbers.rt
 use Rattle.std.proofs.Common.{◌≡◌, ℕ, ◌+◌, ◌*◌, ◌/◌, ◌<◌, ◌≤◌, List, [], ◌∷◌, refl, ap, ◌∙◌, inl, inr}
 use Rattle.std.specs.Prelude.{ℤ, pos, ◌+ℤ◌, ◌*ℤ◌}
 use Rattle.wasmi_module.specs.Numbers.{IsUnsigned, IsSigned}

@@ -1,4 +1,5 @@
 -- No writing of an item of a module begins that of another.
+-- for src/laws.rt
 use Rattle.std.proofs.Common.{◌≡◌, ℕ, List, [], ◌∷◌, ◌++◌, Option, Some, None, Bool, true, false, refl, ap, ◌∙◌, arith}
 use Rattle.std.specs.Prelude.{◌^◌, ◌==◌, if◌then◌else◌}
 use Rattle.wasmi_module.specs.Texts.{Is, ◌⋅◌}

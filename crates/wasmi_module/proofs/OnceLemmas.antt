@@ -1,4 +1,5 @@
 -- No writing of a thing begins that of another: where two texts go on alike, they stand for one thing.
+-- for src/laws.rt
 use Rattle.std.proofs.Common.{◌≡◌, ℕ, length, List, [], ◌∷◌, ◌++◌, refl, sym, ap, ◌∙◌, append_assoc, arith}
 use Rattle.std.specs.Prelude.{◌^◌}
 use Rattle.wasmi_module.specs.Texts.{Is, ◌⋅◌, Each}

@@ -1,4 +1,5 @@
 -- Bytes are a writing of one module at most: their sections are found, each by its number.
+-- for src/laws.rt
 use Rattle.std.proofs.Common.{◌≡◌, ℕ, zero, suc, length, List, [], ◌∷◌, ◌++◌, Option, Some, None, Bool, true, false, cond, map, refl, sym, ap, subst, ◌∙◌, append_assoc, inl, inr}
 use Rattle.std.proofs.lemmas.List.{append-nil}
 use Rattle.wasmi_module.specs.Texts.{Is, ◌⋅◌, Each}

@@ -1,4 +1,5 @@
 -- Reading one text after another.
+-- for src/constants.rt, src/decoder.rt, src/item.rt, src/items.rt, src/sections.rt, src/values.rt
 use Rattle.std.proofs.Common.{◌≡◌, ℕ, length, List, [], ◌∷◌, ◌++◌, refl, sym, ap, subst, ◌∙◌, append_assoc}
 use Rattle.std.proofs.lemmas.List.{append-nil}
 use Rattle.std.specs.Str.{IsUtf8}

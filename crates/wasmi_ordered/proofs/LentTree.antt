@@ -1,4 +1,5 @@
 -- A map lends its tree for a call that writes values alone, and follows what the call says of it. Assumes `Logic`.
+-- for src/map.rt
 --     lends_tree      the tree, lent to the call with half of the token
 --     tree_comes      what is left of the map is closed over it, and the map has other values in the end, of a new name
 use Prim.Native.Nat.{ℕ}

@@ -1,4 +1,5 @@
 -- A map in memory is the standard library's. Assumes `Logic`.
+-- for src/map.rt
 use Prim.Native.Nat.{ℕ, zero, ◌+◌}
 use mathlib.Core.List.{List, [], ◌∷◌}
 use mathlib.Core.Path.{◌≡◌, refl}

@@ -1,4 +1,5 @@
 -- An entry whose key is new goes in among the others.
+-- for src/map.rt, src/map/try_insert.rt
 use Rattle.std.proofs.Common.{◌≡◌, arith, length, cond, true≢false, List, [], ◌∷◌, Some, None, is_some, Result, Ok, Err, OnOk, ap, sym, subst, Ordering, Less, Equal, Greater}
 use Rattle.std.specs.BTreeMap.{insert_entry}
 use Rattle.std.specs.List.Sorted.{IsPermutation}

@@ -1,4 +1,5 @@
 -- An iterator that lends a tree's values owns the same under any name of its loan. Assumes `Logic`.
+-- for src/map.rt
 use Prim.Native.Nat.{ℕ}
 use mathlib.Core.Path.{◌≡◌}
 use mathlib.Core.List.{List, [], ◌∷◌}

@@ -1,4 +1,5 @@
 -- Two maps, or two sets, whose keys ascend are equal entry by entry exactly where they are key by key.
+-- for src/laws.rt
 use Rattle.std.proofs.Common.{◌≡◌, Ordering, Less, Equal, Greater, Bool, true, false, cond, ◌&&◌, ◌||◌, List, [], ◌∷◌, Option, Some, None, refl, sym, ap, ◌∙◌, true≢false, subst}
 use Rattle.std.specs.Bool.{Decides, one_answer}
 use Rattle.std.specs.Cmp.{IsTotalOrder, eq_by_cmp_equiv, tied_itself, first_so, second_so}

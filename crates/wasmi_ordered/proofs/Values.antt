@@ -1,4 +1,5 @@
 -- The entries of the standard library's tree with other values are this crate's map with them.
+-- for src/map.rt
 use Rattle.std.proofs.Common.{◌≡◌, refl, ap, ◌∙◌, List, [], ◌∷◌}
 use Rattle.std.specs.BTreeMap.{BTreeMap}
 use Rattle.std_collections.specs.Btree.LentTree.{refilled}

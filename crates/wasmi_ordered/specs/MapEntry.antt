@@ -1,6 +1,6 @@
--- What the place of a key in an ordered map is: that of the standard library's map.
+-- What the entry of a key in an ordered map is: that of the standard library's map.
 use Rattle.std.specs.declared.collections.btree_map.Entry.TheVariants as tree
-use Rattle.std.specs.declared.collections.btree_map.Entry.{Entry as Place}
+use Rattle.std.specs.declared.collections.btree_map.Entry.{Entry as InnerEntry}
 use Rattle.std.specs.declared.alloc.Allocator as alloc
 use Rattle.std.specs.declared.alloc.AllocFailed.{AllocFailed}
 use Rattle.std.specs.declared.cmp.Ord as ord
@@ -30,16 +30,16 @@ use Rattle.wasmi_ordered.specs.declared.map.entry.OccupiedEntry.{OccupiedEntry}
 use mir.Syntax.{named}
 
 module _ {Key Value Heap : Type 0} {equal : eq.Ghosts Key} {total : ord.Ghosts Key} {order : partial.Ghosts Key} where
-  -- the place in the tree
-  abbrev pub place : Entry Key Value Heap equal total order → Place Key Value Heap total equal order
-  place (Occupied occupied) = tree.Occupied occupied.entry
-  place (Vacant vacant) = tree.Vacant vacant.entry
+  -- the entry in the tree
+  abbrev pub inner_entry : Entry Key Value Heap equal total order → InnerEntry Key Value Heap total equal order
+  inner_entry (Occupied occupied) = tree.Occupied occupied.entry
+  inner_entry (Vacant vacant) = tree.Vacant vacant.entry
 
-  -- the place of a key in a map of these entries: its key, the stored one if it is there, and its value,
+  -- the entry of a key in a map of these entries: its key, the stored one if it is there, and its value,
   -- the entries as they are, and what they become with a value written under the key and with the key taken
   -- out
-  abbrev pub IsPlaceOf : (Key → Key → Ordering) → List (Key × Value) → Key → Place Key Value Heap total equal order → Type 0
-  IsPlaceOf cmp entries key there = (entry_value there ≡ None → entry_key there ≡ key) × (cmp key (entry_key there) ≡ Equal)
+  abbrev pub IsEntryOf : (Key → Key → Ordering) → List (Key × Value) → Key → InnerEntry Key Value Heap total equal order → Type 0
+  IsEntryOf cmp entries key there = (entry_value there ≡ None → entry_key there ≡ key) × (cmp key (entry_key there) ≡ Equal)
       × (entry_value there ≡ value_at (eq_by_cmp cmp) entries key)
       × MatchEntry there (IsSome (value_at (eq_by_cmp cmp) entries key) × (lookup_key (eq_by_cmp cmp key) entries ≡ Some (entry_key there)))
       (value_at (eq_by_cmp cmp) entries key ≡ None)
@@ -48,24 +48,24 @@ module _ {Key Value Heap : Type 0} {equal : eq.Ghosts Key} {total : ord.Ghosts K
       × ((map_without_entry there).entries ≡ remove_entry (eq_by_cmp cmp key) entries)
 
   -- what a map returns where the map of the standard library returns this
-  abbrev pub IsOfInner : Result (Place Key Value Heap total equal order) (AllocFailed Key) → Result (Entry Key Value Heap equal total order) ArenaError → Type 0
-  IsOfInner = IsMadeOf place OutOfSystemMemory
+  abbrev pub IsOfInner : Result (InnerEntry Key Value Heap total equal order) (AllocFailed Key) → Result (Entry Key Value Heap equal total order) ArenaError → Type 0
+  IsOfInner = IsMadeOf inner_entry OutOfSystemMemory
 
-  -- the place of a key that is there, with this value
+  -- the entry of a key that is there, with this value
   abbrev pub with_value : OccupiedEntry Key Value Heap equal total order → Value → OccupiedEntry Key Value Heap equal total order
   with_value held last = record held { entry = with_entry_value held.entry last }
 
 module _ (K V A : RattleType) {g : ord.Ghosts K.Denot} {g' : eq.Ghosts K.Denot} {g'' : partial.Ghosts K.Denot} (heap : alloc.Ghosts A.Denot) where
   -- where the call failed, the tree has its entries
-  abbrev pub inner_rests : {E : Type 0} → MutBor (BTreeMap K.Denot V.Denot) → Result (Place K.Denot V.Denot A.Denot g g' g'') E → Fml
+  abbrev pub inner_rests : {E : Type 0} → MutBor (BTreeMap K.Denot V.Denot) → Result (InnerEntry K.Denot V.Denot A.Denot g g' g'') E → Fml
   inner_rests m r = RestsIfErr (InnerRow K V A g g' g'' heap) m (λ e. (entry_map_ref e).ghost_name) r (λ now. now.entries ≡ m.now.entries)
 
-  -- the tree is in the end the one without the place's key.
+  -- the tree is in the end the one without the entry's key.
   -- `remove` leaves it so.
-  abbrev pub inner_without : Place K.Denot V.Denot A.Denot g g' g'' → Fml
+  abbrev pub inner_without : InnerEntry K.Denot V.Denot A.Denot g g' g'' → Fml
   inner_without there = follows_so (InnerRow K V A g g' g'' heap) V (entry_map_ref there).ghost_name none (λ _ _. Unit {0}) (IsUnchanged (map_without_entry there))
 
-  -- the place of a key that is there has the value that was written last through the reference, whose lifetime is the
+  -- the entry of a key that is there has the value that was written last through the reference, whose lifetime is the
   -- call's second
   abbrev pub lends_held : MutBor (OccupiedEntry K.Denot V.Denot A.Denot g' g g'') → MutBor V.Denot → Fml
   lends_held held value = follows (HeldType.the_row (record { mir = named 1; lft = [] }) K V A g' g g'' heap) V held.ghost_name value.ghost_name (with_value held.now)
@@ -76,9 +76,9 @@ module _ (K V A : RattleType) (h : hash.Ghosts K.Denot) (g : OrdMembers K.Denot)
   lends_inner map tree = Lends (MapRow K V A h (record { eq = g.eq }) (record { cmp = g.cmp }) (record { partial_cmp = g.partial_cmp }) heap)
       (InnerRow K V A (record { cmp = g.cmp }) (record { eq = g.eq }) (record { partial_cmp = g.partial_cmp }) heap) map tree (λ last. last.entries)
 
-  -- the map has the entries that the place's tree has in the end, and where there is no place it is as before.
+  -- the map has the entries that the entry's tree has in the end, and where there is no entry it is as before.
   -- `*map.entry(2)?.or_insert(b)? = c` on (1, a): (1, a), (2, c).
-  abbrev pub lends_place : {E : Type 0} → MutBor (List (K.Denot × V.Denot)) → Result (Entry K.Denot V.Denot A.Denot (record { eq = g.eq }) (record { cmp = g.cmp }) (record { partial_cmp = g.partial_cmp })) E → Fml
-  lends_place map r = follows_if (MapRow K V A h (record { eq = g.eq }) (record { cmp = g.cmp }) (record { partial_cmp = g.partial_cmp }) heap)
+  abbrev pub lends_entry : {E : Type 0} → MutBor (List (K.Denot × V.Denot)) → Result (Entry K.Denot V.Denot A.Denot (record { eq = g.eq }) (record { cmp = g.cmp }) (record { partial_cmp = g.partial_cmp })) E → Fml
+  lends_entry map r = follows_if (MapRow K V A h (record { eq = g.eq }) (record { cmp = g.cmp }) (record { partial_cmp = g.partial_cmp }) heap)
       (InnerRow K V A (record { cmp = g.cmp }) (record { eq = g.eq }) (record { partial_cmp = g.partial_cmp }) heap)
-      map.ghost_name (name_if_ok (λ e. (entry_map_ref (place e)).ghost_name) r) (λ last. last.entries) map.now
+      map.ghost_name (name_if_ok (λ e. (entry_map_ref (inner_entry e)).ghost_name) r) (λ last. last.entries) map.now

@@ -1,4 +1,5 @@
 -- What a deduplicating arena and an interner do with one more text, as what a list of distinct texts does.
+-- for src/texts.rt
 use Rattle.std.proofs.Common.{◌≡◌, ℕ, ◌≤◌, List, [], ◌∷◌, ◌++◌, length, true, false, cond, ltb, Some, None, refl, sym, ap, ◌∙◌}
 use Rattle.std.specs.Prelude.{Option}
 use Rattle.std.proofs.lemmas.Bool.{le-ltb, ltb-false, true_from_ne_false}

@@ -1,4 +1,5 @@
 -- How a line is told apart, and how a text is cut into lines.
+-- for src/line.rt, src/session.rt
 use Rattle.std.proofs.Common.{◌≡◌, ◌≢◌, ℕ, suc, ◌<◌, ◌≤◌, Bool, true, false, cond, List, [], ◌∷◌, ◌++◌, length, take, drop, get_or, Option, None, Some, MatchOption, refl, sym, ap, ◌∙◌, subst, arith, eqb, lit<, take-append-drop}
 use Rattle.std.specs.Str.{bytes_eq, IsUtf8, IsCharBoundary}
 use Rattle.std.specs.Str.Pattern.{FindsChar}

@@ -1,4 +1,5 @@
 -- What `parse` says of a text without a sign, as the number of that text.
+-- for src/line.rt
 use Rattle.std.proofs.Common.{◌≡◌, ℕ, ◌<◌, ◌^◌, Bool, true, false, cond, List, [], ◌∷◌, length, Some, None, Result, Ok, Err, refl, arith, ltb, ap, ◌&&◌}
 use Rattle.std.specs.Result.{OkIff, result_ok}
 use Rattle.std.specs.Str.{all_ascii_digits}

@@ -1,4 +1,5 @@
 -- How the output grows by one line.
+-- for src/session.rt
 use Rattle.std.proofs.Common.{◌≡◌, ℕ, ◌+◌, List, [], ◌∷◌, ◌++◌, append_assoc, ap, ◌∙◌}
 use Rattle.wasmi_script_lib.specs.Requests.{request_of}
 use Rattle.wasmi_script_lib.specs.States.{State}

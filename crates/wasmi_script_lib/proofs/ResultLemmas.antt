@@ -1,4 +1,5 @@
 -- What a `?` passes on, and which errors aren't the same.
+-- for src/store.rt
 use Rattle.std.proofs.Common.{◌≡◌, Result, Ok, Err, ap, ◌∙◌}
 use Rattle.std.specs.Result.{IsErrAnd}
 use Rattle.wasmi_arena.specs.declared.error.ArenaError.{ArenaError}

@@ -1,4 +1,5 @@
 -- What a store shows, after each call.
+-- for src/store.rt, src/kinds.rt
 use Rattle.std.proofs.Common.{◌≡◌, ◌⊎◌, ℕ, zero, suc, ◌+◌, ◌<◌, ◌≤◌, ◌^◌, Bool, true, false, cond, List, [], ◌∷◌, ◌++◌, length, map, slice_get, slice_set, slice_index_or, Option, Some, None, option_map, Result, Ok, Err, IfErr, IfOk, OnOk, OnErr, IsErrOf, refl, ap, ◌∙◌, subst, sym, inl, inr, arith, length-append, ltb, true≢false}
 use Rattle.std.specs.Prelude.{◌≢◌, ◌↔◌, IsSome, is_some, not, ◌&&◌}
 use Rattle.std.specs.List.{AllByRecursion, IsDistinct, position_or_len}

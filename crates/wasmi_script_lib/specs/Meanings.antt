@@ -1,10 +1,10 @@
 -- What a parsed line asks for.
 use Rattle.wasmi_script_lib.specs.Requests as request
-use Rattle.wasmi_script_lib.specs.declared.line.Line.{Line}
-use Rattle.wasmi_script_lib.specs.declared.line.Line.TheVariants.{Alloc, Get, Place, Count, Dedup, Intern, Resolve, AddEntity, SetProperty, RenameKind, GetEntity}
+use Rattle.wasmi_script_lib.specs.declared.line.Command.{Command}
+use Rattle.wasmi_script_lib.specs.declared.line.Command.TheVariants.{Alloc, Get, Place, Count, Dedup, Intern, Resolve, AddEntity, SetProperty, RenameKind, GetEntity}
 
 -- the request of a line, which has its texts and numbers
-abbrev pub meaning_of : Line → request.Request
+abbrev pub meaning_of : Command → request.Request
 meaning_of (Alloc text) = request.Alloc text.now
 meaning_of (Get key) = request.Get key
 meaning_of (Place index) = request.Place index

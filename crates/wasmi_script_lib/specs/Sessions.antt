@@ -1,12 +1,12 @@
 -- A script at work, and what one line adds to its replies.
 use Rattle.std.specs.Prelude.{◌≡◌, ℕ, List, [], ◌∷◌, ◌++◌, String, map, string_bytes}
-use Rattle.wasmi_script_lib.specs.declared.texts.Texts.{Texts}
+use Rattle.wasmi_script_lib.specs.declared.texts.ScriptTexts.{ScriptTexts}
 use Rattle.wasmi_script_lib.specs.States.{State, empty}
 use Rattle.wasmi_script_lib.specs.Store.{Store, no_entities}
 
 module _ {A : Type 0} where
   -- what is kept by a script that has these texts and these entities
-  abbrev pub state_of : Texts A → Store → State
+  abbrev pub state_of : ScriptTexts A → Store → State
   state_of texts store = record {
     kept = map string_bytes texts.arena;
     deduped = map string_bytes texts.dedup.handed;
@@ -15,7 +15,7 @@ module _ {A : Type 0} where
   }
 
   -- by one that has texts alone
-  abbrev pub with_texts : Texts A → State
+  abbrev pub with_texts : ScriptTexts A → State
   with_texts texts = state_of texts no_entities
 
 -- what is kept by a script that has entities alone

@@ -13,7 +13,7 @@ use wasmi_arena::{ArenaError, ArenaKey};
 
 impl<A: Allocator> EntityStore<A> {
     /// `e NAME KIND`: adds an entity, and replies its key. Without a key it isn't added.
-    pub(crate) fn add_entity<B: Allocator>(
+    pub(crate) fn serve_add<B: Allocator>(
         &mut self,
         name: &str,
         kind: &str,
@@ -34,19 +34,19 @@ impl<A: Allocator> EntityStore<A> {
     }
 
     /// `v N M`: gives an entity a property, and replies the one that it had.
-    pub(crate) fn set_property<B: Allocator>(
+    pub(crate) fn serve_set<B: Allocator>(
         &mut self,
-        key: usize,
+        number: usize,
         property: usize,
         replies: &mut String<B>,
     ) -> Result<(), ArenaError>
         ensures state { OnOk result (with_store self.new
-            ≡ state_after (with_store self.old) (request.SetProperty key property)) }
+            ≡ state_after (with_store self.old) (request.SetProperty number property)) }
         ensures reply { OnOk result (AddsReply replies.old replies.new
-            (reply_to (with_store self.old) (request.SetProperty key property))) }
+            (reply_to (with_store self.old) (request.SetProperty number property))) }
         ensures errors { IsOkUnless result ArenaError.OutOfSystemMemory }
     {
-        let Some(key) = self.key(key) else {
+        let Some(key) = self.key(number) else {
             return reply_error(replies, ArenaError::KeyOutOfBounds);
         };
         match self.set(key, property as u64) {
@@ -57,21 +57,21 @@ impl<A: Allocator> EntityStore<A> {
     }
 
     /// `k N KIND`: renames the kind of an entity.
-    pub(crate) fn rename_entity_kind<B: Allocator>(
+    pub(crate) fn serve_rename_kind<B: Allocator>(
         &mut self,
-        key: usize,
+        number: usize,
         kind: &str,
         replies: &mut String<B>,
     ) -> Result<(), ArenaError>
     where
         A: Copy,
         ensures state { OnOk result (with_store self.new
-            ≡ state_after (with_store self.old) (request.RenameKind key kind.now)) }
+            ≡ state_after (with_store self.old) (request.RenameKind number kind.now)) }
         ensures reply { OnOk result (AddsReply replies.old replies.new
-            (reply_to (with_store self.old) (request.RenameKind key kind.now))) }
+            (reply_to (with_store self.old) (request.RenameKind number kind.now))) }
         ensures errors { IsOkUnless result ArenaError.OutOfSystemMemory }
     {
-        let Some(key) = self.key(key) else {
+        let Some(key) = self.key(number) else {
             return reply_error(replies, ArenaError::KeyOutOfBounds);
         };
         match self.rename_kind(key, kind) {
@@ -81,16 +81,16 @@ impl<A: Allocator> EntityStore<A> {
     }
 
     /// `q N`: replies the property, the name and the kind of an entity.
-    pub(crate) fn get_entity<B: Allocator>(
+    pub(crate) fn serve_get<B: Allocator>(
         &self,
-        key: usize,
+        number: usize,
         replies: &mut String<B>,
     ) -> Result<(), ArenaError>
         ensures reply { OnOk result (AddsReply replies.old replies.new
-            (reply_to (with_store self.now) (request.GetEntity key))) }
+            (reply_to (with_store self.now) (request.GetEntity number))) }
         ensures errors { IsOkUnless result ArenaError.OutOfSystemMemory }
     {
-        let Some(key) = self.key(key) else {
+        let Some(key) = self.key(number) else {
             return reply_error(replies, ArenaError::KeyOutOfBounds);
         };
         match self.get(key) {

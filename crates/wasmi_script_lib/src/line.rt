@@ -6,7 +6,7 @@ ghost use Rattle.wasmi_script_lib.specs.Requests.{add_of, number_of, parts_of, r
 
 /// What a line of a script asks for.
 #[derive(Clone, Copy, Debug, PartialEq, Eq)]
-pub enum Line<'a> {
+pub enum Command<'a> {
     /// Keep the text.
     Alloc(&'a str),
     /// Find the text of a key.
@@ -31,57 +31,57 @@ pub enum Line<'a> {
     GetEntity(usize),
 }
 
-impl<'a> Line<'a> {
+impl<'a> Command<'a> {
     /// Reads a line, given without its line feed. `None` if it asks for nothing. Constant time, but for
     /// the digits of a number, and for the part before a space.
-    pub fn parse(line: &'a str) -> Option<Line<'a>>
+    pub fn parse(line: &'a str) -> Option<Command<'a>>
         ensures { option_map meaning_of result ≡ request_of line.now }
     {
         if line == "n" {
-            return Some(Line::Count);
+            return Some(Command::Count);
         }
         let (head, argument) = line.split_at_checked(2)?;
         match head {
-            "a " => Some(Line::Alloc(argument)),
-            "g " => Some(Line::Get(number(argument)?)),
-            "p " => Some(Line::Place(number(argument)?)),
-            "d " => Some(Line::Dedup(argument)),
-            "i " => Some(Line::Intern(argument)),
-            "r " => Some(Line::Resolve(number(argument)?)),
+            "a " => Some(Command::Alloc(argument)),
+            "g " => Some(Command::Get(number(argument)?)),
+            "p " => Some(Command::Place(number(argument)?)),
+            "d " => Some(Command::Dedup(argument)),
+            "i " => Some(Command::Intern(argument)),
+            "r " => Some(Command::Resolve(number(argument)?)),
             "e " => add(argument),
             "v " => set(argument),
             "k " => rename(argument),
-            "q " => Some(Line::GetEntity(number(argument)?)),
+            "q " => Some(Command::GetEntity(number(argument)?)),
             _ => None,
         }
     }
 }
 
 /// `NAME KIND`, where the name isn't empty.
-fn add(argument: &str) -> Option<Line<'_>>
+fn add(argument: &str) -> Option<Command<'_>>
     ensures { option_map meaning_of result ≡ add_of (parts_of argument.now) }
 {
     let (name, kind) = parts(argument)?;
     if name.is_empty() {
         return None;
     }
-    Some(Line::AddEntity(name, kind))
+    Some(Command::AddEntity(name, kind))
 }
 
 /// `N M`.
-fn set(argument: &str) -> Option<Line<'_>>
+fn set(argument: &str) -> Option<Command<'_>>
     ensures { option_map meaning_of result ≡ set_of (parts_of argument.now) }
 {
     let (key, property) = parts(argument)?;
-    Some(Line::SetProperty(number(key)?, number(property)?))
+    Some(Command::SetProperty(number(key)?, number(property)?))
 }
 
 /// `N KIND`.
-fn rename(argument: &str) -> Option<Line<'_>>
+fn rename(argument: &str) -> Option<Command<'_>>
     ensures { option_map meaning_of result ≡ rename_of (parts_of argument.now) }
 {
     let (key, kind) = parts(argument)?;
-    Some(Line::RenameKind(number(key)?, kind))
+    Some(Command::RenameKind(number(key)?, kind))
 }
 
 /// What stands before the first space, and what after it.

@@ -5,23 +5,23 @@ ghost use Rattle.wasmi_script_lib.specs.Requests.{request_of};
 ghost use Rattle.wasmi_script_lib.specs.Sessions.{state_of, AddsReply};
 ghost use Rattle.wasmi_script_lib.specs.States.{empty};
 
-use crate::line::Line;
+use crate::line::Command;
 use crate::store::EntityStore;
-use crate::texts::Texts;
+use crate::texts::ScriptTexts;
 use std::alloc::Allocator;
 use wasmi_arena::ArenaError;
 
 /// The replies to all lines of a script, in order, each ended by a line feed.
 ///
-/// Each line is read once. A text of `a` or `d` is copied once, a new one of `d` once more, and a new one of
-/// `i` once. Expected time is linear in the text and the replies. The only error is running out of memory.
+/// A text of `a` is copied once, a new one of `d` or a new kind twice, a new one of `i` or a new name once.
+/// Expected time is linear in the text and the replies. The only error is running out of memory.
 pub fn answer<A: Allocator + Copy>(alloc: A, text: &str) -> Result<String<A>, ArenaError>
     ensures output { IfOk result (λ output. string_bytes output ≡ output_of text.now) }
     ensures errors { IsOkUnless result ArenaError.OutOfSystemMemory }
 {
     // proof: a reference to an allocator has a known size, and so have the containers over it.
     let heap = &alloc;
-    let mut texts = Texts::new(heap);
+    let mut texts = ScriptTexts::new(heap);
     let mut store = EntityStore::new(heap);
     let mut replies = String::new(alloc);
     let answered = reply_all(&mut texts, &mut store, &mut replies, text);
@@ -32,7 +32,7 @@ pub fn answer<A: Allocator + Copy>(alloc: A, text: &str) -> Result<String<A>, Ar
 
 // Adds the replies to all lines of a script.
 fn reply_all<A: Allocator + Copy, B: Allocator>(
-    texts: &mut Texts<A>,
+    texts: &mut ScriptTexts<A>,
     store: &mut EntityStore<A>,
     replies: &mut String<B>,
     text: &str,
@@ -52,7 +52,7 @@ fn reply_all<A: Allocator + Copy, B: Allocator>(
 
 // Does what the line of this number asks for, and adds the reply.
 fn serve<A: Allocator + Copy, B: Allocator>(
-    texts: &mut Texts<A>,
+    texts: &mut ScriptTexts<A>,
     store: &mut EntityStore<A>,
     replies: &mut String<B>,
     number: usize,
@@ -64,18 +64,18 @@ fn serve<A: Allocator + Copy, B: Allocator>(
         (line_reply (state_of texts.old store.old) number (request_of line.now))) }
     ensures errors { IsOkUnless result ArenaError.OutOfSystemMemory }
 {
-    match Line::parse(line) {
-        Some(Line::Alloc(text)) => texts.alloc(text, replies)?,
-        Some(Line::Get(key)) => texts.get(key, replies)?,
-        Some(Line::Place(index)) => texts.place(index, replies)?,
-        Some(Line::Count) => texts.count(replies)?,
-        Some(Line::Dedup(text)) => texts.dedup(text, replies)?,
-        Some(Line::Intern(text)) => texts.intern(text, replies)?,
-        Some(Line::Resolve(symbol)) => texts.resolve(symbol, replies)?,
-        Some(Line::AddEntity(name, kind)) => store.add_entity(name, kind, replies)?,
-        Some(Line::SetProperty(key, property)) => store.set_property(key, property, replies)?,
-        Some(Line::RenameKind(key, kind)) => store.rename_entity_kind(key, kind, replies)?,
-        Some(Line::GetEntity(key)) => store.get_entity(key, replies)?,
+    match Command::parse(line) {
+        Some(Command::Alloc(text)) => texts.alloc(text, replies)?,
+        Some(Command::Get(key)) => texts.get(key, replies)?,
+        Some(Command::Place(index)) => texts.place(index, replies)?,
+        Some(Command::Count) => texts.count(replies)?,
+        Some(Command::Dedup(text)) => texts.dedup(text, replies)?,
+        Some(Command::Intern(text)) => texts.intern(text, replies)?,
+        Some(Command::Resolve(symbol)) => texts.resolve(symbol, replies)?,
+        Some(Command::AddEntity(name, kind)) => store.serve_add(name, kind, replies)?,
+        Some(Command::SetProperty(key, property)) => store.serve_set(key, property, replies)?,
+        Some(Command::RenameKind(key, kind)) => store.serve_rename_kind(key, kind, replies)?,
+        Some(Command::GetEntity(key)) => store.serve_get(key, replies)?,
         None => writeln!(replies, "bad line {number}")?,
     }
     Ok(())

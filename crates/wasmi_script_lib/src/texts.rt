@@ -15,7 +15,7 @@ use wasmi_collections::string_interner::{StringInterner, Sym};
 ///
 /// Each command adds its reply to `replies`, and ends the script if there is no memory.
 #[derive(Drop)]
-pub(crate) struct Texts<A: Allocator> {
+pub(crate) struct ScriptTexts<A: Allocator> {
     // proof: first, since behind the arena it makes a goal on sizes too long to search.
     alloc: A,
     arena: StableArena<usize, String<A>, A>,
@@ -23,7 +23,7 @@ pub(crate) struct Texts<A: Allocator> {
     dedup: DedupArena<usize, String<A>, A>,
 }
 
-impl<A: Allocator> Texts<A> {
+impl<A: Allocator> ScriptTexts<A> {
     ghost use Rattle.wasmi_script_lib.specs.Sessions.{with_texts};
 
     pub(crate) fn new(alloc: A) -> Self
@@ -31,7 +31,7 @@ impl<A: Allocator> Texts<A> {
         A: Copy,
         ensures { with_texts result ≡ empty }
     {
-        Texts {
+        ScriptTexts {
             alloc,
             arena: StableArena::new(alloc),
             interner: StringInterner::new(alloc),
@@ -61,13 +61,13 @@ impl<A: Allocator> Texts<A> {
     /// `g N`: replies the text of a key.
     pub(crate) fn get<B: Allocator>(
         &self,
-        key: usize,
+        number: usize,
         replies: &mut String<B>,
     ) -> Result<(), AllocError>
         ensures { OnOk result (AddsReply replies.old replies.new
-            (reply_to (with_texts self.now) (request.Get key))) }
+            (reply_to (with_texts self.now) (request.Get number))) }
     {
-        match self.arena.get(key) {
+        match self.arena.get(number) {
             Ok(text) => writeln!(replies, "text {text}"),
             Err(error) => writeln!(replies, "error {}", error.text()),
         }

@@ -1,4 +1,5 @@
 -- What a table of functions shows, and under which symbols its keys stand.
+-- for src/functions.rt
 use Rattle.std.proofs.Common.{◌≡◌, ◌<◌, ℕ, suc, nat_eq, List, [], ◌∷◌, ◌++◌, length, map, Some, slice_get, slice_index_or, option_map, refl, ◌∙◌, arith}
 use Rattle.std.proofs.lemmas.Bool.Decides.{nat_tests}
 use Rattle.std.proofs.lemmas.List.{length-map, map_push}

@@ -1,4 +1,5 @@
 -- Where a name stands in a list of names.
+-- for src/symbols.rt, src/functions.rt
 use Rattle.std.proofs.Common.{◌≡◌, ◌≢◌, ◌⊎◌, ℕ, zero, suc, ◌<◌, ◌≤◌, Bool, List, [], ◌∷◌, ◌++◌, length, map, Some, None, string_bytes, slice_get, Result, Ok, Err, IfOk, OnOk, OnErr, option_map, refl, sym, ap, ◌∙◌, inl, inr, arith}
 use Rattle.std.specs.List.{position, position_or_len}
 use Rattle.std.specs.Str.{bytes_eq}

@@ -1,4 +1,4 @@
-//! The place of a key in a map, found by one search.
+//! The entry of a key in a map, found by one search.
 ghost use Rattle.std.specs.Prelude.{◌≡◌, ◌∷◌, IfOk, IsOk, IsSome, IsTrue, MatchOption, OnErr, Some, None, unwrap_or};
 ghost use Rattle.std.specs.Borrow.{Bor, MutBor, sem};
 ghost use Rattle.std.specs.Fn.{FnOnceReturnsAt};
@@ -10,7 +10,7 @@ ghost use Rattle.std.specs.Map.Calls.{ModifiesValue};
 ghost use Rattle.std.specs.Option.{UnwrapsOrElse};
 ghost use Rattle.wasmi_map_specs.specs.Errors.{FailsOnlyForMemory};
 ghost use Rattle.wasmi_map_specs.specs.Maps.{value_at};
-ghost use Rattle.wasmi_hashed.specs.MapEntry.{place, map_of, IsPlaceOf, IsOfInner, lends_place, inner_rests};
+ghost use Rattle.wasmi_hashed.specs.MapEntry.{inner_entry, map_of, IsEntryOf, IsOfInner, lends_entry, inner_rests};
 
 mod occupied;
 mod vacant;
@@ -24,7 +24,7 @@ use std::hash::{BuildHasher, Hash};
 use std::marker::PhantomData;
 use wasmi_arena::ArenaError;
 
-/// The place of a key in a map: with its value, or free.
+/// The entry of a key in a map: with its value, or free.
 #[derive(Drop)]
 pub enum Entry<'a, K: Eq + Hash, V, S: BuildHasher = FixedState, A: Allocator = Global> {
     /// The key is there.
@@ -33,70 +33,71 @@ pub enum Entry<'a, K: Eq + Hash, V, S: BuildHasher = FixedState, A: Allocator = 
     Vacant(VacantEntry<'a, K, V, S, A>),
 }
 
-/// The place of a key that is there, with its value.
+/// The entry of a key that is there, with its value.
 #[derive(Drop)]
 pub struct OccupiedEntry<'a, K: Eq + Hash, V, S: BuildHasher = FixedState, A: Allocator = Global> {
     entry: hash_map::OccupiedEntry<'a, K, V, S, A>,
-    // proof: without bytes; it lets callers use the place up (docs/LIMITS.md).
+    // proof: without bytes; it lets callers use the entry up (docs/LIMITS.md).
     lent: PhantomData<&'a ()>,
 }
 
-/// The place of a key that isn't there, with room for it.
+/// The entry of a key that isn't there, with room for it.
 #[derive(Drop)]
 pub struct VacantEntry<'a, K: Eq + Hash, V, S: BuildHasher = FixedState, A: Allocator = Global> {
     entry: hash_map::VacantEntry<'a, K, V, S, A>,
-    // proof: without bytes; it lets callers use the place up (docs/LIMITS.md).
+    // proof: without bytes; it lets callers use the entry up (docs/LIMITS.md).
     lent: PhantomData<&'a ()>,
 }
 
 impl<K: Eq + Hash, V, S: BuildHasher, A: Allocator> Map<K, V, S, A> {
-    /// The place of a key.
+    /// The entry of a key.
     /// Amortised expected constant time; asks for memory only where the key is new.
     ///
     /// Fails with `OutOfSystemMemory` if the key isn't there and there is no memory for it, and then the
-    /// map has the entries that it had, and the key is dropped. What is done with the place needs no
+    /// map has the entries that it had, and the key is dropped. What is done with the entry needs no
     /// search and no memory.
     #[inline]
     pub fn entry(&mut self, key: K) -> Result<Entry<'_, K, V, S, A>, ArenaError>
     where
         K: Drop,
         A: Clone,
-        ensures* lends { sem 𝓛 (lends_place K.row V.row S.row A.row S.Hasher.row K.Hash S.BuildHasher S.Hasher.Hasher A.Allocator self.entry result) }
-        ensures key { IfOk result (λ entry. entry_value (place entry) ≡ None → entry_key (place entry) ≡ key) }
-        ensures same_key { IfOk result (λ entry. IsTrue (K.eq key (entry_key (place entry)))) }
-        ensures value { IfOk result (λ entry. entry_value (place entry)
+        ensures* lends { sem 𝓛 (lends_entry K.row V.row S.row A.row S.Hasher.row K.Hash S.BuildHasher S.Hasher.Hasher A.Allocator self.entry result) }
+        ensures key { IfOk result (λ entry. entry_value (inner_entry entry) ≡ None → entry_key (inner_entry entry) ≡ key) }
+        ensures same_key { IfOk result (λ entry. IsTrue (K.eq key (entry_key (inner_entry entry)))) }
+        ensures value { IfOk result (λ entry. entry_value (inner_entry entry)
             ≡ value_at K.eq self.old.entries key) }
-        ensures found { IfOk result (λ entry. MatchEntry (place entry)
+        ensures found { IfOk result (λ entry. MatchEntry (inner_entry entry)
             (IsSome (value_at K.eq self.old.entries key)
-            × (lookup_key (K.eq key) self.old.entries ≡ Some (entry_key (place entry))))
+            × (lookup_key (K.eq key) self.old.entries ≡ Some (entry_key (inner_entry entry))))
             (value_at K.eq self.old.entries key ≡ None)) }
-        ensures entries { IfOk result (λ entry. (entry_map_ref (place entry)).now.entries ≡ self.old.entries) }
+        ensures entries { IfOk result (λ entry. (entry_map_ref (inner_entry entry)).now.entries ≡ self.old.entries) }
         ensures written { IfOk result (λ entry. (last : V) → MatchOption (value_at K.eq self.old.entries key)
-            (IsPermutation ((key, last) ∷ self.old.entries) (map_with_value (place entry) last).entries)
-            (λ _. (map_with_value (place entry) last).entries ≡ set_value (K.eq key) self.old.entries last)) }
+            (IsPermutation ((key, last) ∷ self.old.entries) (map_with_value (inner_entry entry) last).entries)
+            (λ _. (map_with_value (inner_entry entry) last).entries ≡ set_value (K.eq key) self.old.entries last)) }
         ensures hasher { IfOk result (λ entry. (last : V)
-            → hasher_of (map_with_value (place entry) last) ≡ self.old.hasher) }
+            → hasher_of (map_with_value (inner_entry entry) last) ≡ self.old.hasher) }
+        // The standard library says the state only of a map with a value written, so there must be one.
         ensures state { IfOk result (λ entry. (last : V)
-            → hasher_of (entry_map_ref (place entry)).now ≡ self.old.hasher) }
+            → hasher_of (entry_map_ref (inner_entry entry)).now ≡ self.old.hasher) }
         ensures removed { IfOk result (λ entry. IsPermutation (remove_entry (K.eq key) self.old.entries)
-            (map_without_entry (place entry)).entries) }
+            (map_without_entry (inner_entry entry)).entries) }
         ensures absent { OnErr result (value_at K.eq self.old.entries key ≡ None) }
         ensures errors { FailsOnlyForMemory result }
     {
-        of_inner(place_in(self.inner_mut(), key))
+        of_inner(entry_in(self.inner_mut(), key))
     }
 }
 
-// The place of a key in the map of the standard library.
+// The entry of a key in the map of the standard library.
 // proof: a call of its own, so that only the call above it is proved by hand.
 #[inline]
-fn place_in<'a, K: Eq + Hash + Drop, V, S: BuildHasher, A: Allocator + Clone>(
+fn entry_in<'a, K: Eq + Hash + Drop, V, S: BuildHasher, A: Allocator + Clone>(
     inner: &'a mut HashMap<K, V, S, A>,
     key: K,
 ) -> Result<hash_map::Entry<'a, K, V, S, A>, AllocFailed<K>>
     ensures* rests { sem 𝓛 (inner_rests K.row V.row S.row A.row S.Hasher.row A.Allocator inner.entry result) }
     ensures same_map { IfOk result (λ there. (entry_map_ref there).ghost_name ≡ inner.entry.ghost_name) }
-    ensures place { IfOk result (IsPlaceOf K.eq (map_of inner.old) key) }
+    ensures entry { IfOk result (IsEntryOf K.eq (map_of inner.old) key) }
     ensures state { IfOk result (λ there. (last : V)
         → hasher_of (entry_map_ref there).now ≡ hasher_of inner.old) }
     ensures absent { OnErr result (value_at K.eq inner.old.entries key ≡ None) }
@@ -116,10 +117,10 @@ fn of_inner<'a, K: Eq + Hash + Drop, V, S: BuildHasher, A: Allocator>(
 }
 
 impl<'a, K: Eq + Hash, V, S: BuildHasher, A: Allocator> Entry<'a, K, V, S, A> {
-    // The same place, as one of a map of this crate.
+    // The same entry, as one of a map of this crate.
     #[inline]
     fn of(entry: hash_map::Entry<'a, K, V, S, A>) -> Self
-        ensures { place result ≡ entry.entry }
+        ensures { inner_entry result ≡ entry.entry }
     {
         match entry {
             hash_map::Entry::Occupied(entry) => Entry::Occupied(OccupiedEntry {
@@ -133,11 +134,11 @@ impl<'a, K: Eq + Hash, V, S: BuildHasher, A: Allocator> Entry<'a, K, V, S, A> {
         }
     }
 
-    // The same place, as one of the standard library.
+    // The same entry, as one of the standard library.
     // proof: a call of its own, so that only the call above it is proved by hand.
     #[inline]
     fn into_inner(self) -> hash_map::Entry<'a, K, V, S, A>
-        ensures { result ≡ place self.entry }
+        ensures { result ≡ inner_entry self.entry }
     {
         match self {
             Entry::Occupied(occupied) => hash_map::Entry::Occupied(occupied.entry),
@@ -145,15 +146,15 @@ impl<'a, K: Eq + Hash, V, S: BuildHasher, A: Allocator> Entry<'a, K, V, S, A> {
         }
     }
 
-    /// The value that is there, or else this one, which is put in. Never fails, since the place has
+    /// The value that is there, or else this one, which is put in. Never fails, since the entry has
     /// room.
     /// Constant time, no allocation.
     #[inline]
     pub fn or_insert(self, default: V) -> Result<&'a mut V, ArenaError>
     where
         V: Drop,
-        ensures* writes_back { sem 𝓛 (entry_follows_ok K.row V.row S.row A.row S.Hasher.row A.Allocator (place self.entry) result) }
-        ensures value { IfOk result (λ value. value.now ≡ unwrap_or (entry_value (place self.entry)) default) }
+        ensures* writes_back { sem 𝓛 (entry_follows_ok K.row V.row S.row A.row S.Hasher.row A.Allocator (inner_entry self.entry) result) }
+        ensures value { IfOk result (λ value. value.now ≡ unwrap_or (entry_value (inner_entry self.entry)) default) }
         ensures ok { IsOk result }
     {
         Ok(self.into_inner().or_insert(default))
@@ -164,9 +165,9 @@ impl<'a, K: Eq + Hash, V, S: BuildHasher, A: Allocator> Entry<'a, K, V, S, A> {
     /// Constant time, no allocation.
     #[inline]
     pub fn or_insert_with<F: FnOnce() -> V>(self, default: F) -> Result<&'a mut V, ArenaError>
-        requires { entry_value (place self) ≡ None → F.pre default }
-        ensures* writes_back { sem 𝓛 (entry_follows_ok K.row V.row S.row A.row S.Hasher.row A.Allocator (place self.entry) result) }
-        ensures value { IfOk result (λ value. UnwrapsOrElse (entry_value (place self.entry)) (F.post default) value.now) }
+        requires { entry_value (inner_entry self) ≡ None → F.pre default }
+        ensures* writes_back { sem 𝓛 (entry_follows_ok K.row V.row S.row A.row S.Hasher.row A.Allocator (inner_entry self.entry) result) }
+        ensures value { IfOk result (λ value. UnwrapsOrElse (entry_value (inner_entry self.entry)) (F.post default) value.now) }
         ensures ok { IsOk result }
     {
         Ok(self.into_inner().or_insert_with(default))
@@ -176,10 +177,10 @@ impl<'a, K: Eq + Hash, V, S: BuildHasher, A: Allocator> Entry<'a, K, V, S, A> {
     /// Constant time, no allocation.
     #[inline]
     pub fn or_insert_with_key<F: FnOnce(&K) -> V>(self, default: F) -> Result<&'a mut V, ArenaError>
-        requires { entry_value (place self) ≡ None → (p : Bor K) → p.now ≡ entry_key (place self) → F.pre default p }
-        ensures* writes_back { sem 𝓛 (entry_follows_ok K.row V.row S.row A.row S.Hasher.row A.Allocator (place self.entry) result) }
-        ensures value { IfOk result (λ value. UnwrapsOrElse (entry_value (place self.entry))
-            (FnOnceReturnsAt F.FnOnce default (entry_key (place self.entry))) value.now) }
+        requires { entry_value (inner_entry self) ≡ None → (p : Bor K) → p.now ≡ entry_key (inner_entry self) → F.pre default p }
+        ensures* writes_back { sem 𝓛 (entry_follows_ok K.row V.row S.row A.row S.Hasher.row A.Allocator (inner_entry self.entry) result) }
+        ensures value { IfOk result (λ value. UnwrapsOrElse (entry_value (inner_entry self.entry))
+            (FnOnceReturnsAt F.FnOnce default (entry_key (inner_entry self.entry))) value.now) }
         ensures ok { IsOk result }
     {
         Ok(self.into_inner().or_insert_with_key(default))
@@ -188,7 +189,7 @@ impl<'a, K: Eq + Hash, V, S: BuildHasher, A: Allocator> Entry<'a, K, V, S, A> {
     /// The key: the one that is kept, or else the one that was asked for.
     /// Constant time, no allocation.
     pub fn key(&self) -> &K
-        ensures { result.now ≡ entry_key (place self.now) }
+        ensures { result.now ≡ entry_key (inner_entry self.now) }
     {
         match self {
             Entry::Occupied(occupied) => occupied.key(),
@@ -196,16 +197,16 @@ impl<'a, K: Eq + Hash, V, S: BuildHasher, A: Allocator> Entry<'a, K, V, S, A> {
         }
     }
 
-    /// The same place, with its value changed by the closure, if there is one.
+    /// The same entry, with its value changed by the closure, if there is one.
     /// Constant time, no allocation.
     #[inline]
     pub fn and_modify<F: FnOnce(&mut V)>(self, modify: F) -> Self
-        requires { (p : MutBor V) → entry_value (place self) ≡ Some p.now → F.pre modify p }
-        ensures same_map { (entry_map_ref (place result)).ghost_name ≡ (entry_map_ref (place self.entry)).ghost_name }
-        ensures key { entry_key (place result) ≡ entry_key (place self.entry) }
-        ensures value { ModifiesValue F.FnOnce modify (entry_value (place self.entry)) (entry_value (place result)) }
-        ensures written { (last : V) → map_with_value (place result) last ≡ map_with_value (place self.entry) last }
-        ensures removed { IsUnchanged (map_without_entry (place self.entry)) (map_without_entry (place result)) }
+        requires { (p : MutBor V) → entry_value (inner_entry self) ≡ Some p.now → F.pre modify p }
+        ensures same_map { (entry_map_ref (inner_entry result)).ghost_name ≡ (entry_map_ref (inner_entry self.entry)).ghost_name }
+        ensures key { entry_key (inner_entry result) ≡ entry_key (inner_entry self.entry) }
+        ensures value { ModifiesValue F.FnOnce modify (entry_value (inner_entry self.entry)) (entry_value (inner_entry result)) }
+        ensures written { (last : V) → map_with_value (inner_entry result) last ≡ map_with_value (inner_entry self.entry) last }
+        ensures removed { IsUnchanged (map_without_entry (inner_entry self.entry)) (map_without_entry (inner_entry result)) }
     {
         Entry::of(self.into_inner().and_modify(modify))
     }
@@ -216,8 +217,8 @@ impl<'a, K: Eq + Hash, V, S: BuildHasher, A: Allocator> Entry<'a, K, V, S, A> {
     pub fn or_default(self) -> Result<&'a mut V, ArenaError>
     where
         V: MadeWith<A>,
-        ensures* writes_back { sem 𝓛 (entry_follows_ok K.row V.row S.row A.row S.Hasher.row A.Allocator (place self.entry) result) }
-        ensures value { IfOk result (λ value. UnwrapsOrElse (entry_value (place self.entry)) V.is_made_with value.now) }
+        ensures* writes_back { sem 𝓛 (entry_follows_ok K.row V.row S.row A.row S.Hasher.row A.Allocator (inner_entry self.entry) result) }
+        ensures value { IfOk result (λ value. UnwrapsOrElse (entry_value (inner_entry self.entry)) V.is_made_with value.now) }
         ensures ok { IsOk result }
     {
         Ok(self.into_inner().or_default())

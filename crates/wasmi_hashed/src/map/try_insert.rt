@@ -40,6 +40,7 @@ impl<K: Eq + Hash, V, S: BuildHasher, A: Allocator> Map<K, V, S, A> {
 }
 
 // The same of the map of the standard library.
+// proof: a call of its own, since what an entry leaves is known only of a parameter's own map.
 #[inline]
 fn put_new<K: Eq + Hash + Drop, V: Drop, S: BuildHasher, A: Allocator + Clone>(
     inner: &mut HashMap<K, V, S, A>,
@@ -60,13 +61,13 @@ fn put_new<K: Eq + Hash + Drop, V: Drop, S: BuildHasher, A: Allocator + Clone>(
     ensures err { OnErr result (inner.new.entries ≡ inner.old.entries) }
 {
     match inner.entry(key)? {
-        hash_map::Entry::Occupied(place) => {
+        hash_map::Entry::Occupied(entry) => {
             // proof: the map ends with the value that it has there.
-            place.into_mut();
+            entry.into_mut();
             Ok(Err(value))
         }
-        hash_map::Entry::Vacant(place) => {
-            place.insert(value);
+        hash_map::Entry::Vacant(entry) => {
+            entry.insert(value);
             Ok(Ok(()))
         }
     }

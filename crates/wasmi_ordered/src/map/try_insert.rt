@@ -42,6 +42,7 @@ impl<K: Hash + Ord, V, A: Allocator> Map<K, V, A> {
 }
 
 // The same of the map of the standard library.
+// proof: a call of its own, since what an entry leaves is known only of a parameter's own map.
 #[inline]
 fn put_new<K: Ord + Drop, V: Drop, A: Allocator + Clone>(
     inner: &mut BTreeMap<K, V, A>,
@@ -61,13 +62,13 @@ fn put_new<K: Ord + Drop, V: Drop, A: Allocator + Clone>(
     ensures err { OnErr result (inner.new.entries ≡ inner.old.entries) }
 {
     match inner.entry(key)? {
-        btree_map::Entry::Occupied(place) => {
+        btree_map::Entry::Occupied(entry) => {
             // proof: the map ends with the value that it has there.
-            place.into_mut();
+            entry.into_mut();
             Ok(Err(value))
         }
-        btree_map::Entry::Vacant(place) => {
-            place.insert(value);
+        btree_map::Entry::Vacant(entry) => {
+            entry.insert(value);
             Ok(Ok(()))
         }
     }

@@ -1,5 +1,5 @@
-//! A write that moves the index: a value in the place of another.
-ghost use Rattle.std.specs.Prelude.{ℕ, ◌≡◌, ◌≢◌, ◌<◌, ◌≤◌, ◌↔◌, length, position, None, Some, Ok, IfOk, IfErr, OnOk, OnErr, IsOk, IsErrOf, IsOkUnless, slice_set, option_copied, IsTrue};
+//! A write that changes the index: a value in the place of another.
+ghost use Rattle.std.specs.Prelude.{ℕ, ◌≡◌, ◌≢◌, ◌<◌, ◌≤◌, ◌↔◌, length, position, None, Some, Ok, IfOk, IfErr, OnOk, OnErr, IsOk, IsErrOf, IsOkUnless, slice_set, option_copied};
 ghost use Rattle.wasmi_collections.specs.Dedup.{IsIndex, HasOtherKey, ReplacesValue, RefusesReplace, in_order, value_numbered};
 
 use super::DedupArena;
@@ -27,7 +27,7 @@ fn handed_at<'a, Key: ArenaKey, T: Eq + Hash, A: Allocator>(
 // Puts a new value into an index in the place of one that is equal to `old`, whose key it is given.
 //
 // Fails with `OutOfSystemMemory` if there is no memory for it, and then the index is as before.
-fn move_entry<Key: ArenaKey, T: Eq + Hash + Drop, A: Allocator + Clone>(
+fn exchange_value<Key: ArenaKey, T: Eq + Hash + Drop, A: Allocator + Clone>(
     index: &mut Map<T, Key, FixedState, A>,
     old: &T,
     key: Key,
@@ -48,20 +48,18 @@ fn move_entry<Key: ArenaKey, T: Eq + Hash + Drop, A: Allocator + Clone>(
     Ok(())
 }
 
-// Whether a value of the index is equal to this one and has the key. Expected constant time.
-fn has_key<Key: ArenaKey, T: Eq + Hash, A: Allocator>(
+// The number of the key of an equal value of an index, if there is one. Expected constant time.
+fn number_in<Key: ArenaKey, T: Eq + Hash, A: Allocator>(
     index: &Map<T, Key, FixedState, A>,
     value: &T,
-    key: Key,
-) -> bool
+) -> Option<usize>
     requires is { IsIndex Key.keys T.eq (in_order Key.keys index.now.entries) index.now.entries }
     requires few { length (in_order Key.keys index.now.entries) ≤ Key.keys.count }
-    ensures { IsTrue result ↔ (position (T.eq value.now) (in_order Key.keys index.now.entries)
-        ≡ Some (Key.keys.number key)) }
+    ensures { result ≡ position (T.eq value.now) (in_order Key.keys index.now.entries) }
 {
     match index.get(value) {
-        Some(at) => at.into_usize() == key.into_usize(),
-        None => false,
+        Some(key) => Some(key.into_usize()),
+        None => None,
     }
 }
 
@@ -70,7 +68,7 @@ fn has_key<Key: ArenaKey, T: Eq + Hash, A: Allocator>(
 //
 // Fails with `OutOfSystemMemory` if there is no memory for it, or the clone of the old value fails or isn't
 // equal to it, and then the index is as before.
-fn move_key<Key: ArenaKey, T: Eq + Hash + Clone, A: Allocator + Clone>(
+fn exchange_at_key<Key: ArenaKey, T: Eq + Hash + Clone, A: Allocator + Clone>(
     index: &mut Map<T, Key, FixedState, A>,
     item: &T,
     key: Key,
@@ -87,17 +85,17 @@ fn move_key<Key: ArenaKey, T: Eq + Hash + Clone, A: Allocator + Clone>(
 {
     // proof: first, for what the call says of the key.
     let number = key.into_usize();
-    if has_key(index, item, key) {
-        return move_entry(index, item, key, value);
+    if number_in(index, item) == Some(number) {
+        return exchange_value(index, item, key, value);
     }
     let Some(handed) = handed_at(index, number) else {
         unreachable!();
     };
     let old = handed.clone()?;
-    if !has_key(index, &old, key) {
+    if number_in(index, &old) != Some(number) {
         return Err(ArenaError::OutOfSystemMemory);
     }
-    move_entry(index, &old, key, value)
+    exchange_value(index, &old, key, value)
 }
 
 impl<Key: ArenaKey, T: Eq + Hash, A: Allocator> DedupArena<Key, T, A> {
@@ -132,14 +130,14 @@ impl<Key: ArenaKey, T: Eq + Hash, A: Allocator> DedupArena<Key, T, A> {
             → p ≢ Key.keys.number key → position (T.eq other) self.new.handed ≡ Some p }
     {
         let there = self.items.get(key)?;
-        if let Some(at) = self.index.get(&value) {
-            if at.into_usize() != key.into_usize() {
+        if let Some(at) = number_in(&self.index, &value) {
+            if at != key.into_usize() {
                 return Err(ArenaError::DuplicateItem);
             }
             return self.items.put(key, value);
         }
         let item = value.clone()?;
-        move_key(&mut self.index, there, key, value)?;
+        exchange_at_key(&mut self.index, there, key, value)?;
         self.items.put(key, item)
     }
 }

@@ -1,8 +1,8 @@
-//! The place of a key that is there, with its value.
+//! The entry of a key that is there, with its value.
 ghost use Rattle.std.specs.Prelude.{◌≡◌, Some};
 ghost use Rattle.std.specs.HashMap.Entry.{entry_follows, entry_key, entry_value, IsWritten};
 ghost use Rattle.std.specs.Borrow.{sem};
-ghost use Rattle.wasmi_hashed.specs.MapEntry.{inner_without, lends_held, place, with_value};
+ghost use Rattle.wasmi_hashed.specs.MapEntry.{inner_without, lends_held, inner_entry, with_value};
 ghost use Rattle.wasmi_hashed.specs.declared.map.entry.Entry.TheVariants.{Occupied};
 
 use super::OccupiedEntry;
@@ -11,7 +11,7 @@ use std::collections::hash_map;
 use std::hash::{BuildHasher, Hash};
 
 impl<'a, K: Eq + Hash, V, S: BuildHasher, A: Allocator> OccupiedEntry<'a, K, V, S, A> {
-    // The same place, as one of the standard library.
+    // The same entry, as one of the standard library.
     // proof: a call of its own, so that only the call above it is proved by hand.
     #[inline]
     fn into_inner(self) -> hash_map::OccupiedEntry<'a, K, V, S, A>
@@ -23,7 +23,7 @@ impl<'a, K: Eq + Hash, V, S: BuildHasher, A: Allocator> OccupiedEntry<'a, K, V, 
     /// The key that is kept.
     /// Constant time, no allocation.
     pub fn key(&self) -> &K
-        ensures { entry_key (place (Occupied self.now)) ≡ result.now }
+        ensures { entry_key (inner_entry (Occupied self.now)) ≡ result.now }
     {
         self.entry.key()
     }
@@ -31,17 +31,17 @@ impl<'a, K: Eq + Hash, V, S: BuildHasher, A: Allocator> OccupiedEntry<'a, K, V, 
     /// The value.
     /// Constant time, no allocation.
     pub fn get(&self) -> &V
-        ensures { Some result.now ≡ entry_value (place (Occupied self.now)) }
+        ensures { Some result.now ≡ entry_value (inner_entry (Occupied self.now)) }
     {
         self.entry.get()
     }
 
-    /// The value to write to, while the place is kept.
+    /// The value to write to, while the entry is kept.
     /// Constant time, no allocation.
     pub fn get_mut(&mut self) -> &mut V
         ensures* writes_back { sem 𝓛 (lends_held K.row V.row S.row A.row S.Hasher.row A.Allocator self.entry result) }
-        ensures value { entry_value (place (Occupied self.old)) ≡ Some result.now }
-        ensures written { (last : V) → IsWritten (place (Occupied self.old)) last (place (Occupied (with_value self.old last))) }
+        ensures value { entry_value (inner_entry (Occupied self.old)) ≡ Some result.now }
+        ensures written { (last : V) → IsWritten (inner_entry (Occupied self.old)) last (inner_entry (Occupied (with_value self.old last))) }
     {
         self.entry.get_mut()
     }
@@ -50,8 +50,8 @@ impl<'a, K: Eq + Hash, V, S: BuildHasher, A: Allocator> OccupiedEntry<'a, K, V, 
     /// Constant time, no allocation.
     #[inline]
     pub fn insert(&mut self, value: V) -> V
-        ensures was { entry_value (place (Occupied self.old)) ≡ Some result }
-        ensures written { IsWritten (place (Occupied self.old)) value (place (Occupied self.new)) }
+        ensures was { entry_value (inner_entry (Occupied self.old)) ≡ Some result }
+        ensures written { IsWritten (inner_entry (Occupied self.old)) value (inner_entry (Occupied self.new)) }
     {
         self.entry.insert(value)
     }
@@ -60,8 +60,8 @@ impl<'a, K: Eq + Hash, V, S: BuildHasher, A: Allocator> OccupiedEntry<'a, K, V, 
     /// Constant time, no allocation.
     #[inline]
     pub fn into_mut(self) -> &'a mut V
-        ensures* writes_back { sem 𝓛 (entry_follows K.row V.row S.row A.row S.Hasher.row A.Allocator (place (Occupied self.entry)) result) }
-        ensures value { entry_value (place (Occupied self.entry)) ≡ Some result.now }
+        ensures* writes_back { sem 𝓛 (entry_follows K.row V.row S.row A.row S.Hasher.row A.Allocator (inner_entry (Occupied self.entry)) result) }
+        ensures value { entry_value (inner_entry (Occupied self.entry)) ≡ Some result.now }
     {
         self.into_inner().into_mut()
     }
@@ -70,9 +70,9 @@ impl<'a, K: Eq + Hash, V, S: BuildHasher, A: Allocator> OccupiedEntry<'a, K, V, 
     /// Expected constant time, no allocation.
     #[inline]
     pub fn remove_entry(self) -> (K, V)
-        ensures* removed { sem 𝓛 (inner_without K.row V.row S.row A.row S.Hasher.row A.Allocator (place (Occupied self.entry))) }
-        ensures key { result.0 ≡ entry_key (place (Occupied self.entry)) }
-        ensures was { entry_value (place (Occupied self.entry)) ≡ Some result.1 }
+        ensures* removed { sem 𝓛 (inner_without K.row V.row S.row A.row S.Hasher.row A.Allocator (inner_entry (Occupied self.entry))) }
+        ensures key { result.0 ≡ entry_key (inner_entry (Occupied self.entry)) }
+        ensures was { entry_value (inner_entry (Occupied self.entry)) ≡ Some result.1 }
     {
         self.into_inner().remove_entry()
     }
@@ -83,8 +83,8 @@ impl<'a, K: Eq + Hash, V, S: BuildHasher, A: Allocator> OccupiedEntry<'a, K, V, 
     pub fn remove(self) -> V
     where
         K: Drop,
-        ensures* removed { sem 𝓛 (inner_without K.row V.row S.row A.row S.Hasher.row A.Allocator (place (Occupied self.entry))) }
-        ensures was { entry_value (place (Occupied self.entry)) ≡ Some result }
+        ensures* removed { sem 𝓛 (inner_without K.row V.row S.row A.row S.Hasher.row A.Allocator (inner_entry (Occupied self.entry))) }
+        ensures was { entry_value (inner_entry (Occupied self.entry)) ≡ Some result }
     {
         self.into_inner().remove()
     }

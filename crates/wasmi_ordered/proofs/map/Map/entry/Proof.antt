@@ -9,16 +9,16 @@ use Rattle.wasmi_arena.specs.contracts.error.ArenaError as ErrorType
 use Rattle.wasmi_arena.proofs.error.ArenaError.TheLaws as ErrorLaws
 use Rattle.wasmi_map_specs.specs.Maps.{value_at}
 use Rattle.wasmi_map_specs.proofs.Handed.{lent_on, each_ok}
-use Rattle.wasmi_map_specs.proofs.Made.{of_place, of_absence, of_failure, of_names}
+use Rattle.wasmi_map_specs.proofs.Made.{of_entry, of_absence, of_failure, of_names}
 use Rattle.wasmi_map_specs.proofs.Walk.{◌≡◌, ◌∙◌, [], ◌∷◌, None, refl, ap, subst, leaves, name_if_ok, IfOk, OnErr, fsep, ftrue, emp, toks, fact, fact_i, tables, no, follows, follows_if, bounded, param, param_laws, MutRef, mut_vals, mut_Tells, plain, named_lft, nothing, heard, only, lasts, Lasts, framed, Stays, walk_of, stay_dropped, Goes-dropped, Goes-spent_ref, inst_fn, Args, a_type, dcons, dnil, named, Val, vptr, alloc_all, pass_all, free_all, look_at, get, through, sets, lands_as, ‵, raw, ◌⊛◌, ◌$◌, ◌∵◌, !, qed, by, move, keep, drop, split, fjoin, frame, use0, use2, suffices, rewrite, enter, addr, stop, of_opd, and_then, no_more, returns, let_go, gone, also, calls_on, proved_by, typed_of, one_of, ref_of, facts, twice}
 use Rattle.wasmi_ordered.specs.contracts.map.Map.{the_row as MapRow}
 use Rattle.wasmi_ordered.specs.contracts.map.Map.entry as F
 use Rattle.wasmi_ordered.specs.contracts.map.Map.inner_mut as Lends
-use Rattle.wasmi_ordered.specs.contracts.map.entry.place_in as Asks
+use Rattle.wasmi_ordered.specs.contracts.map.entry.entry_in as Asks
 use Rattle.wasmi_ordered.specs.contracts.map.entry.of_inner as Makes
-use Rattle.wasmi_ordered.proofs.Rows.{entry_map_ref, place, IsPlaceOf, IsOfInner, inner_rests, entry, alive_in}
+use Rattle.wasmi_ordered.proofs.Rows.{entry_map_ref, inner_entry, IsEntryOf, IsOfInner, inner_rests, entry, alive_in}
 use Rattle.wasmi_ordered.proofs.map.Map.inner_mut.Met as Lent
-use Rattle.wasmi_ordered.proofs.map.entry.place_in.Met as Asked
+use Rattle.wasmi_ordered.proofs.map.entry.entry_in.Met as Asked
 use Rattle.wasmi_ordered.proofs.map.entry.of_inner.Met as Made
 use Rattle.wasmi_ordered.proofs.map.Map.entry.Code as code
 use Rattle.wasmi_ordered.proofs.map.Map.entry.Statement.{statement}
@@ -51,8 +51,8 @@ entry_spec 𝓤 𝓛 𝓜 𝓡 wired X Y Z LX LY LZ h dh e de p dp o dt q dq g d
     nothing ! $ move ! (5 ∷ 0 ∷ []) $ fjoin ! $ move ! (3 ∷ 2 ∷ 0 ∷ 4 ∷ []) $
     calls_on 𝓛 ! fm (twice 𝓤 known) (MutRef (named 0) κ P.Map) There (fsep (K.own_val key (k ∷ [])) ftrue) t (mut_vals t) (vptr t.ref_ptr.0 t.ref_ptr.1 ∷ k ∷ []) {W = Lasts asks κs (t, (key, tt))}
     (λ r ws. ‵ (lasts asks κs (t, (key, tt)) ws) ⊛ ‵ (inner_rests (param 0 X) (param 1 Y) (param 2 Z) g t r) ⊛ raw (fact 𝓤 (IfOk r (λ there. (entry_map_ref there).ghost_name ≡ t.ghost_name)))
-    ⊛ raw (fact 𝓤 (IfOk r (IsPlaceOf o.cmp t.now.entries key))) ⊛ raw (fact 𝓤 (OnErr r (value_at (eq_by_cmp o.cmp) t.now.entries key ≡ None))))
-    (Asked.met 𝓤 𝓛 𝓜 𝓡 (code.calls-wasmi_ordered::map::entry::place_in 𝓡.env wired) X Y Z LX LY LZ h dh e de p dp o dt q dq g dg cl dcl dk dd mh me mp mo mq mg mcl mk md ((κs, qs, bounds, (t, (key, tt)), (mut_vals t, (k ∷ [], tt))), tt))
+    ⊛ raw (fact 𝓤 (IfOk r (IsEntryOf o.cmp t.now.entries key))) ⊛ raw (fact 𝓤 (OnErr r (value_at (eq_by_cmp o.cmp) t.now.entries key ≡ None))))
+    (Asked.met 𝓤 𝓛 𝓜 𝓡 (code.calls-wasmi_ordered::map::entry::entry_in 𝓡.env wired) X Y Z LX LY LZ h dh e de p dp o dt q dq g dg cl dcl dk dd mh me mp mo mq mg mcl mk md ((κs, qs, bounds, (t, (key, tt)), (mut_vals t, (k ∷ [], tt))), tt))
     (and_then ! (get ! refl) (and_then ! (get ! refl) (no_more !))) (λ v₂ r ws₂ is₂. split ! $ drop ! $ split ! $ move ! (1 ∷ []) $
     split ! $ heard ! _ (λ same_map. split ! $ heard ! _ (λ is_place. heard ! _ (λ is_absent.
     -- [how the inner map is left; the answer; the tokens; the facts; what the map is in the end]
@@ -61,13 +61,13 @@ entry_spec 𝓤 𝓛 𝓜 𝓡 wired X Y Z LX LY LZ h dh e de p dp o dt q dq g d
     (Made.met 𝓤 𝓛 𝓜 𝓡 (code.calls-wasmi_ordered::map::entry::of_inner 𝓡.env wired) X Y Z LX LY LZ h dh e de p dp o dt q dq g dg dk dd mh me mp mo mq mg mk md ((κs, qs, bounds, (r, tt), (v₂ ∷ [], tt)), tt))
     (and_then ! (get ! refl) (no_more !)) (λ v res ws₃ is₃. split ! $ drop ! $ heard ! _ (λ made.
     -- [the answer; the tokens; the facts; how the inner map is left; what the map is in the end]
-    move ! (4 ∷ 3 ∷ []) $ use2 𝓛 (‵ (follows_if Self P.Map γ (name_if_ok (λ entry. (entry_map_ref (place entry)).ghost_name) res) (λ last. last.entries) map.now))
-    (lent_on 𝓛 Self P.Map (λ last. last.entries) γ t map.now (λ there. (entry_map_ref there).ghost_name) (λ now. now.entries ≡ t.now.entries) (λ now same. same ∙ as_map) r _ (of_names place OutOfSystemMemory (λ there. (entry_map_ref there).ghost_name) t.ghost_name r res made same_map)) $
+    move ! (4 ∷ 3 ∷ []) $ use2 𝓛 (‵ (follows_if Self P.Map γ (name_if_ok (λ entry. (entry_map_ref (inner_entry entry)).ghost_name) res) (λ last. last.entries) map.now))
+    (lent_on 𝓛 Self P.Map (λ last. last.entries) γ t map.now (λ there. (entry_map_ref there).ghost_name) (λ now. now.entries ≡ t.now.entries) (λ now same. same ∙ as_map) r _ (of_names inner_entry OutOfSystemMemory (λ there. (entry_map_ref there).ghost_name) t.ghost_name r res made same_map)) $
     lands_as ! refl refl (typed_of 𝓛 here_laws res (v ∷ []) is₃).0 $ returns ! (look_at ! 0 refl) $ free_all ! refl $
     suffices ! _ (leaves 𝓛 call stayed c y v res (tt, (tt, tt)) (tt, (tt, tt))) $
-    let is : IfOk res (λ entry. IsPlaceOf o.cmp map.now key (place entry)) = subst (λ entries. IfOk res (λ entry. IsPlaceOf o.cmp entries key (place entry))) as_map (of_place place OutOfSystemMemory (IsPlaceOf o.cmp t.now.entries key) r res made is_place) in
+    let is : IfOk res (λ entry. IsEntryOf o.cmp map.now key (inner_entry entry)) = subst (λ entries. IfOk res (λ entry. IsEntryOf o.cmp entries key (inner_entry entry))) as_map (of_entry inner_entry OutOfSystemMemory (IsEntryOf o.cmp t.now.entries key) r res made is_place) in
     use0 𝓛 (‵ (let_go 2)) (gone 𝓛 2) $ keep ! (3 ∷ 0 ∷ 2 ∷ 1 ∷ []) $ frame ! $ frame ! $ frame ! $ frame ! $
     also ! (each_ok res is (λ entry known. known.0)) $ also ! (each_ok res is (λ entry known. known.1)) $ also ! (each_ok res is (λ entry known. known.2)) $ also ! (each_ok res is (λ entry known. known.3)) $
     also ! (each_ok res is (λ entry known. known.4)) $ also ! (each_ok res is (λ entry known. known.5)) $ also ! (each_ok res is (λ entry known. known.6)) $
-    also ! (subst (λ entries. OnErr res (value_at (eq_by_cmp o.cmp) entries key ≡ None)) as_map (of_absence place OutOfSystemMemory _ r res made is_absent)) $
-    by ! (fact_i 𝓤 _ (emp 𝓤) (of_failure place OutOfSystemMemory r res made))))))))))))
+    also ! (subst (λ entries. OnErr res (value_at (eq_by_cmp o.cmp) entries key ≡ None)) as_map (of_absence inner_entry OutOfSystemMemory _ r res made is_absent)) $
+    by ! (fact_i 𝓤 _ (emp 𝓤) (of_failure inner_entry OutOfSystemMemory r res made))))))))))))

@@ -3,18 +3,18 @@ use Rattle.std.proofs.Math.Nat.{not-le_of_lt}
 use Rattle.std.proofs.lemmas.List.{length-set}
 use Rattle.std.proofs.lemmas.Result.{IfOk-weaker}
 use Rattle.wasmi_collections.specs.Dedup.{in_order}
-use Rattle.wasmi_collections.proofs.Dedup.{in_order-keyed, index-absent}
+use Rattle.wasmi_collections.proofs.Dedup.{in_order-keyed}
 use Rattle.wasmi_collections.proofs.DedupReplace.{position-set_new, position-set_kept, within}
 use Rattle.wasmi_collections.proofs.Results.{ok_unless, on_ok, when_ok}
 use Rattle.wasmi_collections.proofs.arena.dedup.DedupArena.replace.Goals as goal
 
-pub move_key-requires-clause-within : goal.move_key-requires-clause-within
-move_key-requires-clause-within g c =
+pub exchange_at_key-requires-clause-within : goal.exchange_at_key-requires-clause-within
+exchange_at_key-requires-clause-within g c =
     let low = within (g.Key.ArenaKey.keys.number c.args.key) c.self.inside.items.items c.in_ok-there.there.now c.in_ok-there.ensures.item in
     let same = c.self.invariant.1 in omega (arith, low, same)
 
 is_absent : (g : _) (c : goal.After-put-2 g) → position (g.T.PartialEq.eq c.args.value) (in_order g.Key.ArenaKey.keys c.self.inside.index.entries) ≡ None
-is_absent g c = index-absent g.Key.ArenaKey.keys g.T.PartialEq.eq c.self.inside.index.entries (length c.self.inside.items.items) c.args.value c.self.invariant c.in_default.ensures
+is_absent g c = sym c.in_default.ensures
 
 reads_item : (g : _) (c : goal.After-put-2 g) → g.Key.ArenaKey.keys.number c.args.key < length c.self.inside.items.items
 reads_item g c = within (g.Key.ArenaKey.keys.number c.args.key) c.self.inside.items.items c.in_ok-there.there.now c.in_ok-there.ensures.item
@@ -29,11 +29,11 @@ is_ok g c = ok_unless c.put-2.result _ c.put-2.ensures.errors (λ refused. not-l
 is_put : (g : _) (c : goal.After-put-2 g) → c.put-2.new.self.items ≡ slice_set c.self.inside.items.items (g.Key.ArenaKey.keys.number c.args.key) c.in_ok-item.item
 is_put g c = when_ok c.put-2.result (is_ok g c) c.put-2.ensures.ok
 
-handed_is : (g : _) (c : goal.After-put-2 g) → in_order g.Key.ArenaKey.keys c.move_key.new.index.entries
+handed_is : (g : _) (c : goal.After-put-2 g) → in_order g.Key.ArenaKey.keys c.exchange_at_key.new.index.entries
     ≡ slice_set (in_order g.Key.ArenaKey.keys c.self.inside.index.entries) (g.Key.ArenaKey.keys.number c.args.key) c.args.value
 handed_is g c =
     let keys = g.Key.ArenaKey.keys in let handed = in_order keys c.self.inside.index.entries in let n = keys.number c.args.key in
-    in_order-keyed keys g.met.Key.ArenaKey.key_law (slice_set handed n c.args.value) c.move_key.new.index.entries c.in_ok-move_key.ensures.ok.entries_are
+    in_order-keyed keys g.met.Key.ArenaKey.key_law (slice_set handed n c.args.value) c.exchange_at_key.new.index.entries c.in_ok-exchange_at_key.ensures.ok.entries_are
     (rw (length-set handed n c.args.value) (let same = c.self.invariant.1 in let few = c.self.invariant.2 in omega (arith, same, few)))
 
 pub invariant_of-self-2 : goal.invariant_of-self-2
@@ -41,7 +41,7 @@ invariant_of-self-2 g c =
     let keys = g.Key.ArenaKey.keys in let handed = in_order keys c.self.inside.index.entries in let n = keys.number c.args.key in
     let items = c.self.inside.items.items in let same = c.self.invariant.1 in let few = c.self.invariant.2 in
     rw (handed_is g c, is_put g c) (
-      c.in_ok-move_key.ensures.ok,
+      c.in_ok-exchange_at_key.ensures.ok,
       length-set handed n c.args.value ∙ (same ∙ sym (length-set items n c.in_ok-item.item)),
       rw (length-set items n c.in_ok-item.item) few,
     )

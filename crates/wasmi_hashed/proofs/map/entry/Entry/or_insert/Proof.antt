@@ -1,4 +1,4 @@
--- `or_insert` hands on what the inner place lends. Assumes `Logic`.
+-- `or_insert` hands on what the inner entry lends. Assumes `Logic`.
 use Rattle.std.specs.contracts.collections.hash_map.Entry.or_insert as Calls
 use Rattle.std.proofs.collections.hash_map.Entry.or_insert.Met as Called
 use Rattle.wasmi_map_specs.proofs.Walk.{◌≡◌, [], ◌∷◌, Ok, refl, lit<, leaves, unwrap_or, fsep, ftrue, toks, tables, no, rest, bounded, param, param_laws, plain, named_lft, lasts, framed, Stays, walk_of, stay_dropped, Goes-dropped, inst_fn, Args, a_type, dcons, dnil, raw, ◌$◌, ◌∵◌, !, qed, enter, lends_with, spent, ok_val, proved_by, one_of, all_of}

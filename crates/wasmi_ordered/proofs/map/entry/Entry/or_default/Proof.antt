@@ -1,4 +1,4 @@
--- `or_default` hands on what the inner place lends. Assumes `Logic`.
+-- `or_default` hands on what the inner entry lends. Assumes `Logic`.
 use Rattle.std.specs.contracts.collections.btree_map.Entry.or_default as Calls
 use Rattle.std.proofs.collections.btree_map.Entry.or_default.Met as Called
 use Rattle.wasmi_map_specs.proofs.Walk.{[], ◌∷◌, Ok, lit<, leaves, UnwrapsOrElse, ftrue, toks, tables, no, rest, bounded, named_lft, lasts, framed, Stays, walk_of, stay_dropped, inst_fn, Args, a_type, dcons, dnil, raw, ◌$◌, ◌∵◌, !, qed, enter, lends, spent, ok_val, proved_by, one_of, all_of}

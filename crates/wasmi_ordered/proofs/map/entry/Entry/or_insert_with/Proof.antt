@@ -1,4 +1,4 @@
--- `or_insert_with` hands on what the inner place lends. Assumes `Logic`.
+-- `or_insert_with` hands on what the inner entry lends. Assumes `Logic`.
 use Rattle.std.specs.contracts.collections.btree_map.Entry.or_insert_with as Calls
 use Rattle.std.proofs.collections.btree_map.Entry.or_insert_with.Met as Called
 use Rattle.wasmi_map_specs.proofs.Walk.{◌≡◌, [], ◌∷◌, Ok, None, refl, lit<, leaves, UnwrapsOrElse, fsep, ftrue, sep, ◌⊑◌, fact, tables, no, rest, bounded, param, param_laws, plain, named_lft, lasts, framed, Stays, walk_of, stay_dropped, Goes-dropped, inst_fn, Args, a_type, dcons, dnil, raw, ◌$◌, ◌∵◌, !, qed, enter, lends_with, spent, ok_val, proved_by, one_of, but_last, front, shares}

@@ -1,4 +1,4 @@
--- `into_mut` hands on what the inner place lends. Assumes `Logic`.
+-- `into_mut` hands on what the inner entry lends. Assumes `Logic`.
 use Rattle.std.specs.contracts.collections.btree_map.OccupiedEntry.into_mut as Calls
 use Rattle.std.proofs.collections.btree_map.OccupiedEntry.into_mut.Met as Called
 use Rattle.wasmi_map_specs.proofs.Walk.{◌≡◌, [], ◌∷◌, leaves, Some, ftrue, toks, tables, no, rest, bounded, named_lft, lasts, framed, Stays, walk_of, stay_dropped, inst_fn, Args, a_type, dcons, dnil, raw, ◌$◌, ◌∵◌, !, qed, enter, lends_bare, spent, proved_by, one_of, all_of}
