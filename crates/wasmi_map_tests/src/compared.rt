@@ -125,6 +125,20 @@ fn a_test_of_two_sets_is_linear(rt: HostRuntime) {
     assert_equal!(rt; answers, (true, true));
     let answers = (one.is_disjoint(&behind), notes.compared() <= 200);
     assert_equal!(rt; answers, (true, true));
+    // Of one the even numbers, of the other the odd ones.
+    let mut even: Set<Noted<'_>> = Set::new(rt.alloc());
+    let mut odd: Set<Noted<'_>> = Set::new(rt.alloc());
+    for number in 0..1_000u32 {
+        let element = Noted::new(number, &notes);
+        if number % 2 == 0 {
+            even.insert(element).expect(&rt, "");
+        } else {
+            odd.insert(element).expect(&rt, "");
+        }
+    }
+    notes.compared();
+    let answers = (even.is_disjoint(&odd), notes.compared() <= 1_004);
+    assert_equal!(rt; answers, (true, true));
 }
 
 #[test]
