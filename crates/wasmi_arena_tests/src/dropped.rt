@@ -8,6 +8,32 @@ use wasmi_vectors::observed::{Log, Observed};
 use wasmi_vectors::tally::{Item, Tally};
 use wasmi_vectors::tiny::Tiny;
 
+// Each end gives a bucket back as it goes on to the next.
+#[test]
+fn a_bucket_that_is_left_is_given_back(rt: HostRuntime) {
+    for (from_front, first, second) in [(true, 32, 96), (false, 128, 192)] {
+        let log = Log::new();
+        let mut vec: StableVec<u32, Observed<'_>> = StableVec::new(Observed::new(rt.alloc(), &log));
+        vec.extend(0..224u32).expect(&rt, "");
+        let mut items = vec.into_iter();
+        for taken in 0..224u32 {
+            let item = if from_front {
+                items.next()
+            } else {
+                items.next_back()
+            };
+            let left = if taken < first {
+                0
+            } else if taken < second {
+                1
+            } else {
+                2
+            };
+            assert_equal!(rt; (item.is_some(), log.returned()), (true, left), "at {taken}");
+        }
+    }
+}
+
 #[test]
 fn a_hundred_items_are_cloned_and_dropped_once(rt: HostRuntime) {
     let (log, tally) = (Log::new(), Tally::new());

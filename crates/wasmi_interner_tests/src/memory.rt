@@ -286,6 +286,20 @@ fn a_text_that_is_there_needs_no_memory(rt: HostRuntime) {
     }
 }
 
+// A text as long as the room for texts, whatever the hint.
+#[test]
+fn a_long_text_that_is_there_needs_no_memory(rt: HostRuntime) {
+    let log = Log::new();
+    let mut interner = StringInterner::new(Logged::new(rt.alloc(), &log));
+    assert_equal!(rt; interner.get_or_intern(LONG), Ok(Sym::from_u32(0)));
+    let asked = log.requests();
+    log.refuse_from(1);
+    for hint in HINTS {
+        let symbol = interner.get_or_intern_with_hint(LONG, hint);
+        assert_equal!(rt; (symbol, log.requests()), (Ok(Sym::from_u32(0)), asked));
+    }
+}
+
 // The request for its bytes is refused. One for where it lies is in `a_refused_text_changes_nothing`.
 #[test]
 fn a_third_text_is_refused(rt: HostRuntime) {

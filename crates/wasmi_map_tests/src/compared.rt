@@ -179,8 +179,9 @@ fn a_call_searches_once(rt: HostRuntime) {
     let notes = Notes::new();
     let mut map: Map<Noted<'_>, u32> = Map::new(rt.alloc());
     for number in 0..80u32 {
-        let [read, indexed, inserted] =
-            compared_by_a_call(&mut map, &notes, number / 2).expect(&rt, "");
+        let [read, indexed, inserted] = compared_by_a_call(&mut map, &notes, number / 2).expect(
+            &rt, "",
+        );
         assert_equal!(rt; (indexed, inserted), (read, read), "of {number}");
     }
 }
@@ -216,8 +217,10 @@ fn maps_of_two_lengths_differ_at_once(rt: HostRuntime) {
     let more = Map::from_iter(rt.alloc(), pairs(&notes, 101)).expect(&rt, "");
     notes.compared();
     assert_equal!(rt; (one == more, more == one, notes.compared()), (false, false, 0));
-    let one: hashed::Map<Noted<'_>, u32> =
-        hashed::Map::from_iter(rt.alloc(), pairs(&notes, 100)).expect(&rt, "");
+    let one: hashed::Map<Noted<'_>, u32> = hashed::Map::from_iter(
+        rt.alloc(),
+        pairs(&notes, 100),
+    ).expect(&rt, "");
     let more = hashed::Map::from_iter(rt.alloc(), pairs(&notes, 101)).expect(&rt, "");
     notes.hashed();
     assert_equal!(rt; (one == more, more == one, notes.hashed()), (false, false, 0));

@@ -69,6 +69,15 @@ fn other_writings(rt: HostRuntime) {
             b"\0asm\x01\0\0\0\0\x02\x01a\x05\x03\x01\0\x02\0\0\0\0\x0a\x01\0\0\x01\xff".as_slice(),
             1,
         ),
+        // Before each of the others and behind them all.
+        (
+            b"\0asm\x01\0\0\0\0\x02\x01a\x01\x01\0\0\x02\x01a\x02\x01\0\0\x02\x01a\x03\x01\0\
+              \0\x02\x01a\x04\x01\0\0\x02\x01a\x05\x03\x01\0\x02\0\x02\x01a\x06\x01\0\0\x02\x01a\x07\x01\0\
+              \0\x02\x01a\x08\x01\0\0\x02\x01a\x09\x01\0\0\x02\x01a\x0c\x01\0\0\x02\x01a\x0a\x01\0\
+              \0\x02\x01a\x0b\x01\0\0\x02\x01a"
+                .as_slice(),
+            1,
+        ),
         // A length, a count and a number of more bytes than they need.
         (
             b"\0asm\x01\0\0\0\x05\x8b\x80\x80\x80\0\x81\x80\x80\x80\0\0\x82\x80\x80\x80\0".as_slice(),
