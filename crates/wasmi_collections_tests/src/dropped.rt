@@ -53,6 +53,16 @@ fn set_commands<'a, 'l>(
     Ok(commands)
 }
 
+#[test]
+fn a_value_is_cloned_where_it_is_new(rt: HostRuntime) {
+    let notes = Notes::new();
+    let values = [1, 2, 1].map(|number| Noted::new(number, &notes));
+    let arena: DedupArena<usize, Noted<'_>> = DedupArena::from_iter(rt.alloc(), values).expect(
+        &rt, "",
+    );
+    assert_equal!(rt; (arena.len(), notes.cloned()), (2, 2));
+}
+
 // Whether a run of one of the two maps ends well, whose nth request is refused.
 fn map_runs(is_hashed: bool, log: &Log, nth: u64, commands: MapCommands<'_, '_>) -> bool {
     let heap = *commands.allocator();

@@ -111,9 +111,9 @@ fn sets_reply_as_the_table_says(rt: HostRuntime) {
     );
 }
 
-// To insert the keys 0 to 19, by both commands for it in turn.
+// To insert the keys 0 to 27, by both commands for it in turn.
 fn inserts<'l>(heap: Logged<'l>) -> Result<Vec<MapCommand<u32, u32>, Logged<'l>>, AllocError> {
-    (0..20u32)
+    (0..28u32)
         .map(|key| match key % 2 {
             0 => MapCommand::Insert(key, key),
             _ => MapCommand::OrInsert(key, key),
@@ -140,7 +140,7 @@ fn refused_in_map<M: AnyMap<u32, u32>>(
         Err(error) => return Err(error),
     };
     let mut refused = 0usize;
-    for (key, reply) in (0..20u32).zip(replies.iter()) {
+    for (key, reply) in (0..28u32).zip(replies.iter()) {
         let is_in = match reply {
             MapReply::Old(None) | MapReply::Has(false) => true,
             MapReply::Refused(ArenaError::OutOfSystemMemory) => false,
@@ -154,20 +154,20 @@ fn refused_in_map<M: AnyMap<u32, u32>>(
             let _none = map.insert(key, key)?;
         }
     }
-    // What is there needs no memory.
+    // What is there needs no memory, also where a hashed map is full.
     log.refuse_from(1);
-    for key in 0..20u32 {
+    for key in 0..28u32 {
         if map.insert(key, key)? != Some(key) || !map.or_insert(key, 0)? {
             return Ok(None);
         }
     }
     log.refuse_none();
-    Ok((map.len() == 20 && replies.len() == 20).then_some((failed, refused)))
+    Ok((map.len() == 28 && replies.len() == 28).then_some((failed, refused)))
 }
 
 // The same of the elements of a set.
 fn adds<'l>(heap: Logged<'l>) -> Result<Vec<SetCommand<u32>, Logged<'l>>, AllocError> {
-    (0..20u32)
+    (0..28u32)
         .map(|element| SetCommand::Insert(element))
         .collect(heap)
 }
@@ -186,7 +186,7 @@ fn refused_in_set<S: AnySet<u32>>(
         Err(error) => return Err(error),
     };
     let mut refused = 0usize;
-    for (element, reply) in (0..20u32).zip(replies.iter()) {
+    for (element, reply) in (0..28u32).zip(replies.iter()) {
         let is_in = match reply {
             SetReply::Flag(true) => true,
             SetReply::Refused(ArenaError::OutOfSystemMemory) => false,
@@ -200,7 +200,7 @@ fn refused_in_set<S: AnySet<u32>>(
             let _new = set.insert(element)?;
         }
     }
-    Ok((set.len() == 20 && replies.len() == 20).then_some((failed, refused)))
+    Ok((set.len() == 28 && replies.len() == 28).then_some((failed, refused)))
 }
 
 // The same of each container in turn, of the four in this order.

@@ -186,12 +186,14 @@ fn a_call_searches_once(rt: HostRuntime) {
     }
 }
 
-// A read, an index and a `try_insert` of a hashed map, of a key that is there or isn't.
+// A read, an index and a `try_insert` of a hashed map, of a key that is there or isn't; `replace` of an element that is.
 #[test]
 fn a_call_hashes_once(rt: HostRuntime) {
     let notes = Notes::new();
     let mut map: hashed::Map<Noted<'_>, u32> = hashed::Map::new(rt.alloc());
+    let mut set: hashed::Set<Noted<'_>> = hashed::Set::new(rt.alloc());
     map.reserve(100).expect(&rt, "");
+    set.reserve(100).expect(&rt, "");
     for number in 0..80u32 {
         let key = Noted::new(number / 2, &notes);
         notes.hashed();
@@ -202,6 +204,9 @@ fn a_call_hashes_once(rt: HostRuntime) {
         }
         let back = map.try_insert(key, number / 2).expect(&rt, "");
         assert_equal!(rt; (back.is_err(), notes.hashed()), (there, 1), "of {number}");
+        let old = set.replace(Noted::new(number / 2, &notes)).expect(&rt, "");
+        assert!(rt; notes.hashed() == 1 || !there, "of {number}");
+        assert_equal!(rt; old.is_some(), there, "of {number}");
     }
 }
 
