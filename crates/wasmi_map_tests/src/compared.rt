@@ -210,25 +210,29 @@ fn a_call_hashes_once(rt: HostRuntime) {
     }
 }
 
-// Of 0 to `len`, once to be inserted.
-fn pairs<'a>(notes: &'a Notes, len: u32) -> impl Iterator<Item = (Noted<'a>, u32)> {
-    (0..len).map(move |key| (Noted::new(key, notes), key))
-}
-
 #[test]
 fn maps_of_two_lengths_differ_at_once(rt: HostRuntime) {
     let notes = Notes::new();
-    let one: Map<Noted<'_>, u32> = Map::from_iter(rt.alloc(), pairs(&notes, 100)).expect(&rt, "");
-    let more = Map::from_iter(rt.alloc(), pairs(&notes, 101)).expect(&rt, "");
+    let mut one: Map<Noted<'_>, u32> = Map::new(rt.alloc());
+    let mut more: Map<Noted<'_>, u32> = Map::new(rt.alloc());
+    let mut hashed_one: hashed::Map<Noted<'_>, u32> = hashed::Map::new(rt.alloc());
+    let mut hashed_more: hashed::Map<Noted<'_>, u32> = hashed::Map::new(rt.alloc());
+    for key in 0..101u32 {
+        more.insert(Noted::new(key, &notes), key).expect(&rt, "");
+        hashed_more
+            .insert(Noted::new(key, &notes), key)
+            .expect(&rt, "");
+        if key < 100 {
+            one.insert(Noted::new(key, &notes), key).expect(&rt, "");
+            hashed_one
+                .insert(Noted::new(key, &notes), key)
+                .expect(&rt, "");
+        }
+    }
     notes.compared();
     assert_equal!(rt; (one == more, more == one, notes.compared()), (false, false, 0));
-    let one: hashed::Map<Noted<'_>, u32> = hashed::Map::from_iter(
-        rt.alloc(),
-        pairs(&notes, 100),
-    ).expect(&rt, "");
-    let more = hashed::Map::from_iter(rt.alloc(), pairs(&notes, 101)).expect(&rt, "");
     notes.hashed();
-    assert_equal!(rt; (one == more, more == one, notes.hashed()), (false, false, 0));
+    assert_equal!(rt; (hashed_one == hashed_more, hashed_more == hashed_one, notes.hashed()), (false, false, 0));
 }
 
 // The hashed set of the elements from one number on, so many of them.
