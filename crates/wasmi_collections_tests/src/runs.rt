@@ -155,11 +155,15 @@ fn refused_in_map<M: AnyMap<u32, u32>>(
         }
     }
     // What is there needs no memory, also where a hashed map is full.
+    let asked = log.requests();
     log.refuse_from(1);
     for key in 0..28u32 {
         if map.insert(key, key)? != Some(key) || !map.or_insert(key, 0)? {
             return Ok(None);
         }
+    }
+    if log.requests() != asked {
+        return Ok(None);
     }
     log.refuse_none();
     Ok((map.len() == 28 && replies.len() == 28).then_some((failed, refused)))
