@@ -1,6 +1,6 @@
 -- What the keys of a deduplicating arena read, and how values are found by them.
 -- for src/arena/dedup.rt, src/arena/dedup/by_text.rt, src/laws/dedup.rt
-use Rattle.std.proofs.Common.{All, ◌≡◌, ◌≢◌, ℕ, zero, suc, ◌+◌, ◌<◌, ◌≤◌, ◌==◌, Bool, true, false, cond, List, [], ◌∷◌, ◌++◌, length, map, Option, Some, None, IfSome, IfOk, OnErr, Result, Ok, Err, option_map, position, get_or, slice_get, inl, inr, refl, sym, ap, subst, ◌∙◌, is_some, true≢false, arith}
+use Rattle.std.proofs.Common.{All, ◌≡◌, ℕ, zero, suc, ◌+◌, ◌<◌, ◌≤◌, ◌==◌, Bool, true, false, cond, List, [], ◌∷◌, ◌++◌, length, map, Option, Some, None, IfSome, IfOk, OnErr, Result, Ok, Err, option_map, position, get_or, slice_get, refl, sym, ap, subst, ◌∙◌, is_some, true≢false, arith}
 use Rattle.std.specs.Cmp.{IsEquivalence}
 use Rattle.std.specs.List.{AllByRecursion, IsDistinct, position_from}
 use Rattle.std.proofs.lemmas.Bool.{false_from_ne_true}
@@ -10,10 +10,9 @@ use Rattle.std.proofs.lemmas.List.{map-append}
 use Rattle.std.proofs.lemmas.List.Elements.{All-head, All-tail}
 use Rattle.std.proofs.lemmas.List.Quantifiers.{position-Some}
 use Rattle.std.proofs.lemmas.Map.Keys.{IsDistinct-head, IsDistinct-tail}
-use Rattle.std.proofs.lemmas.Option.{get_or_from_slice_get, none-some, same_Some, slice_get-get_or}
+use Rattle.std.proofs.lemmas.Option.{none-some, same_Some, slice_get-get_or}
 use Rattle.wasmi_arena.specs.Keys.{Keys, KeyLaw}
-use Rattle.wasmi_map_specs.specs.Maps.{value_at}
-use Rattle.wasmi_collections.specs.Dedup.{DedupState, AddsValue, AllocatesValue, IsIndex}
+use Rattle.wasmi_collections.specs.Dedup.{DedupState, AddsValue}
 use Rattle.wasmi_collections.proofs.DedupRuns.{hits}
 
 -- what is found first is there, and passes

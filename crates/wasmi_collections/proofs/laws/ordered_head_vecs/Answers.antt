@@ -1,4 +1,4 @@
-use Rattle.std.proofs.Common.{refl, ◌∙◌, [], ◌∷◌, ◌++◌}
+use Rattle.std.proofs.Common.{refl, ◌∙◌}
 use Rattle.wasmi_collections.specs.HeadVec.{head_cmp}
 use Rattle.wasmi_collections.specs.HeadVecLaws.{last_item-append, before_last-append}
 use Rattle.wasmi_collections.proofs.laws.ordered_head_vecs.Goals as goal
