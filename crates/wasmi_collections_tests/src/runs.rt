@@ -154,7 +154,7 @@ fn refused_in_map<M: AnyMap<u32, u32>>(
             let _none = map.insert(key, key)?;
         }
     }
-    // What is there needs no memory, also where a hashed map is full.
+    // What is there needs no memory, and none is asked for.
     let asked = log.requests();
     log.refuse_from(1);
     for key in 0..28u32 {
