@@ -145,7 +145,7 @@ impl<T, A: Allocator> HeadVec<T, A> {
 }
 
 impl<T: Clone, A: Allocator> HeadVec<T, A> {
-    /// A clone of each item, in order, in a list over a clone of the allocator. Linear.
+    /// A list of a clone of each item, over a clone of the allocator. Linear.
     ///
     /// Fails with `OutOfSystemMemory` if there is no memory for the items before the last, or the clone
     /// of an item or of the allocator fails.

@@ -235,3 +235,18 @@ fn runs_over_maps_and_sets_go_on_after_a_refusal(rt: HostRuntime) {
         }
     }
 }
+
+// Whether there is room for one more isn't asked where the key is there.
+#[test]
+fn a_full_hashed_map_stays_as_it_is(rt: HostRuntime) {
+    let log = Log::new();
+    let mut map = hashed::Map::new(Logged::new(rt.alloc(), &log));
+    map.reserve(100).expect(&rt, "");
+    let room = map.capacity();
+    for key in 0..room {
+        assert_equal!(rt; map.insert(key, key), Ok(None));
+    }
+    let asked = log.requests();
+    assert_equal!(rt; (map.or_insert(0, 1), map.capacity()), (Ok(true), room));
+    assert_equal!(rt; log.requests(), asked);
+}

@@ -5,6 +5,30 @@ use wasmi_vectors::assert_equal;
 use wasmi_vectors::logged::Logged;
 use wasmi_vectors::observed::Log;
 
+// The value of an entry that was taken out.
+fn value_of<K: Drop>(taken: Option<(K, i32)>) -> Option<i32> {
+    match taken {
+        Some((_, value)) => Some(value),
+        None => None,
+    }
+}
+
+// Whether this text was taken out.
+fn is_text(taken: Option<String<Logged<'_>>>, text: &str) -> bool {
+    match taken {
+        Some(taken) => taken.as_str() == text,
+        None => false,
+    }
+}
+
+// Whether these items were.
+fn is_slice(taken: Option<Vec<u8, Logged<'_>>>, items: &[u8]) -> bool {
+    match taken {
+        Some(taken) => taken.as_slice() == items,
+        None => false,
+    }
+}
+
 // Of a new map and a new set. Every request is refused once three texts are in.
 macro_rules! by_text {
     ($rt:ident, $log:ident, $heap:ident, $map:expr, $set:expr) => {{
@@ -24,14 +48,14 @@ macro_rules! by_text {
         if map.contains_key_str("a") {
             assert_equal!($rt; map["a"], 11);
         }
-        let entry = map.get_key_value_str("ab").map(|(key, value)| (key.as_str(), *value));
-        assert_equal!($rt; entry, Some(("ab", 3)));
+        let entry = map.get_key_value_str("ab");
+        assert!($rt; entry.is_some_and(|(key, value)| (key.as_str(), *value) == ("ab", 3)));
         assert_equal!($rt; (map.remove_str(""), map.remove_str("b")), (Some(0), None));
-        assert!($rt; map.remove_entry_str("ab").is_some_and(|(_, value)| value == 3));
+        assert_equal!($rt; value_of(map.remove_entry_str("ab")), Some(3));
         assert_equal!($rt; (map.len(), map.get_key_value_str("ab").is_some()), (1, false));
         assert_equal!($rt; (set.contains_str("a"), set.contains_str("b")), (true, false));
         assert!($rt; set.get_str("ab").is_some_and(|there| there.as_str() == "ab"));
-        assert!($rt; set.take_str("ab").is_some_and(|taken| taken.as_str() == "ab"));
+        assert!($rt; is_text(set.take_str("ab"), "ab"));
         assert_equal!($rt; (set.remove_str(""), set.remove_str("b"), set.len()), (true, false, 1));
         $log.refuse_none();
     }};
@@ -75,13 +99,13 @@ macro_rules! by_slice {
         }
         assert_equal!($rt; (map.get_slice(one), map.get_slice(none)), (Some(&11), None));
         assert_equal!($rt; (map.contains_key_slice(other), map.contains_key_slice(none)), (true, false));
-        let entry = map.get_key_value_slice(other).map(|(key, value)| (key.as_slice(), *value));
-        assert_equal!($rt; entry, Some((other, 3)));
+        let entry = map.get_key_value_slice(other);
+        assert!($rt; entry.is_some_and(|(key, value)| (key.as_slice(), *value) == (other, 3)));
         assert_equal!($rt; (map.remove_slice(one), map.remove_slice(none)), (Some(11), None));
-        assert!($rt; map.remove_entry_slice(other).is_some_and(|(_, value)| value == 3));
+        assert_equal!($rt; value_of(map.remove_entry_slice(other)), Some(3));
         assert_equal!($rt; (map.len(), set.contains_slice(one), set.contains_slice(none)), (0, true, false));
         assert!($rt; set.get_slice(other).is_some_and(|there| there.as_slice() == other));
-        assert!($rt; set.take_slice(other).is_some_and(|taken| taken.as_slice() == other));
+        assert!($rt; is_slice(set.take_slice(other), other));
         assert_equal!($rt; (set.remove_slice(one), set.remove_slice(none), set.len()), (true, false, 0));
         $log.refuse_none();
     }};

@@ -1,8 +1,8 @@
 //! Calls on an `Arena`, a `StableArena` and a `DedupArena`. A line names a key by its number.
 
 use crate::answers::{Answer, Reply, done, item, keep, lent, overwritten, shown};
-use crate::counted::Counted;
 use crate::format::{Number, Numbered, Plain, Renewed};
+use crate::items::Consecutive;
 use crate::line::Line;
 use crate::pair_key::PairKey;
 use crate::replay::Container;
@@ -79,7 +79,7 @@ macro_rules! answer {
             ["next_key"] => number($arena.next_key()),
             ["alloc", item] => number($arena.alloc(read(item)?)),
             ["from_iter", first, count] => {
-                let items = Counted::read(first, count)?;
+                let items = Consecutive::read(first, count)?;
                 keep(Self::from_iter($alloc, items), $arena)
             }
             _ => return $arena.answer_own($words, $out),

@@ -18,9 +18,9 @@
 mod answers;
 mod arena;
 mod component_vec;
-mod counted;
 mod format;
 mod head_vec;
+mod items;
 mod line;
 mod lines;
 mod map;

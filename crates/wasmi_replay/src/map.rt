@@ -1,8 +1,8 @@
 //! Calls on a `Map` of either backing.
 
 use crate::answers::{Answer, Reply, done, found, item, keep, overwritten, shown, written};
-use crate::counted::Pairs;
 use crate::format::{Pair, Plain, Raised};
+use crate::items::Pairs;
 use crate::line::Line;
 use crate::replay::Container;
 use crate::table::answer_table;

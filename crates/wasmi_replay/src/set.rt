@@ -1,8 +1,8 @@
 //! Calls on a `Set` of either backing.
 
 use crate::answers::{Answer, Reply, done, found, keep, shown};
-use crate::counted::Pairs;
 use crate::format::Plain;
+use crate::items::Pairs;
 use crate::line::Line;
 use crate::replay::Container;
 use crate::table::answer_table;

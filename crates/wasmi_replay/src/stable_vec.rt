@@ -1,8 +1,8 @@
 //! Calls on a `StableVec`.
 
 use crate::answers::{Answer, Reply, done, item, keep, shown, written};
-use crate::counted::Counted;
 use crate::format::{Bucket, Plain, Renewed};
+use crate::items::Consecutive;
 use crate::line::Line;
 use crate::replay::Container;
 use crate::walk::{Left, walk_steps, write_all};
@@ -10,7 +10,8 @@ use crate::words::{read, steps_of};
 use std::alloc::Global;
 use std::hash::{DefaultHasher, Hash, Hasher};
 use wasmi_arena::{
-    MAX_LEN, StableVec, StableVecIter, StableVecIterMut, StableVecSlices, StableVecSlicesMut,
+    BUCKETS, MAX_LEN, StableVec, StableVecIter, StableVecIterMut, StableVecSlices,
+    StableVecSlicesMut,
 };
 
 impl<'a> Left for StableVecIter<'a, i64> {
@@ -55,9 +56,9 @@ impl Container for StableVec<i64> {
                 Err(error) => Answer::Error(error),
             },
             ["pop"] => Answer::Item(self.pop()),
-            ["extend", first, count] => done(self.extend(Counted::read(first, count)?)),
+            ["extend", first, count] => done(self.extend(Consecutive::read(first, count)?)),
             ["from_iter", first, count] => {
-                let items = Counted::read(first, count)?;
+                let items = Consecutive::read(first, count)?;
                 keep(StableVec::from_iter(alloc, items), self)
             }
             ["clone"] => keep(self.clone(), other),
@@ -140,7 +141,7 @@ pub fn answer_place(vec: &StableVec<i64>, words: &[&str], out: &mut Line) -> Rep
         }
         ["size_of_bucket_at", number] => {
             let number: usize = read(number)?;
-            if number < 27 {
+            if number < BUCKETS {
                 Answer::Number(StableVec::<i64>::size_of_bucket_at(number))
             } else {
                 Answer::Word("none")

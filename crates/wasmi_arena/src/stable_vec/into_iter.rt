@@ -12,8 +12,8 @@ use std::marker::Model;
 
 /// The items of a [`StableVec`](crate::StableVec) that are left to take out, in order, from both ends.
 ///
-/// No item moves but out. A bucket is given back once the end that took its items out of it goes on
-/// to the next, and the others with the iterator, which drops the items that are left.
+/// No item moves but out. A bucket is given back once the end that took its items out of it opens
+/// another, and the others with the iterator, which drops the items that are left.
 #[derive(Drop)]
 pub struct StableVecIntoIter<T, A: Allocator = Global> {
     // What is left of the bucket that is taken from at the front.

@@ -6,22 +6,22 @@ use crate::words::read;
 
 /// So many numbers, each one more than the one before, and `i64::MIN` after `i64::MAX`.
 #[derive(Clone, Copy)]
-pub struct Counted {
+pub struct Consecutive {
     pub next: i64,
     pub left: u16,
 }
 
-impl Counted {
+impl Consecutive {
     /// Of two words: the first number, and how many there are.
-    pub fn read(first: &str, count: &str) -> Result<Counted, Answer> {
-        Ok(Counted {
+    pub fn read(first: &str, count: &str) -> Result<Consecutive, Answer> {
+        Ok(Consecutive {
             next: read(first)?,
             left: read(count)?,
         })
     }
 }
 
-impl Iterator for Counted {
+impl Iterator for Consecutive {
     type Item = i64;
 
     ghost remaining = { λ items. at_most items.left };
