@@ -1,4 +1,4 @@
-//! Each container's `{:#?}`: a line for each item.
+//! Each container's `{:#?}`: a line for each item; and how long the text of many items is.
 use std::alloc::Global;
 use std::fmt::{self, Debug, Write};
 use std::process::Abort;
@@ -86,4 +86,54 @@ fn lists_maps_and_sets_print_a_line_for_each_item(rt: HostRuntime) {
         &hashed::Map::from_iter(alloc, [(0, 7)]).expect(&rt, ""),
         entries,
     );
+}
+
+// A writer that tells how much was written.
+#[derive(Drop)]
+struct Length {
+    bytes: usize,
+}
+
+impl Write for Length {
+    fn write_str(&mut self, text: &str) -> fmt::Result {
+        self.bytes = self.bytes.wrapping_add(text.len());
+        Ok(())
+    }
+}
+
+// How many bytes the text of a container has.
+fn len_of<T: Debug>(container: &T) -> usize {
+    let mut length = Length { bytes: 0 };
+    let _ = write!(length, "{container:?}");
+    length.bytes
+}
+
+// The items 0 to 99,999, which are their own keys.
+#[test]
+fn all_of_many_items_are_printed(rt: HostRuntime) {
+    const ITEMS: usize = 688_890;
+    const ENTRIES: usize = 1_377_780;
+    let alloc = rt.alloc();
+    let arena: StableArena<usize, usize> = StableArena::from_iter(alloc, 0..100_000).expect(&rt, "");
+    assert_equal!(rt; (len_of(arena.items()), len_of(&arena)), (ITEMS, ENTRIES));
+    let arena: Arena<usize, usize> = Arena::from_iter(alloc, 0..100_000).expect(&rt, "");
+    assert_equal!(rt; len_of(&arena), ENTRIES);
+    let arena: DedupArena<usize, usize> = DedupArena::from_iter(alloc, 0..100_000).expect(&rt, "");
+    assert_equal!(rt; len_of(&arena), ENTRIES);
+    let mut components: ComponentVec<usize, usize> = ComponentVec::new(alloc);
+    let (mut list, mut names) = (HeadVec::new(alloc), StringInterner::new(alloc));
+    let (mut tree, mut table) = (ordered::Map::new(alloc), hashed::Map::new(alloc));
+    for number in 0..100_000usize {
+        components.set(number, number).expect(&rt, "");
+        list.push(number).expect(&rt, "");
+        let name = format!(in alloc; "{number}").expect(&rt, "");
+        names.get_or_intern(name.as_str()).expect(&rt, "");
+        tree.insert(number, number).expect(&rt, "");
+        table.insert(number, number).expect(&rt, "");
+    }
+    assert_equal!(rt; (len_of(&components), len_of(&list)), (ENTRIES + 29, ITEMS));
+    assert_equal!(rt; (len_of(&tree), len_of(&table), len_of(&names)), (ENTRIES, ENTRIES, ITEMS + 200_000));
+    let set: ordered::Set<usize> = ordered::Set::from_iter(alloc, 0..100_000).expect(&rt, "");
+    let hashed: hashed::Set<usize> = hashed::Set::from_iter(alloc, 0..100_000).expect(&rt, "");
+    assert_equal!(rt; (len_of(&set), len_of(&hashed)), (ITEMS, ITEMS));
 }

@@ -103,6 +103,13 @@ fn many_that_come_one_by_one_ask_seldom(rt: HostRuntime) {
         assert_equal!(rt; arena.alloc(7), Ok(number));
     }
     assert_equal!(rt; log.requests(), 21);
+    let log = Log::new();
+    let handle = Observed::new(rt.alloc(), &log);
+    let mut components: ComponentVec<usize, u64, Observed<'_>> = ComponentVec::new(handle);
+    for number in 0..1_048_577usize {
+        assert_equal!(rt; components.set(number, 7), Ok(None));
+    }
+    assert_equal!(rt; log.requests(), 20);
 }
 
 #[test]
@@ -172,6 +179,8 @@ fn each_component_is_dropped_once(rt: HostRuntime) {
     assert_equal!(rt; (refused.dropped().0, components.extent()), (2, 131_072));
     components.clear();
     assert_equal!(rt; (tally.dropped(), refused.dropped().0), ((131_072, 131_072), 3));
+    // The block is kept: there is room for as many again, and no more memory.
+    assert!(rt; components.set(131_071, Item::new(&refused, 2)).is_ok());
     drop(components);
     assert_equal!(rt; (tally.dropped(), log.amiss()), ((131_072, 131_072), 0));
 }

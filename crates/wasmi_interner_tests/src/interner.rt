@@ -51,6 +51,20 @@ fn shorter_texts_come_first(rt: HostRuntime) {
     assert_equal!(rt; ("é".as_bytes(), LenOrder::new("bb").as_str()), ([0xc3, 0xa9].as_slice(), "bb"));
 }
 
+// Where these differ, no byte is read of texts of megabytes.
+#[test]
+fn lengths_are_compared_first(rt: HostRuntime) {
+    let text = "x".repeat(rt.alloc(), 4_194_304).expect(&rt, "");
+    let mut less = 0u32;
+    for start in 0..1_000_000usize {
+        let (text, rest) = (text.as_str().get(start..), text.as_str().get(start + 1..));
+        if text.is_some_and(|text| rest.is_some_and(|rest| LenOrder::new(rest) < LenOrder::new(text))) {
+            less = less.wrapping_add(1);
+        }
+    }
+    assert_equal!(rt; less, 1_000_000);
+}
+
 // Symbols are numbers, in their order.
 #[test]
 fn symbols_are_numbers(rt: HostRuntime) {

@@ -141,19 +141,6 @@ fn a_test_of_two_sets_is_linear(rt: HostRuntime) {
     assert_equal!(rt; answers, (true, true));
 }
 
-#[test]
-fn a_slice_is_hashed_once(rt: HostRuntime) {
-    let notes = Notes::new();
-    let mut set: hashed::Set<Vec<Noted<'_>>> = hashed::Set::new(rt.alloc());
-    let element = Vec::from_array(rt.alloc(), [Noted::new(1, &notes)]).expect(&rt, "");
-    set.insert(element).expect(&rt, "");
-    let one = [Noted::new(1, &notes)];
-    notes.hashed();
-    assert_equal!(rt; (set.contains_slice(one.as_slice()), notes.hashed()), (true, 1));
-    assert_equal!(rt; (set.get_slice(one.as_slice()).is_some(), notes.hashed()), (true, 1));
-    assert_equal!(rt; (set.take_slice(one.as_slice()).is_some(), notes.hashed()), (true, 1));
-}
-
 // Of an ordered map: `try_insert` and an index beside a read of the key.
 fn compared_by_a_call<'a>(
     map: &mut Map<Noted<'a>, u32>,

@@ -6,6 +6,8 @@ mod compared;
 #[cfg(test)]
 mod entries;
 #[cfg(test)]
+mod hashes;
+#[cfg(test)]
 mod kept;
 #[cfg(test)]
 mod large;
