@@ -105,6 +105,11 @@ fn many_that_come_one_by_one_ask_seldom(rt: HostRuntime) {
     assert_equal!(rt; log.requests(), 21);
     let log = Log::new();
     let handle = Observed::new(rt.alloc(), &log);
+    let collected = Arena::<usize, u64, Observed<'_>>::from_iter(handle, 0..2_097_153u64);
+    assert_equal!(rt; collected.expect(&rt, "").room(), 2_097_151);
+    assert_equal!(rt; log.requests(), 21);
+    let log = Log::new();
+    let handle = Observed::new(rt.alloc(), &log);
     let mut components: ComponentVec<usize, u64, Observed<'_>> = ComponentVec::new(handle);
     for number in 0..1_048_577usize {
         assert_equal!(rt; components.set(number, 7), Ok(None));
