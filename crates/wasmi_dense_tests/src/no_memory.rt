@@ -48,8 +48,9 @@ fn an_arena_with_room_needs_no_memory(rt: HostRuntime) {
         assert_equal!(rt; (arena.reserve(more), arena.room()), (Ok(()), room));
     }
     assert_equal!(rt; numbers(arena.alloc_many(4)), Ok((0, 4)));
-    assert_equal!(rt; numbers(arena.alloc_many(room.saturating_sub(4))), Ok((4, room)));
-    assert_equal!(rt; (arena.room(), arena.into_iter().len(), log.requests()), (0, room, 2));
+    let last = room.saturating_sub(1);
+    assert_equal!(rt; numbers(arena.alloc_many(room.saturating_sub(5))), Ok((4, last)));
+    assert_equal!(rt; (arena.room(), arena.into_iter().len(), log.requests()), (1, last, 2));
     assert_equal!(rt; (log.given(), log.amiss()), (1, 0));
 }
 

@@ -118,7 +118,9 @@ fn a_test_of_two_sets_is_linear(rt: HostRuntime) {
     let one = elements(rt.alloc(), 0, 100, &notes).expect(&rt, "");
     let other = elements(rt.alloc(), 0, 101, &notes).expect(&rt, "");
     let behind = elements(rt.alloc(), 100, 100, &notes).expect(&rt, "");
+    let same = elements(rt.alloc(), 0, 100, &notes).expect(&rt, "");
     notes.compared();
+    assert_equal!(rt; (one == same, notes.compared()), (true, 100));
     let answers = (one.is_subset(&other), notes.compared() <= 201);
     assert_equal!(rt; answers, (true, true));
     let answers = (other.is_superset(&one), notes.compared() <= 201);
@@ -198,7 +200,7 @@ fn a_call_hashes_once(rt: HostRuntime) {
 }
 
 #[test]
-fn maps_of_two_lengths_differ_at_once(rt: HostRuntime) {
+fn maps_are_gone_over_once(rt: HostRuntime) {
     let notes = Notes::new();
     let mut one: Map<Noted<'_>, u32> = Map::new(rt.alloc());
     let mut more: Map<Noted<'_>, u32> = Map::new(rt.alloc());
@@ -220,6 +222,10 @@ fn maps_of_two_lengths_differ_at_once(rt: HostRuntime) {
     assert_equal!(rt; (one == more, more == one, notes.compared()), (false, false, 0));
     notes.hashed();
     assert_equal!(rt; (hashed_one == hashed_more, hashed_more == hashed_one, notes.hashed()), (false, false, 0));
+    let (copy, hashed_copy) = (one.clone().expect(&rt, ""), hashed_one.clone().expect(&rt, ""));
+    (notes.compared(), notes.hashed());
+    assert_equal!(rt; (one == copy, notes.compared()), (true, 100));
+    assert_equal!(rt; (hashed_one == hashed_copy, notes.hashed()), (true, 100));
 }
 
 // The hashed set of the elements from one number on, so many of them.

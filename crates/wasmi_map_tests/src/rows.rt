@@ -133,12 +133,15 @@ const RESERVES: [Row; 1] = [(Call::Reserve, 0, 1000, Done)];
 // Carries out the rows, the second ones with every request refused.
 fn answers<T: Table>(rt: &impl Abort, log: &Log, mut table: T, grows: &[Row], rest: &[Row]) {
     let more = More::new(&[1]);
+    let mut asked = 0;
     for rows in [grows, rest] {
+        asked = log.requests();
         for (call, key, value, want) in rows {
             assert_equal!(*rt; table.ask(*call, *key, *value, &more), Ok(*want), "{call:?} {key}");
         }
         log.refuse_from(1);
     }
+    assert_equal!(*rt; log.requests(), asked);
     log.refuse_none();
 }
 

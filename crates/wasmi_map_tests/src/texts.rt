@@ -40,6 +40,7 @@ macro_rules! by_text {
                 .expect(&$rt, "");
         }
         $log.refuse_from(1);
+        let asked = $log.requests();
         if let Some(value) = map.get_mut_str("a") {
             *value = 11;
         }
@@ -57,6 +58,7 @@ macro_rules! by_text {
         assert!($rt; set.get_str("ab").is_some_and(|there| there.as_str() == "ab"));
         assert!($rt; is_text(set.take_str("ab"), "ab"));
         assert_equal!($rt; (set.remove_str(""), set.remove_str("b"), set.len()), (true, false, 1));
+        assert_equal!($rt; $log.requests(), asked);
         $log.refuse_none();
     }};
 }
@@ -94,6 +96,7 @@ macro_rules! by_slice {
         }
         let (one, other, none) = ([1, 1u8].as_slice(), [1, 2].as_slice(), [1].as_slice());
         $log.refuse_from(1);
+        let asked = $log.requests();
         if let Some(value) = map.get_mut_slice(one) {
             *value = 11;
         }
@@ -107,6 +110,7 @@ macro_rules! by_slice {
         assert!($rt; set.get_slice(other).is_some_and(|there| there.as_slice() == other));
         assert!($rt; is_slice(set.take_slice(other), other));
         assert_equal!($rt; (set.remove_slice(one), set.remove_slice(none), set.len()), (true, false, 0));
+        assert_equal!($rt; $log.requests(), asked);
         $log.refuse_none();
     }};
 }
