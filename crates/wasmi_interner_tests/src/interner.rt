@@ -218,10 +218,14 @@ pub(crate) fn scattered(rt: &impl Abort, alloc: Global, number: u32) -> String {
     format!(in alloc; "{}", number.wrapping_mul(6007) % 660003).expect(rt, "")
 }
 
-// Each has a hash of its own, but for few, and finds a slot, so one text is compared.
+// Each has a hash of its own, but for few, and finds a slot, so one text is compared. The slots are made, and then
+// doubled at 5 texts, 10, 20 and so on up to 655,360, each time over a clone of the handle. One more is that of the
+// block for the texts that find no slot.
 #[test]
 fn many_texts_are_found(rt: HostRuntime) {
-    let mut interner = StringInterner::new(rt.alloc());
+    let log = Log::new();
+    let mut interner = StringInterner::new(Logged::new(rt.alloc(), &log));
+    let clones = log.clones();
     for number in 0..660_003 {
         let text = scattered(&rt, rt.alloc(), number);
         if number % 2 == 0 {
@@ -230,6 +234,7 @@ fn many_texts_are_found(rt: HostRuntime) {
             assert_equal!(rt; interner.extend([text.as_str()]), Ok(()), "at {number}");
         }
     }
+    assert_equal!(rt; log.clones().wrapping_sub(clones), 20);
     let copy = interner.clone().expect(&rt, "");
     let mut steps = Steps::new();
     for number in 0..660_003 {

@@ -143,17 +143,18 @@ fn what_is_empty_gives_its_room_back(rt: HostRuntime) {
     }
 }
 
-// Of a map exactly half full.
+// Few more than are kept, however many there were.
 #[test]
-fn half_of_the_room_is_given_back(rt: HostRuntime) {
-    let pairs = (0..1_000u32).map(|key| (key, key));
-    let mut map = Map::from_iter(rt.alloc(), pairs).expect(&rt, "");
-    let room = map.capacity();
-    map.retain(|key, _| (*key as usize) < room / 2);
-    map.shrink_to_fit();
-    assert!(rt;
-        map.len() == room / 2 && map.capacity() < room,
-        "{} of {room}",
-        map.capacity()
-    );
+fn room_is_given_back_down_to_what_is_kept(rt: HostRuntime) {
+    for kept in [1u32, 7, 100, 448, 449, 500, 896, 897, 1_000] {
+        let pairs = (0..1_000u32).map(|key| (key, key));
+        let mut map = Map::from_iter(rt.alloc(), pairs).expect(&rt, "");
+        let mut set = Set::from_iter(rt.alloc(), 0..1_000u32).expect(&rt, "");
+        map.retain(|key, _| *key < kept);
+        set.retain(|key| *key < kept);
+        map.shrink_to_fit();
+        set.shrink_to_fit();
+        let room = kept as usize;
+        assert_equal!(rt; (map.capacity(), set.capacity()), (room, room), "of {kept}");
+    }
 }
