@@ -1,4 +1,4 @@
-//! Long names, many items and exports, a large section that is stepped over, and a count of items that aren't there.
+//! Long names, many items, a large section that is stepped over, and a count of items that aren't there.
 use crate::or_abort::OrAbort;
 use std::alloc::{AllocError, Global};
 use wasmi_module::{DecodeError, Expected, decode};
@@ -33,24 +33,6 @@ fn a_name_of_a_megabyte(rt: HostRuntime) {
         assert_equal!(rt; (import.module.len(), import.field), (1_000_000, "f"));
     }
     assert_equal!(rt; module.imports.len(), 1);
-}
-
-// 65,536 exports of one memory, whose names of 204 bytes differ in the last four.
-#[test]
-fn exports_with_long_names_are_told_apart(rt: HostRuntime) {
-    let head = b"\x05\x03\x01\0\x01\x07\x83\x80\xc0\x06\x80\x80\x04";
-    let mut bytes = module_of(rt.alloc(), head, 0, b"", b"").or_abort(&rt);
-    let name = "x".repeat(rt.alloc(), 200).or_abort(&rt);
-    for number in 0..=u16::MAX {
-        bytes.extend_from_slice(b"\xcc\x01").or_abort(&rt);
-        bytes.extend_from_slice(name.as_bytes()).or_abort(&rt);
-        for shift in [12, 8, 4, 0] {
-            bytes.push(b'a' + ((number >> shift) % 16) as u8).or_abort(&rt);
-        }
-        bytes.extend_from_slice(b"\x02\0").or_abort(&rt);
-    }
-    let module = decode(rt.alloc(), bytes.as_slice()).or_abort(&rt);
-    assert_equal!(rt; module.exports.len(), 65_536);
 }
 
 #[test]
