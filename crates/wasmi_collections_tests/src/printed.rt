@@ -114,7 +114,9 @@ fn all_of_many_items_are_printed(rt: HostRuntime) {
     const ITEMS: usize = 688_890;
     const ENTRIES: usize = 1_377_780;
     let alloc = rt.alloc();
-    let arena: StableArena<usize, usize> = StableArena::from_iter(alloc, 0..100_000).expect(&rt, "");
+    let arena: StableArena<usize, usize> = StableArena::from_iter(alloc, 0..100_000).expect(
+        &rt, "",
+    );
     assert_equal!(rt; (len_of(arena.items()), len_of(&arena)), (ITEMS, ENTRIES));
     let arena: Arena<usize, usize> = Arena::from_iter(alloc, 0..100_000).expect(&rt, "");
     assert_equal!(rt; len_of(&arena), ENTRIES);

@@ -58,7 +58,9 @@ fn lengths_are_compared_first(rt: HostRuntime) {
     let mut less = 0u32;
     for start in 0..1_000_000usize {
         let (text, rest) = (text.as_str().get(start..), text.as_str().get(start + 1..));
-        if text.is_some_and(|text| rest.is_some_and(|rest| LenOrder::new(rest) < LenOrder::new(text))) {
+        if text.is_some_and(|text| rest.is_some_and(|rest| LenOrder::new(rest)
+            < LenOrder::new(text)))
+        {
             less = less.wrapping_add(1);
         }
     }

@@ -222,7 +222,10 @@ fn maps_are_gone_over_once(rt: HostRuntime) {
     assert_equal!(rt; (one == more, more == one, notes.compared()), (false, false, 0));
     notes.hashed();
     assert_equal!(rt; (hashed_one == hashed_more, hashed_more == hashed_one, notes.hashed()), (false, false, 0));
-    let (copy, hashed_copy) = (one.clone().expect(&rt, ""), hashed_one.clone().expect(&rt, ""));
+    let (copy, hashed_copy) = (
+        one.clone().expect(&rt, ""),
+        hashed_one.clone().expect(&rt, ""),
+    );
     (notes.compared(), notes.hashed());
     assert_equal!(rt; (one == copy, notes.compared()), (true, 100));
     assert_equal!(rt; (hashed_one == hashed_copy, notes.hashed()), (true, 100));
