@@ -57,9 +57,9 @@ fn lengths_are_compared_first(rt: HostRuntime) {
     let text = "x".repeat(rt.alloc(), 4_194_304).expect(&rt, "");
     let mut less = 0u32;
     for start in 0..1_000_000usize {
-        let (text, rest) = (text.as_str().get(start..), text.as_str().get(start + 1..));
-        if text.is_some_and(|text| rest.is_some_and(|rest| LenOrder::new(rest)
-            < LenOrder::new(text)))
+        if let Some(text) = text.as_str().get(start..)
+            && let Some(rest) = text.get(1..)
+            && LenOrder::new(rest) < LenOrder::new(text)
         {
             less = less.wrapping_add(1);
         }

@@ -1,5 +1,5 @@
 //! A call by a `&str` or a slice on a hashed map or set hashes once.
-ghost use Rattle.core.specs.Hash.BuildHasherDefault.{initial_hasher};
+ghost use Rattle.std.specs.Hash.BuildHasherDefault.{initial_hasher};
 
 use std::alloc::{AllocError, Global};
 use std::cell::Cell;
