@@ -16,55 +16,79 @@ use wasmi_ordered::map as ordered;
 /// A map of numbers. The types of its iterators and entries are those of its backing, so a call on them is a method,
 /// and the macro that is its body stands below. Each is asked where the one before knows no such call.
 trait AnyMap: Sized {
-    /// Makes a call that sets or maps of the other backing don't have.
+    /// Makes a call that sets or maps of the other backing don't have, or an iteration over the whole.
     fn own(&mut self, other: &mut Self, alloc: Global, words: &[&str], out: &mut Line) -> Reply;
 
-    /// Makes an iteration that takes the items out.
-    fn walk_taken(&mut self, alloc: Global, words: &[&str], out: &mut Line) -> Reply;
+    /// Makes a call of which all words behind its name are numbers. They are read here, once for all such calls.
+    fn answer_numbers(&mut self, alloc: Global, words: &[&str], out: &mut Line) -> Reply {
+        match *words {
+            [name, number] => {
+                let number = read(number)?;
+                self.answer_key(name, number, alloc, out)
+            }
+            [name, key, item] => {
+                let (key, item) = (read(key)?, read(item)?);
+                self.answer_item(name, key, item, out)
+            }
+            [name, key, item, new] => {
+                let (key, item, new) = (read(key)?, read(item)?, read(new)?);
+                self.answer_new(name, key, item, new)
+            }
+            _ => Err(Answer::BAD),
+        }
+    }
 
-    /// Makes an iteration. Where it writes, each item is shown as it was, and becomes more by a number.
-    fn answer_walk(&mut self, words: &[&str], out: &mut Line) -> Reply;
+    /// Makes a call on a key.
+    fn answer_key(&mut self, name: &str, key: i64, alloc: Global, out: &mut Line) -> Reply;
 
-    /// Makes a call on keys.
-    fn answer_key(&mut self, words: &[&str]) -> Reply;
+    /// Makes a call on the entry of a key.
+    fn answer_entry(&mut self, name: &str, key: i64, alloc: Global, out: &mut Line) -> Reply;
 
-    /// Makes a call on the entry of a key, whether or not it is there. Where a reference comes back, the last number is
-    /// written through it.
-    fn answer_entry(&mut self, words: &[&str]) -> Reply;
+    /// Makes an iteration of so many steps, or one that makes each item more by the number and shows it as it was.
+    fn answer_walk(&mut self, name: &str, number: i64, alloc: Global, out: &mut Line) -> Reply;
 
-    /// Makes a call on an entry that is there, or on one that isn't.
-    fn answer_side(&mut self, words: &[&str]) -> Reply;
+    /// Makes a call on a key and an item, or an iteration of so many steps that makes each item more by a number.
+    fn answer_item(&mut self, name: &str, key: i64, item: i64, out: &mut Line) -> Reply;
+
+    /// Makes a call on the entry of a key and an item, which is written where a reference comes back.
+    fn answer_entry_item(&mut self, name: &str, key: i64, item: i64) -> Reply;
+
+    /// Makes a call on the entry of a key and an item or a number to add. The last number is written where a reference
+    /// comes back.
+    fn answer_new(&mut self, name: &str, key: i64, item: i64, new: i64) -> Reply;
 
     /// Adds a number to each item, and keeps those that differ from their keys in a bit of the mask. Counts the calls.
     fn thin(&mut self, mask: i64, add: i64) -> usize;
 }
 
-// The entry of a key.
+// What the entry of a key answers.
 macro_rules! entry {
-    ($map:ident, $key:ident) => {
-        match $map.entry(read($key)?) {
-            Ok(entry) => entry,
-            Err(error) => return Ok(Answer::Error(error)),
+    ($map:ident, $key:ident, $entry:pat => $answer:expr) => {
+        match $map.entry($key) {
+            Ok($entry) => $answer,
+            Err(error) => Answer::Error(error),
         }
     };
 }
 
-// The entry of a key that is there.
+// What the entry of a key that is there answers.
 macro_rules! occupied {
-    ($map:ident, $backing:ident, $key:ident) => {
-        match entry!($map, $key) {
-            $backing::Entry::Occupied(entry) => entry,
-            $backing::Entry::Vacant(_) => return Ok(Answer::Word("vacant")),
+    ($map:ident, $backing:ident, $key:ident, $entry:pat => $answer:expr) => {
+        match $map.entry($key) {
+            Ok($backing::Entry::Occupied($entry)) => $answer,
+            Ok($backing::Entry::Vacant(_)) => Answer::Word("vacant"),
+            Err(error) => Answer::Error(error),
         }
     };
 }
 
-// The entry of a key that isn't there.
+// What the entry of a key that isn't there answers.
 macro_rules! vacant {
-    ($map:ident, $backing:ident, $key:ident) => {
-        match entry!($map, $key) {
-            $backing::Entry::Vacant(entry) => entry,
-            $backing::Entry::Occupied(_) => return Ok(Answer::Word("occupied")),
+    ($map:ident, $backing:ident, $key:ident, $entry:pat => $answer:expr) => {
+        match $map.entry($key) {
+            Ok($backing::Entry::Vacant($entry)) => $answer,
+            Ok($backing::Entry::Occupied(_)) => Answer::Word("occupied"),
+            Err(error) => Answer::Error(error),
         }
     };
 }
@@ -77,137 +101,131 @@ fn pair(found: Option<(&i64, &i64)>) -> Answer {
     }
 }
 
-macro_rules! walk_taken {
-    ($map:ident, $alloc:ident, $words:ident, $out:ident) => {
-        match *$words {
-            ["into_iter", steps] => {
-                let steps = read(steps)?;
-                let map = mem::replace($map, Self::new($alloc));
-                walk(map.into_iter(), steps, Pair, $out)
-            }
-            ["into_keys", steps] => {
-                let steps = read(steps)?;
-                let map = mem::replace($map, Self::new($alloc));
-                walk(map.into_keys(), steps, Plain, $out)
-            }
-            ["into_values", steps] => {
-                let steps = read(steps)?;
-                let map = mem::replace($map, Self::new($alloc));
-                walk(map.into_values(), steps, Plain, $out)
-            }
-            _ => return $map.answer_walk($words, $out),
-        }
-    };
-}
-
-macro_rules! answer_walk {
-    ($map:ident, $words:ident, $out:ident) => {
-        match *$words {
-            ["iter", steps] => walk($map.iter(), read(steps)?, Pair, $out),
-            ["keys", steps] => walk($map.keys(), read(steps)?, Plain, $out),
-            ["values", steps] => walk($map.values(), read(steps)?, Plain, $out),
-            ["iter_mut", steps, add] => {
-                walk($map.iter_mut(), read(steps)?, Raised(read(add)?), $out)
-            }
-            ["values_mut", steps, add] => {
-                walk($map.values_mut(), read(steps)?, Raised(read(add)?), $out)
-            }
-            ["for"] => write_all($map.len(), &*$map, Pair, $out),
-            ["for_mut", add] => write_all($map.len(), $map, Raised(read(add)?), $out),
-            _ => return $map.answer_key($words),
-        }
-    };
-}
-
 macro_rules! answer_key {
-    ($map:ident, $words:ident) => {
-        Ok(match *$words {
-            ["insert", key, item] => found($map.insert(read(key)?, read(item)?)),
-            ["get", key] => shown($map.get(&read(key)?)),
-            ["get_mut", key, new] => written($map.get_mut(&read(key)?), read(new)?),
-            ["contains_key", key] => Answer::Truth($map.contains_key(&read(key)?)),
-            ["get_key_value", key] => pair($map.get_key_value(&read(key)?)),
-            ["index", key] => {
-                let key: i64 = read(key)?;
-                if $map.contains_key(&key) {
-                    Answer::Item(Some($map[&key]))
+    ($map:ident, $name:ident, $key:ident, $alloc:ident, $out:ident) => {
+        Ok(match $name {
+            "get" => shown($map.get(&$key)),
+            "contains_key" => Answer::Truth($map.contains_key(&$key)),
+            "get_key_value" => pair($map.get_key_value(&$key)),
+            "index" => {
+                if $map.contains_key(&$key) {
+                    Answer::Item(Some($map[&$key]))
                 } else {
                     Answer::NO_ITEM
                 }
             }
-            ["remove", key] => Answer::Item($map.remove(&read(key)?)),
-            ["remove_entry", key] => Answer::Pair($map.remove_entry(&read(key)?)),
-            ["retain", mask, add] => Answer::Number($map.thin(read(mask)?, read(add)?)),
-            _ => return $map.answer_entry($words),
+            "remove" => Answer::Item($map.remove(&$key)),
+            "remove_entry" => Answer::Pair($map.remove_entry(&$key)),
+            _ => return $map.answer_entry($name, $key, $alloc, $out),
         })
     };
 }
 
 macro_rules! answer_entry {
-    ($map:ident, $words:ident) => {
-        Ok(match *$words {
-            ["entry_key", key] => Answer::Item(Some(*entry!($map, key).key())),
-            ["or_insert", key, item, new] => {
-                let (item, new) = (read(item)?, read(new)?);
-                overwritten(entry!($map, key).or_insert(item), new)
+    ($map:ident, $backing:ident, $name:ident, $key:ident, $alloc:ident, $out:ident) => {
+        Ok(match $name {
+            "entry" => match $map.entry($key) {
+                Ok($backing::Entry::Occupied(entry)) => {
+                    Answer::Entry(*entry.key(), Some(*entry.get()))
+                }
+                Ok($backing::Entry::Vacant(entry)) => Answer::Entry(*entry.key(), None),
+                Err(error) => Answer::Error(error),
+            },
+            "entry_key" => entry!($map, $key, entry => Answer::Item(Some(*entry.key()))),
+            "occupied_remove" => {
+                occupied!($map, $backing, $key, entry => Answer::Item(Some(entry.remove())))
             }
-            ["or_insert_with", key, item, new] => {
-                let (item, new) = (read(item)?, read(new)?);
-                overwritten(entry!($map, key).or_insert_with(|| item), new)
+            "occupied_remove_entry" => {
+                occupied!($map, $backing, $key, entry => Answer::Pair(Some(entry.remove_entry())))
             }
-            ["or_insert_with_key", key, new] => {
-                let new = read(new)?;
-                let outcome = entry!($map, key).or_insert_with_key(|key| key.wrapping_neg());
-                overwritten(outcome, new)
+            "vacant_into_key" => {
+                vacant!($map, $backing, $key, entry => Answer::Item(Some(entry.into_key())))
             }
-            ["or_default", key, new] => {
-                let new = read(new)?;
-                overwritten(entry!($map, key).or_default(), new)
-            }
-            ["and_modify", key, add, new] => {
-                let (add, new): (i64, i64) = (read(add)?, read(new)?);
-                let entry = entry!($map, key).and_modify(|item| *item = item.wrapping_add(add));
-                item(entry.or_insert(new).copied())
-            }
-            _ => return $map.answer_side($words),
+            _ => return $map.answer_walk($name, $key, $alloc, $out),
         })
     };
 }
 
-macro_rules! answer_side {
-    ($map:ident, $backing:ident, $words:ident) => {
-        Ok(match *$words {
-            ["entry", key] => match entry!($map, key) {
-                $backing::Entry::Occupied(entry) => Answer::Entry(*entry.key(), Some(*entry.get())),
-                $backing::Entry::Vacant(entry) => Answer::Entry(*entry.key(), None),
-            },
-            ["occupied_get_mut", key, new] => {
-                let new = read(new)?;
-                let mut entry = occupied!($map, $backing, key);
-                Answer::Item(Some(mem::replace(entry.get_mut(), new)))
+macro_rules! answer_walk {
+    ($map:ident, $name:ident, $number:ident, $alloc:ident, $out:ident) => {
+        match ($name, u16::try_from($number)) {
+            ("iter", Ok(steps)) => walk($map.iter(), steps, Pair, $out),
+            ("keys", Ok(steps)) => walk($map.keys(), steps, Plain, $out),
+            ("values", Ok(steps)) => walk($map.values(), steps, Plain, $out),
+            ("into_iter", Ok(steps)) => {
+                let map = mem::replace($map, Self::new($alloc));
+                walk(map.into_iter(), steps, Pair, $out)
             }
-            ["occupied_insert", key, item] => {
-                let item = read(item)?;
-                let mut entry = occupied!($map, $backing, key);
-                Answer::Item(Some(entry.insert(item)))
+            ("into_keys", Ok(steps)) => {
+                let map = mem::replace($map, Self::new($alloc));
+                walk(map.into_keys(), steps, Plain, $out)
             }
-            ["occupied_into_mut", key, new] => {
-                let new = read(new)?;
-                let entry = occupied!($map, $backing, key);
-                Answer::Item(Some(mem::replace(entry.into_mut(), new)))
+            ("into_values", Ok(steps)) => {
+                let map = mem::replace($map, Self::new($alloc));
+                walk(map.into_values(), steps, Plain, $out)
             }
-            ["occupied_remove", key] => {
-                Answer::Item(Some(occupied!($map, $backing, key).remove()))
+            ("for_mut", _) => write_all($map.len(), $map, Raised($number), $out),
+            _ => return Err(Answer::BAD),
+        }
+    };
+}
+
+macro_rules! answer_item {
+    ($map:ident, $name:ident, $key:ident, $item:ident, $out:ident) => {
+        Ok(match ($name, u16::try_from($key)) {
+            ("insert", _) => found($map.insert($key, $item)),
+            ("get_mut", _) => written($map.get_mut(&$key), $item),
+            ("retain", _) => Answer::Number($map.thin($key, $item)),
+            ("iter_mut", Ok(steps)) => {
+                walk($map.iter_mut(), steps, Raised($item), $out);
+                Answer::Written
             }
-            ["occupied_remove_entry", key] => {
-                Answer::Pair(Some(occupied!($map, $backing, key).remove_entry()))
+            ("values_mut", Ok(steps)) => {
+                walk($map.values_mut(), steps, Raised($item), $out);
+                Answer::Written
             }
-            ["vacant_insert", key, item, new] => {
-                let (item, new) = (read(item)?, read(new)?);
-                overwritten(vacant!($map, $backing, key).insert(item), new)
+            _ => return $map.answer_entry_item($name, $key, $item),
+        })
+    };
+}
+
+macro_rules! answer_entry_item {
+    ($map:ident, $backing:ident, $name:ident, $key:ident, $item:ident) => {
+        Ok(match $name {
+            "or_insert_with_key" => {
+                let neg = |key: &i64| key.wrapping_neg();
+                entry!($map, $key, entry => overwritten(entry.or_insert_with_key(neg), $item))
             }
-            ["vacant_into_key", key] => {
-                Answer::Item(Some(vacant!($map, $backing, key).into_key()))
+            "or_default" => entry!($map, $key, entry => overwritten(entry.or_default(), $item)),
+            "occupied_get_mut" => occupied!($map, $backing, $key, mut entry => {
+                Answer::Item(Some(mem::replace(entry.get_mut(), $item)))
+            }),
+            "occupied_insert" => occupied!($map, $backing, $key, mut entry => {
+                Answer::Item(Some(entry.insert($item)))
+            }),
+            "occupied_into_mut" => occupied!($map, $backing, $key, entry => {
+                Answer::Item(Some(mem::replace(entry.into_mut(), $item)))
+            }),
+            _ => return Err(Answer::BAD),
+        })
+    };
+}
+
+macro_rules! answer_new {
+    ($map:ident, $backing:ident, $name:ident, $key:ident, $item:ident, $new:ident) => {
+        Ok(match $name {
+            "or_insert" => {
+                entry!($map, $key, entry => overwritten(entry.or_insert($item), $new))
+            }
+            "or_insert_with" => {
+                entry!($map, $key, entry => overwritten(entry.or_insert_with(|| $item), $new))
+            }
+            "and_modify" => entry!($map, $key, entry => {
+                let entry = entry.and_modify(|item| *item = item.wrapping_add($item));
+                item(entry.or_insert($new).copied())
+            }),
+            "vacant_insert" => {
+                vacant!($map, $backing, $key, entry => overwritten(entry.insert($item), $new))
             }
             _ => return Err(Answer::BAD),
         })
@@ -243,33 +261,40 @@ impl AnyMap for ordered::Map<i64, i64> {
             ["last"] => pair(self.last_key_value()),
             ["pop_first"] => Answer::Pair(self.pop_first()),
             ["pop_last"] => Answer::Pair(self.pop_last()),
-            ["split_off", key] => keep(self.split_off(&read(key)?), other),
             ["append"] => done(self.append(other)),
-            ["range", from, to, steps] => range(self, read(from)?, read(to)?, read(steps)?, out),
-            _ => return self.walk_taken(alloc, words, out),
+            ["for"] => {
+                write_all(self.len(), &*self, Pair, out);
+                Answer::Written
+            }
+            ["split_off", key] => keep(self.split_off(&read(key)?), other),
+            ["range", from, to, steps] => return range(self, [from, to, steps], out),
+            _ => return self.answer_numbers(alloc, words, out),
         })
     }
 
-    fn walk_taken(&mut self, alloc: Global, words: &[&str], out: &mut Line) -> Reply {
-        walk_taken!(self, alloc, words, out);
+    fn answer_key(&mut self, name: &str, key: i64, alloc: Global, out: &mut Line) -> Reply {
+        answer_key!(self, name, key, alloc, out)
+    }
+
+    fn answer_entry(&mut self, name: &str, key: i64, alloc: Global, out: &mut Line) -> Reply {
+        answer_entry!(self, ordered, name, key, alloc, out)
+    }
+
+    fn answer_walk(&mut self, name: &str, number: i64, alloc: Global, out: &mut Line) -> Reply {
+        answer_walk!(self, name, number, alloc, out);
         Ok(Answer::Written)
     }
 
-    fn answer_walk(&mut self, words: &[&str], out: &mut Line) -> Reply {
-        answer_walk!(self, words, out);
-        Ok(Answer::Written)
+    fn answer_item(&mut self, name: &str, key: i64, item: i64, out: &mut Line) -> Reply {
+        answer_item!(self, name, key, item, out)
     }
 
-    fn answer_key(&mut self, words: &[&str]) -> Reply {
-        answer_key!(self, words)
+    fn answer_entry_item(&mut self, name: &str, key: i64, item: i64) -> Reply {
+        answer_entry_item!(self, ordered, name, key, item)
     }
 
-    fn answer_entry(&mut self, words: &[&str]) -> Reply {
-        answer_entry!(self, words)
-    }
-
-    fn answer_side(&mut self, words: &[&str]) -> Reply {
-        answer_side!(self, ordered, words)
+    fn answer_new(&mut self, name: &str, key: i64, item: i64, new: i64) -> Reply {
+        answer_new!(self, ordered, name, key, item, new)
     }
 
     fn thin(&mut self, mask: i64, add: i64) -> usize {
@@ -277,12 +302,13 @@ impl AnyMap for ordered::Map<i64, i64> {
     }
 }
 
-fn range(map: &ordered::Map<i64, i64>, from: i64, to: i64, steps: u16, out: &mut Line) -> Answer {
+fn range(map: &ordered::Map<i64, i64>, [from, to, steps]: [&str; 3], out: &mut Line) -> Reply {
+    let (from, to, steps): (i64, i64, u16) = (read(from)?, read(to)?, read(steps)?);
     if from > to {
-        return Answer::Word("no range");
+        return Ok(Answer::Word("no range"));
     }
     walk_ends(map.range(from..to), steps, Pair, out);
-    Answer::Written
+    Ok(Answer::Written)
 }
 
 impl Container for hashed::Map<i64, i64> {
@@ -303,30 +329,37 @@ impl AnyMap for hashed::Map<i64, i64> {
                 self.shrink_to_fit();
                 Answer::DONE
             }
-            _ => return self.walk_taken(alloc, words, out),
+            ["for"] => {
+                write_all(self.len(), &*self, Pair, out);
+                Answer::Written
+            }
+            _ => return self.answer_numbers(alloc, words, out),
         })
     }
 
-    fn walk_taken(&mut self, alloc: Global, words: &[&str], out: &mut Line) -> Reply {
-        walk_taken!(self, alloc, words, out);
+    fn answer_key(&mut self, name: &str, key: i64, alloc: Global, out: &mut Line) -> Reply {
+        answer_key!(self, name, key, alloc, out)
+    }
+
+    fn answer_entry(&mut self, name: &str, key: i64, alloc: Global, out: &mut Line) -> Reply {
+        answer_entry!(self, hashed, name, key, alloc, out)
+    }
+
+    fn answer_walk(&mut self, name: &str, number: i64, alloc: Global, out: &mut Line) -> Reply {
+        answer_walk!(self, name, number, alloc, out);
         Ok(Answer::Written)
     }
 
-    fn answer_walk(&mut self, words: &[&str], out: &mut Line) -> Reply {
-        answer_walk!(self, words, out);
-        Ok(Answer::Written)
+    fn answer_item(&mut self, name: &str, key: i64, item: i64, out: &mut Line) -> Reply {
+        answer_item!(self, name, key, item, out)
     }
 
-    fn answer_key(&mut self, words: &[&str]) -> Reply {
-        answer_key!(self, words)
+    fn answer_entry_item(&mut self, name: &str, key: i64, item: i64) -> Reply {
+        answer_entry_item!(self, hashed, name, key, item)
     }
 
-    fn answer_entry(&mut self, words: &[&str]) -> Reply {
-        answer_entry!(self, words)
-    }
-
-    fn answer_side(&mut self, words: &[&str]) -> Reply {
-        answer_side!(self, hashed, words)
+    fn answer_new(&mut self, name: &str, key: i64, item: i64, new: i64) -> Reply {
+        answer_new!(self, hashed, name, key, item, new)
     }
 
     fn thin(&mut self, mask: i64, add: i64) -> usize {
