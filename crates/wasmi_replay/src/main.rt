@@ -6,10 +6,11 @@
 //! elements and items are `i64`. Beside the container lies another one, empty at first.
 //!
 //! Any other line is a method's name and its arguments. The container's file has them, each line as the pattern of the
-//! arm that makes the call: an index, or the number of a key or of a symbol; numbers, of which `new` is written through
-//! the reference, and `first` begins those that are; a count; a text. `steps` are those of an iteration: how many, or of
-//! containers without a hash or an order an `f` for each `next` and a `b` for each `next_back`. After them it is asked
-//! for `len`. `exchange` goes on with the other container, `eq` compares with it, `debug` prints.
+//! arm that makes the call, or as the name that it has in a method for calls with such numbers: an index, or the number
+//! of a key or of a symbol; numbers, of which `new` is written through the reference, and `first` begins those that are;
+//! a count; a text. `steps` are those of an iteration: how many, or of containers without a hash or an order an `f` for
+//! each `next` and a `b` for each `next_back`. After them it is asked for `len`. `exchange` goes on with the other
+//! container, `eq` compares with it, `debug` prints.
 //!
 //! The answer is what the method returns, `none`, `error` and its text, or `done` for nothing; `no key` for a number
 //! that is none, `no item` where an index would panic. To a line that is no call it is `bad line`.
