@@ -165,7 +165,7 @@ impl<Key: ArenaKey, T, A: Allocator> Arena<Key, T, A> {
         let key = self.next_key()?;
         let len = self.items.len();
         if len == self.items.capacity() {
-            self.items.reserve_exact(len.max(4))?;
+            self.items.reserve(len.max(4))?;
         }
         self.items.push_reserved(item);
         Ok(key)

@@ -62,7 +62,8 @@ impl<A: Allocator> Index<A> {
     //
     // Where an empty slot is met for its hash, the text isn't there. The first text is compared all the same, so
     // that a step is taken wherever there are texts.
-    #[inline]
+    // As a call of its own it costs a search that finds its text a third more.
+    #[inline(always)]
     pub(crate) fn find(&self, sought: &Sought<'_, A>, steps: &mut Steps) -> Result<Sym, Vacancy>
         requires indexed { IsIndexOf sought.now.texts.now self.now.slots self.now.rest.entries }
         requires countable { steps.old ≤ 2 ^ 63 }
