@@ -143,7 +143,7 @@ fn what_is_empty_gives_its_room_back(rt: HostRuntime) {
     }
 }
 
-// Few more than are kept, however many there were.
+// Exactly as many as are kept, however many there were.
 #[test]
 fn room_is_given_back_down_to_what_is_kept(rt: HostRuntime) {
     for kept in [1u32, 7, 100, 448, 449, 500, 896, 897, 1_000] {
