@@ -14,7 +14,7 @@ use Rattle.wasmi_link_lib.specs.declared.item.Item as rust_item
 use Rattle.wasmi_link_lib.specs.declared.item.Item.TheVariants as item
 use Rattle.wasmi_link_lib.specs.Lines.{ItemType, Func, Table, Memory, Global, Found, Missing, Differs}
 use Rattle.wasmi_link_lib.specs.Linking.{Named, export_named, asked_item, imported_items, own_items, items_of, matches, answer_given}
-use Rattle.wasmi_link_lib.specs.Tables.{ImportedItems, all_imported, place_at, place_in, place_of, Keyed, keyed, keyed_of, keyed_matches, key_of, imported_of}
+use Rattle.wasmi_link_lib.specs.inner.Tables.{ImportedItems, all_imported, place_at, place_in, place_of, Keyed, keyed, keyed_of, keyed_matches, key_of, imported_of}
 use Rattle.wasmi_link_lib.proofs.Lists.{slice_get_left, slice_get_right, slice_get_map, All_get}
 use Rattle.wasmi_link_lib.proofs.Keys.{IsKeyed, keyed-matches}
 

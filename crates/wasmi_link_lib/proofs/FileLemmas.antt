@@ -1,6 +1,6 @@
 -- The modules in files.
 -- for src/files.rt
-use Rattle.std.proofs.Common.{◌≡◌, ℕ, ◌+◌, ◌<◌, List, [], ◌∷◌, ◌++◌, map, take, get_or, length, zero, suc, sym, ap, ◌∙◌, subst, arith}
+use Rattle.std.proofs.Common.{◌≡◌, ℕ, ◌+◌, ◌<◌, List, [], ◌∷◌, ◌++◌, map, take, get_or, length, zero, suc, sym, ap, ◌∙◌, subst, inl, inr, arith}
 use Rattle.std.specs.List.{AllZip}
 use Rattle.std.proofs.lemmas.List.{take_more, map_push}
 use Rattle.std.proofs.lemmas.Slice.Zip.{all_zipped_more}
@@ -9,7 +9,7 @@ use Rattle.wasmi_link_lib.specs.declared.files.LinkError.{LinkError}
 use Rattle.wasmi_link_lib.specs.declared.files.LinkError.TheVariants.{NotAModule, Refused}
 use Rattle.wasmi_link_lib.specs.declared.named.NamedModule as rust_named
 use Rattle.wasmi_link_lib.specs.Files.{IsIn, IsRefusal, IsShortage}
-use Rattle.wasmi_link_lib.specs.Linking.{Named, AreValid, named_of}
+use Rattle.wasmi_link_lib.specs.Linking.{Named, AreValid, linked, named_of}
 
 -- one more module
 pub one_more_file : {A : Type 0} (files : List File) (place : ℕ) (file : File) (old new : List (rust_named.NamedModule A)) (next : rust_named.NamedModule A) (other : File)
@@ -30,6 +30,7 @@ valid_in (f ∷ fs) (m ∷ ms) there zero d within = there.0.valid
 valid_in (f ∷ fs) (m ∷ ms) there (suc k) d within = valid_in fs ms there.1 k d (omega arith)
 
 -- a shortage is why there is no report on files
-pub refusal-shortage : (files : List File) (error : LinkError) → IsShortage error → IsRefusal files error
-refusal-shortage files (NotAModule place error) short = absurd short
-refusal-shortage files (Refused error) short = short
+pub refusal-shortage : (files : List File) (modules : List Named) → AllZip IsIn files modules → (error : LinkError) → IsShortage (linked modules) error → IsRefusal files error
+refusal-shortage files modules read (NotAModule place error) short = absurd short
+refusal-shortage files modules read (Refused error) (inl memory) = inl memory
+refusal-shortage files modules read (Refused error) (inr (keys, past)) = inr (keys, modules, read, past)

@@ -12,7 +12,7 @@ use Rattle.wasmi_collections.specs.Dedup.{DedupState, AllocatesValue}
 use Rattle.wasmi_module.specs.Modules.{FuncType}
 use Rattle.wasmi_link_lib.specs.Lines.{ItemType, Func, Table, Memory, Global}
 use Rattle.wasmi_link_lib.specs.Linking.{Named, func_type_eq, matches, with_value, without_repetitions, all_types}
-use Rattle.wasmi_link_lib.specs.Tables.{key_of, HasKeys, keyed, keyed_matches}
+use Rattle.wasmi_link_lib.specs.inner.Tables.{key_of, HasKeys, keyed, keyed_matches}
 use Rattle.wasmi_link_lib.proofs.Lists.{position-map, without_repetitions_has, Contains-flat_map}
 use Rattle.wasmi_link_lib.proofs.Matches.{func_type_eq-Decides}
 

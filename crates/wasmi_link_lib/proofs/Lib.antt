@@ -1,4 +1,5 @@
 pub mod Lists
+pub mod Refusals
 pub mod Zips
 pub mod Matches
 pub mod Symbols

@@ -1,10 +1,10 @@
 -- Lists that grow at their end, and where an element stands in them.
 -- for src/names.rt, src/types.rt, src/item.rt, src/imported.rt, src/linker.rt
-use Rattle.std.proofs.Common.{◌≡◌, ◌≢◌, ℕ, zero, suc, ◌+◌, ◌<◌, ◌≤◌, Bool, true, false, not, cond, List, [], ◌∷◌, ◌++◌, length, map, get_or, take, fold, filter, flat_map, find, Contains, All, bytes_eq, Option, Some, None, is_some, IsSome, option_map, option_and_then, position, slice_get, ltb, eqb, refl, sym, ap, ◌∙◌, subst, inl, inr, append-nil, append_assoc, add-zero, eq-eqb, ne_eqb, lt-ltb, le-ltb, ltb-true, true≢false, arith}
+use Rattle.std.proofs.Common.{◌≡◌, ◌≢◌, ℕ, zero, suc, ◌+◌, ◌<◌, ◌≤◌, Bool, true, false, not, cond, List, [], ◌∷◌, ◌++◌, length, map, get_or, take, drop, fold, filter, flat_map, find, Contains, All, bytes_eq, Option, Some, None, is_some, IsSome, option_map, option_and_then, position, slice_get, ltb, eqb, refl, sym, ap, ◌∙◌, subst, inl, inr, append-nil, append_assoc, add-zero, eq-eqb, ne_eqb, lt-ltb, le-ltb, ltb-true, true≢false, arith}
 use Rattle.std.specs.List.{position_or_len}
 use Rattle.std.specs.Option.{option_or}
 use Rattle.std.proofs.lemmas.Bool.{cases_lt, cond_both}
-use Rattle.std.proofs.lemmas.List.{take_more, map_more, map_push, length_push, length-map, get_or-map}
+use Rattle.std.proofs.lemmas.List.{take_more, map_more, map_push, map-append, length_push, length-map, length-append, take-append-drop, get_or-map}
 use Rattle.std.proofs.lemmas.List.Concat.{flat_map-append, get_or-flat_map}
 use Rattle.std.proofs.lemmas.List.Elements.{filter-append}
 use Rattle.std.proofs.lemmas.List.Folds.{position_or_len_push, find_at, length-flat_map-take}
@@ -30,6 +30,13 @@ flat_map_read g f xs i x in' is =
 pub filter_read : {X Y : Type 0} (p : Y → Bool) (f : X → Y) (xs : List X) (i : ℕ) (x : X) → i < length xs → x ≡ get_or xs i x → filter p (map f (take (i + 1) xs)) ≡ filter p (map f (take i xs)) ++ cond (p (f x)) (f x ∷ []) []
 filter_read p f xs i x in' is = ap (filter p) (map_read f xs i x in' is) ∙ filter-append p (map f (take i xs)) (f x ∷ [])
 
+-- what two lists have lies one behind the other
+pub parts-append : {X Y Z : Type 0} (g : Y → List Z) (f : X → Y) (xs ys : List X) → flat_map g (map f (xs ++ ys)) ≡ flat_map g (map f xs) ++ flat_map g (map f ys)
+parts-append g f xs ys = ap (flat_map g) (map-append f xs ys) ∙ flat_map-append g (map f xs) (map f ys)
+
+pub mapped-append : {X Y Z : Type 0} (g : Y → Z) (f : X → Y) (xs ys : List X) → map g (map f (xs ++ ys)) ≡ map g (map f xs) ++ map g (map f ys)
+mapped-append g f xs ys = ap (map g) (map-append f xs ys) ∙ map-append g (map f xs) (map f ys)
+
 -- the same of what is pushed for it
 pub mapped_step : {X Y Z W : Type 0} (v : W → Z) (g : Y → Z) (f : X → Y) (old new : List W) (y : W) (xs : List X) (i : ℕ) (x : X) → i < length xs → x ≡ get_or xs i x → map v old ≡ map g (map f (take i xs)) → new ≡ old ++ y ∷ [] → v y ≡ g (f x) → map v new ≡ map g (map f (take (i + 1) xs))
 mapped_step v g f old new y xs i x in' is before pushed same =
@@ -44,6 +51,16 @@ joined_step v g f start old new y xs i d in' before pushed same =
     ∙ (λ j. before j ++ same j ∷ [])
     ∙ append_assoc start (map g (map f (take i xs))) (g (f (get_or xs i d)) ∷ [])
     ∙ ap (λ l. start ++ l) (sym (map_push g (map f (take i xs)) (f (get_or xs i d))) ∙ ap (map g) (sym (map_more f xs i d in')))
+
+-- how many parts they have
+pub counted_step : {X Y Z : Type 0} (g : Y → List Z) (f : X → Y) (xs : List X) (i : ℕ) (x : X) → i < length xs → x ≡ get_or xs i x → length (flat_map g (map f (take (i + 1) xs))) ≡ length (flat_map g (map f (take i xs))) + length (g (f x))
+counted_step g f xs i x in' is = ap length (flat_map_read g f xs i x in' is) ∙ length-append (flat_map g (map f (take i xs))) (g (f x))
+
+pub counted_among : {X Y Z : Type 0} (g : Y → List Z) (f : X → Y) (xs : List X) (i : ℕ) (x : X) → i < length xs → x ≡ get_or xs i x → length (flat_map g (map f (take i xs))) + length (g (f x)) ≤ length (flat_map g (map f xs))
+counted_among g f xs i x in' is =
+    let rest = flat_map g (map f (drop (i + 1) xs)) in
+    let all = ap (λ l. length (flat_map g (map f l))) (sym (take-append-drop (i + 1) xs)) ∙ ap length (parts-append g f (take (i + 1) xs) (drop (i + 1) xs)) ∙ length-append (flat_map g (map f (take (i + 1) xs))) rest in
+    omega (arith, all, counted_step g f xs i x in' is)
 
 -- or many at a time
 pub pieces_step : {X Y Z : Type 0} (g : Y → List Z) (f : X → Y) (old new : List Z) (xs : List X) (i : ℕ) (x : X) → i < length xs → x ≡ get_or xs i x → old ≡ flat_map g (map f (take i xs)) → new ≡ old ++ g (f x) → new ≡ flat_map g (map f (take (i + 1) xs))
@@ -196,6 +213,33 @@ module _ {X : Type 0} (eq : X → X → Bool) where
   fold_same p seen [] k is = is
   fold_same p seen (y ∷ ys) k is = fold_same p (with_value eq seen y) ys k (with_value_same p seen y k is)
 
+  -- a new value is one more, and no value makes them fewer
+  pub with_value_new : (seen : List X) (y : X) → position (eq y) seen ≡ None → length (with_value eq seen y) ≡ length seen + 1
+  with_value_new seen y new = ap (λ (o : Option ℕ). length (cond (is_some o) seen (seen ++ y ∷ []))) new ∙ length_push seen y
+
+  pub with_value_grows : (seen : List X) (y : X) → length seen ≤ length (with_value eq seen y)
+  with_value_grows seen y =
+      cond_both (is_some (position (eq y) seen)) seen (seen ++ y ∷ []) (λ l. length seen ≤ length l) (λ _. omega arith) (λ _. omega (arith, length_push seen y))
+
+  pub fold_grows : (seen ys : List X) → length seen ≤ length (fold (with_value eq) seen ys)
+  fold_grows seen [] = omega arith
+  fold_grows seen (y ∷ ys) = omega (arith, with_value_grows seen y, fold_grows (with_value eq seen y) ys)
+
+  -- so more than there are keys after some parts is more after all of them
+  module _ {S : Type 0} (parts : List S → List X) (cuts : (xs ys : List S) → parts (xs ++ ys) ≡ parts xs ++ parts ys) where
+    pub more_among : (n : ℕ) (start old : List X) (xs : List S) (i : ℕ) (x : S) → take (i + 1) xs ≡ take i xs ++ x ∷ []
+        → old ≡ fold (with_value eq) start (parts (take i xs)) → n < length (fold (with_value eq) old (parts (x ∷ []))) → n < length (fold (with_value eq) start (parts xs))
+    more_among n start old xs i x reads before more =
+        let taken = fold (with_value eq) in
+        let rest = parts (drop (i + 1) xs) in
+        let with_x : taken start (parts (take (i + 1) xs)) ≡ taken old (parts (x ∷ [])) =
+        ap (λ l. taken start (parts l)) reads ∙ ap (taken start) (cuts (take i xs) (x ∷ []))
+        ∙ fold-append (with_value eq) start (parts (take i xs)) (parts (x ∷ [])) ∙ ap (λ l. taken l (parts (x ∷ []))) (sym before) in
+        let all : taken start (parts xs) ≡ taken (taken old (parts (x ∷ []))) rest =
+        ap (λ l. taken start (parts l)) (sym (take-append-drop (i + 1) xs)) ∙ ap (taken start) (cuts (take (i + 1) xs) (drop (i + 1) xs))
+        ∙ fold-append (with_value eq) start (parts (take (i + 1) xs)) rest ∙ ap (λ l. taken l rest) with_x in
+        subst (λ l. n < length l) (sym all) (omega (arith, more, fold_grows (taken old (parts (x ∷ []))) rest))
+
   -- what is found is found among one more
   with_value_keeps : (p : X → Bool) (seen : List X) (y : X) → IsSome (position p seen) → IsSome (position p (with_value eq seen y))
   with_value_keeps p seen y is =
@@ -220,6 +264,20 @@ module _ {X : Type 0} (eq : X → X → Bool) where
     -- each value is among them without repetitions
     pub without_repetitions_has : (xs : List X) (x : X) → Contains xs x → IsSome (position (eq x) (without_repetitions eq xs))
     without_repetitions_has xs x (i, in', is) = subst (λ y. IsSome (position (eq y) (without_repetitions eq xs))) is (fold_has [] xs i x in')
+
+-- more names than symbols after a name of an import are more after all imports
+pub asked_among : {X : Type 0} (f : X → Import) (n : ℕ) (start old : List (List ℕ)) (xs : List X) (i : ℕ) (d : X) → i < length xs → old ≡ fold (with_value bytes_eq) start (flat_map import_names (map f (take i xs)))
+    → n < length (with_value bytes_eq old (f (get_or xs i d)).asked) → n < length (fold (with_value bytes_eq) start (flat_map import_names (map f xs)))
+asked_among f n start old xs i d in' before more =
+    let x = f (get_or xs i d) in
+    more_among bytes_eq (λ ys. flat_map import_names (map f ys)) (parts-append import_names f) n start old xs i (get_or xs i d) (take_more xs i d in') before
+    (omega (arith, more, with_value_grows bytes_eq (with_value bytes_eq old x.asked) x.field))
+
+pub field_among : {X : Type 0} (f : X → Import) (n : ℕ) (start old next : List (List ℕ)) (xs : List X) (i : ℕ) (d : X) → i < length xs → old ≡ fold (with_value bytes_eq) start (flat_map import_names (map f (take i xs)))
+    → next ≡ with_value bytes_eq old (f (get_or xs i d)).asked → n < length (with_value bytes_eq next (f (get_or xs i d)).field) → n < length (fold (with_value bytes_eq) start (flat_map import_names (map f xs)))
+field_among f n start old next xs i d in' before first more =
+    more_among bytes_eq (λ ys. flat_map import_names (map f ys)) (parts-append import_names f) n start old xs i (get_or xs i d) (take_more xs i d in') before
+    (subst (λ ns. n < length (with_value bytes_eq ns (f (get_or xs i d)).field)) first more)
 
 -- what is in a piece is in all of them
 pub Contains-flat_map : {X Y : Type 0} (f : X → List Y) (xs : List X) (x : X) (y : Y) → Contains xs x → Contains (f x) y → Contains (flat_map f xs) y

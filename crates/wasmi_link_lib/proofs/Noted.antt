@@ -1,5 +1,5 @@
 -- What tables by symbols have of modules, one more at a time.
--- for src/firsts.rt, src/exports.rt, src/linker.rt
+-- for src/firsts.rt, src/exports.rt, src/imported.rt, src/linker.rt
 use Rattle.std.proofs.Common.{◌≡◌, ◌≢◌, ℕ, ◌+◌, ◌<◌, ◌≤◌, Bool, true, false, cond, List, [], ◌∷◌, ◌++◌, length, map, get_or, take, find, Option, Some, None, option_map, option_and_then, slice_get, bytes_eq, SomeIff, take_all, length-take-le, refl, sym, ap, ◌∙◌, subst, inl, inr, arith}
 use Rattle.std.specs.Option.{option_or}
 use Rattle.std.proofs.lemmas.Bool.{cases_eq}
@@ -11,7 +11,7 @@ use Rattle.wasmi_interner.specs.Interner.{symbol_of}
 use Rattle.wasmi_module.specs.Modules.{Export}
 use Rattle.wasmi_link_lib.specs.declared.exports.Place.{Place}
 use Rattle.wasmi_link_lib.specs.Linking.{Named, export_named, module_named}
-use Rattle.wasmi_link_lib.specs.Tables.{Notes, first_of, HasFirsts, HasExports, place_in, place_of}
+use Rattle.wasmi_link_lib.specs.inner.Tables.{Notes, first_of, HasFirsts, HasExports, place_in, place_of}
 use Rattle.wasmi_link_lib.proofs.Lists.{got, map_read, find_position, position_push, position_within, slice_get_map, slice_get_last, slice_get_other}
 
 -- the key that a number has
@@ -19,7 +19,7 @@ pub some_iff : (P : Type 0) (r : Option ℕ) (v x : ℕ) → SomeIff r P v → r
 some_iff P None v x h is = absurd (none-some x is)
 some_iff P (Some y) v x h is = sym (same_Some y x is) ∙ h.1
 
-length_so_far : {X Y : Type 0} (f : X → Y) (xs : List X) (i : ℕ) → i < length xs → i ≡ length (map f (take i xs))
+pub length_so_far : {X Y : Type 0} (f : X → Y) (xs : List X) (i : ℕ) → i < length xs → i ≡ length (map f (take i xs))
 length_so_far f xs i in' =
     let few = length-take-le i xs (omega (arith, in')) in
     let same = length-map (take i xs) f in

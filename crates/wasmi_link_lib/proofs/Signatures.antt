@@ -10,7 +10,7 @@ use Rattle.wasmi_module.specs.declared.module.ValType.{ValType}
 use Rattle.wasmi_link_lib.specs.contracts.types.SignaturePartialEq.TheImpl as signature
 use Rattle.wasmi_link_lib.specs.declared.types.Signature.{Signature}
 use Rattle.wasmi_link_lib.specs.Linking.{val_type_eq, func_type_eq}
-use Rattle.wasmi_link_lib.specs.Tables.{signature_of}
+use Rattle.wasmi_link_lib.specs.inner.Tables.{signature_of}
 use Rattle.wasmi_link_lib.proofs.Matches.{val_type_eq-Decides}
 
 same_val_type : (a b : ValType) → val.eq-value.it a b ≡ val_type_eq a b

@@ -11,7 +11,7 @@ use Rattle.wasmi_interner.specs.Interner.{symbol_of}
 use Rattle.wasmi_dense.specs.Components.{component_at, ChangesAt}
 use Rattle.wasmi_map_specs.specs.Maps.{value_at}
 use Rattle.wasmi_link_lib.specs.declared.exports.Place.{Place}
-use Rattle.wasmi_link_lib.specs.Tables.{Notes, export_key_eq, place_in}
+use Rattle.wasmi_link_lib.specs.inner.Tables.{Notes, export_key_eq, place_in}
 
 pub nothing : {V : Type 0} (o : Option V) (b : Bool) → b ≡ is_some o → b ≡ false → o ≡ None
 nothing None b is_b is_false = refl

@@ -8,7 +8,7 @@ use Rattle.wasmi_interner.specs.Interner.{symbol_of}
 use Rattle.wasmi_module.specs.Modules.{Import}
 use Rattle.wasmi_link_lib.specs.declared.names.ImportSymbols.{ImportSymbols}
 use Rattle.wasmi_link_lib.specs.Linking.{Named, with_value}
-use Rattle.wasmi_link_lib.specs.Tables.{AreSymbolsOf, HasSymbols}
+use Rattle.wasmi_link_lib.specs.inner.Tables.{AreSymbolsOf, HasSymbols}
 use Rattle.wasmi_link_lib.proofs.Lists.{fold_same}
 
 -- what holds of two lists holds with a weaker relation

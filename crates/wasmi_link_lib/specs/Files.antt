@@ -10,7 +10,8 @@ use Rattle.wasmi_link_lib.specs.declared.files.LinkError.{LinkError}
 use Rattle.wasmi_link_lib.specs.declared.files.LinkError.TheVariants.{NotAModule, Refused}
 use Rattle.wasmi_link_lib.specs.Paths.{IsModuleName}
 use Rattle.wasmi_link_lib.specs.Report.{report_text, status_of}
-use Rattle.wasmi_link_lib.specs.Linking.{Named, linked}
+use Rattle.wasmi_link_lib.specs.Lines.{Linked}
+use Rattle.wasmi_link_lib.specs.Linking.{IsPastKeys, Named, linked}
 
 -- the bytes of the file are a writing of this module, which has the name that the path tells
 pub record IsIn (file : File) (named : Named) : Type 0 where
@@ -25,12 +26,19 @@ pub record Tells (files : List File) (text : List ℕ) (status : ℕ) : Type 0 w
   pub reported : text ≡ report_text (linked modules)
   pub ended : status ≡ status_of (linked modules)
 
--- there is no memory, or there are more modules, names or types than have keys
-abbrev pub IsShortage : LinkError → Type 0
-IsShortage (NotAModule place error) = ⊥
-IsShortage (Refused error) = (error ≡ OutOfSystemMemory) ⊎ (error ≡ NotEnoughKeys)
+-- there is no memory
+abbrev pub IsWantOfMemory : LinkError → Type 0
+IsWantOfMemory error = error ≡ Refused OutOfSystemMemory
 
--- the file at a place is refused, and those before it are modules; or there is a shortage
+-- there is none, or what linking finds out is past the keys
+abbrev pub IsShortage : Linked → LinkError → Type 0
+IsShortage found (NotAModule place error) = ⊥
+IsShortage found (Refused error) = (error ≡ OutOfSystemMemory) ⊎ ((error ≡ NotEnoughKeys) × IsPastKeys found)
+
+-- the file at a place is refused, and those before it are modules; there is no memory; or the files are writings of
+-- modules, and what linking these finds out is past the keys
 abbrev pub IsRefusal : List File → LinkError → Type 0
 IsRefusal files (NotAModule place error) = (place < length files) × (error ≢ NoMemory) × (before : List Named) × AllZip IsIn (take place files) before
-IsRefusal files (Refused error) = IsShortage (Refused error)
+IsRefusal files (Refused error) =
+    (error ≡ OutOfSystemMemory)
+    ⊎ ((error ≡ NotEnoughKeys) × (modules : List Named) × AllZip IsIn files modules × IsPastKeys (linked modules))

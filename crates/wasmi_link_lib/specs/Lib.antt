@@ -1,6 +1,6 @@
 pub mod Lines
 pub mod Linking
-pub mod Tables
+pub mod inner
 pub mod Paths
 pub mod Report
 pub mod Files

@@ -1,5 +1,5 @@
 -- Which module gives what another one asks for: what linking is.
-use Rattle.std.specs.Prelude.{◌≡◌, ℕ, ◌==◌, Bool, true, false, ◌&&◌, if◌then◌else◌, List, [], ◌∷◌, ◌++◌, length, map, filter, find, fold, nat_le, Option, Some, None, is_some, option_and_then, position, slice_get, slice_index_or}
+use Rattle.std.specs.Prelude.{◌≡◌, ℕ, ◌<◌, ◌≤◌, ◌^◌, ◌⊎◌, ◌==◌, Bool, true, false, ◌&&◌, if◌then◌else◌, List, [], ◌∷◌, ◌++◌, length, map, filter, find, fold, nat_le, Option, Some, None, is_some, option_and_then, position, slice_get, slice_index_or}
 use Rattle.std.specs.Bool.{beq}
 use Rattle.std.specs.Cmp.Lexicographic.{pointwise}
 use Rattle.std.specs.List.{flat_map, All}
@@ -171,3 +171,8 @@ linked modules = record {
   distinct_types = length (without_repetitions func_type_eq (all_types modules));
   names = length (without_repetitions bytes_eq (all_names modules));
 }
+
+-- there are more modules, names or types of functions than have keys, or more entries of type sections than are
+-- counted
+abbrev pub IsPastKeys : Linked → Type 0
+IsPastKeys l = (2 ^ 32 < l.modules) ⊎ (2 ^ 32 < l.names) ⊎ (2 ^ 32 < l.distinct_types) ⊎ (2 ^ 64 ≤ l.types)

@@ -1,10 +1,10 @@
 //! Where the export of each name is.
-ghost use Rattle.std.specs.Prelude.{◌≡◌, ◌≢◌, ℕ, ◌⊎◌, List, find, map, Some, None, option_map, IfOk, OnOk, IfErr, IsOkUnless};
+ghost use Rattle.std.specs.Prelude.{◌≡◌, ◌≢◌, ℕ, ◌<◌, ◌^◌, ◌⊎◌, List, find, length, map, Some, None, option_map, IfOk, OnOk, IfErr, IsErrOf, IsOkUnless};
 ghost use Rattle.std.specs.Str.{bytes_eq};
 ghost use Rattle.wasmi_interner.specs.Interner.{symbol_of};
 ghost use Rattle.wasmi_module.specs.Views.{export_of};
 ghost use Rattle.wasmi_link_lib.specs.Linking.{named_of};
-ghost use Rattle.wasmi_link_lib.specs.Tables.{HasExports, Notes, place_in, place_of};
+ghost use Rattle.wasmi_link_lib.specs.inner.Tables.{HasExports, Notes, place_in, place_of};
 
 use crate::ids::ModuleId;
 use crate::named::NamedModule;
@@ -29,6 +29,7 @@ pub(crate) fn all_exports<A: Allocator + Copy>(
     modules: &[NamedModule<'_, A>],
 ) -> Result<Map<(ModuleId, Sym), Place, FixedState, A>, ArenaError>
     ensures ok { IfOk result (λ exports. HasExports names.now exports.entries (map named_of modules.now)) }
+    ensures keys { IsErrOf result ArenaError.NotEnoughKeys → 2 ^ 32 < length modules.now }
     ensures errors { IfErr result (λ error. (error ≡ ArenaError.NotEnoughKeys)
         ⊎ (error ≡ ArenaError.OutOfSystemMemory)) }
 {

@@ -1,7 +1,7 @@
 //! From the files of modules to a report.
 ghost use Rattle.std.specs.Prelude.{◌≡◌, map, IfErr, IfOk, string_bytes};
 ghost use Rattle.std.specs.List.{AllZip};
-ghost use Rattle.wasmi_link_lib.specs.Files.{IsIn, IsRefusal, IsShortage, Tells};
+ghost use Rattle.wasmi_link_lib.specs.Files.{IsIn, IsRefusal, IsShortage, IsWantOfMemory, Tells};
 ghost use Rattle.wasmi_link_lib.specs.Linking.{AreValid, linked, named_of};
 ghost use Rattle.wasmi_link_lib.specs.Report.{report_text, status_of};
 
@@ -44,7 +44,7 @@ pub enum LinkError {
 }
 
 impl From<AllocError> for LinkError {
-    ghost from_gives = { λ _ error. IsShortage error };
+    ghost from_gives = { λ _ error. IsWantOfMemory error };
 
     fn from(_error: AllocError) -> LinkError {
         LinkError::Refused(ArenaError::OutOfSystemMemory)
@@ -52,7 +52,7 @@ impl From<AllocError> for LinkError {
 }
 
 impl<T: Drop> From<AllocFailed<T>> for LinkError {
-    ghost from_gives = { λ _ error. IsShortage error };
+    ghost from_gives = { λ _ error. IsWantOfMemory error };
 
     fn from(_error: AllocFailed<T>) -> LinkError {
         LinkError::Refused(ArenaError::OutOfSystemMemory)
@@ -81,7 +81,7 @@ fn link_modules<A: Allocator + Copy>(
         string_bytes outcome.text ≡ report_text (linked (map named_of modules.now))) }
     ensures status { IfOk result (λ outcome.
         outcome.status ≡ status_of (linked (map named_of modules.now))) }
-    ensures errors { IfErr result IsShortage }
+    ensures errors { IfErr result (IsShortage (linked (map named_of modules.now))) }
 {
     let linked = match resolve(alloc, &*modules) {
         Ok(linked) => linked,

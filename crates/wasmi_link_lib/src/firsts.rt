@@ -1,8 +1,8 @@
 //! The first module of each name.
-ghost use Rattle.std.specs.Prelude.{◌≡◌, ◌⊎◌, map, IfOk, OnOk, IfErr};
+ghost use Rattle.std.specs.Prelude.{◌≡◌, ◌<◌, ◌^◌, ◌⊎◌, length, map, IfOk, OnOk, IfErr, IsErrOf, IsOkUnless};
 ghost use Rattle.wasmi_dense.specs.Components.{component_at};
 ghost use Rattle.wasmi_link_lib.specs.Linking.{named_of};
-ghost use Rattle.wasmi_link_lib.specs.Tables.{HasFirsts, Notes};
+ghost use Rattle.wasmi_link_lib.specs.inner.Tables.{HasFirsts, Notes};
 
 use crate::ids::ModuleId;
 use crate::named::NamedModule;
@@ -18,6 +18,7 @@ pub(crate) fn first_modules<A: Allocator>(
     modules: &[NamedModule<'_, A>],
 ) -> Result<ComponentVec<Sym, ModuleId, A>, ArenaError>
     ensures ok { IfOk result (λ firsts. HasFirsts names.now firsts (map named_of modules.now)) }
+    ensures keys { IsErrOf result ArenaError.NotEnoughKeys → 2 ^ 32 < length modules.now }
     ensures errors { IfErr result (λ error. (error ≡ ArenaError.NotEnoughKeys)
         ⊎ (error ≡ ArenaError.OutOfSystemMemory)) }
 {
@@ -37,8 +38,7 @@ fn note_first<A: Allocator>(
     id: ModuleId,
 ) -> Result<(), ArenaError>
     ensures ok { OnOk result (Notes names.now (component_at firsts.old) name.now id (component_at firsts.new)) }
-    ensures errors { IfErr result (λ error. (error ≡ ArenaError.NotEnoughKeys)
-        ⊎ (error ≡ ArenaError.OutOfSystemMemory)) }
+    ensures errors { IsOkUnless result ArenaError.OutOfSystemMemory }
 {
     if let Some(symbol) = names.get(name) {
         let there = firsts.has(symbol);

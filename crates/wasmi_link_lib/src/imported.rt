@@ -1,10 +1,10 @@
 //! What modules import, by kind.
-ghost use Rattle.std.specs.Prelude.{◌≡◌, ◌⊎◌, map, option_map, slice_get, IfOk, IfErr};
+ghost use Rattle.std.specs.Prelude.{◌≡◌, ◌<◌, ◌^◌, ◌⊎◌, length, map, option_map, slice_get, IfOk, IfErr, IsErrOf};
 ghost use Rattle.wasmi_module.specs.Valid.{IsValid};
 ghost use Rattle.wasmi_module.specs.Views.{module_of};
 ghost use Rattle.wasmi_module.specs.Modules.{Module as PlainModule};
 ghost use Rattle.wasmi_link_lib.specs.Linking.{named_of, items_of};
-ghost use Rattle.wasmi_link_lib.specs.Tables.{HasKeys, all_imported, imported_of, imported_view, keyed, keyed_of, signature_of};
+ghost use Rattle.wasmi_link_lib.specs.inner.Tables.{HasKeys, all_imported, imported_of, imported_view, keyed, keyed_of, signature_of};
 
 use crate::ids::{ModuleId, TypeId};
 use crate::item::{Item, asked, own};
@@ -77,6 +77,7 @@ pub(crate) fn of_all<A: Allocator + Copy>(
 ) -> Result<Arena<ModuleId, Imported<A>, A>, ArenaError>
     ensures ok { IfOk result (λ imported. map imported_view imported.items
         ≡ map (λ m. all_imported m.body) (map named_of modules.now)) }
+    ensures keys { IsErrOf result ArenaError.NotEnoughKeys → 2 ^ 32 < length modules.now }
     ensures errors { IfErr result (λ error. (error ≡ ArenaError.NotEnoughKeys)
         ⊎ (error ≡ ArenaError.OutOfSystemMemory)) }
 {

@@ -4,7 +4,7 @@ ghost use Rattle.wasmi_module.specs.Valid.{IsImportWithin, IsValid, counts_of};
 ghost use Rattle.wasmi_module.specs.Views.{module_of};
 ghost use Rattle.wasmi_link_lib.specs.Lines.{Func, item_of};
 ghost use Rattle.wasmi_link_lib.specs.Linking.{type_at, asked_item, own_items};
-ghost use Rattle.wasmi_link_lib.specs.Tables.{HasKeys, keyed, keyed_of, keyed_matches, signature_of};
+ghost use Rattle.wasmi_link_lib.specs.inner.Tables.{HasKeys, keyed, keyed_of, keyed_matches, signature_of};
 
 use crate::ids::TypeId;
 use crate::line::ItemType;

@@ -1,12 +1,12 @@
 //! The tables by which imports are resolved.
-ghost use Rattle.std.specs.Prelude.{◌≡◌, ℕ, ◌⊎◌, List, ◌++◌, map, option_map, slice_get, IfOk, OnOk, IfErr, IsOkUnless, Some};
+ghost use Rattle.std.specs.Prelude.{◌≡◌, ℕ, ◌⊎◌, List, ◌++◌, map, option_map, slice_get, IfOk, OnOk, IfErr, IsErrOf, IsOkUnless, Some};
 ghost use Rattle.wasmi_interner.specs.Interner.{symbol_of};
 ghost use Rattle.wasmi_module.specs.Modules.{Import as PlainImport};
 ghost use Rattle.wasmi_module.specs.Valid.{IsImportWithin, IsValid, counts_of};
 ghost use Rattle.wasmi_module.specs.Views.{import_of, module_of};
 ghost use Rattle.wasmi_link_lib.specs.Lines.{answer_of, line_of};
-ghost use Rattle.wasmi_link_lib.specs.Linking.{AreValid, Named, all_lines, answer_by, exported, line_for, module_named, named_of};
-ghost use Rattle.wasmi_link_lib.specs.Tables.{AreSymbolsOf, HasKeys, HasSymbols, IsLinkerOf, first_of, keyed, keyed_of, signature_of};
+ghost use Rattle.wasmi_link_lib.specs.Linking.{AreValid, IsPastKeys, Named, all_lines, answer_by, exported, line_for, linked, module_named, named_of};
+ghost use Rattle.wasmi_link_lib.specs.inner.Tables.{AreSymbolsOf, HasKeys, HasSymbols, IsLinkerOf, first_of, keyed, keyed_of, signature_of};
 
 use crate::exports::{Place, all_exports};
 use crate::firsts::first_modules;
@@ -42,6 +42,7 @@ impl<'a, A: Allocator + Copy> Linker<'a, A> {
     /// The tables of these modules.
     pub(crate) fn new(alloc: A, modules: &'a [NamedModule<'a, A>]) -> Result<Self, ArenaError>
         ensures ok { IfOk result (λ linker. IsLinkerOf (map named_of modules.now) linker) }
+        ensures keys { IsErrOf result ArenaError.NotEnoughKeys → IsPastKeys (linked (map named_of modules.now)) }
         ensures errors { IfErr result (λ error. (error ≡ ArenaError.NotEnoughKeys)
             ⊎ (error ≡ ArenaError.OutOfSystemMemory)) }
     {

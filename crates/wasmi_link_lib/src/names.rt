@@ -1,11 +1,11 @@
 //! All names, each once under a symbol.
-ghost use Rattle.std.specs.Prelude.{◌≡◌, ◌⊎◌, Some, map, fold, IfOk, OnOk, IfErr};
+ghost use Rattle.std.specs.Prelude.{◌≡◌, ◌<◌, ◌^◌, ◌⊎◌, Some, length, map, fold, IfOk, OnOk, IfErr, IsErrOf};
 ghost use Rattle.std.specs.List.{AllZip, flat_map};
 ghost use Rattle.std.specs.Str.{bytes_eq};
 ghost use Rattle.wasmi_module.specs.Views.{import_of, export_of};
 ghost use Rattle.wasmi_interner.specs.Interner.{symbol_of};
 ghost use Rattle.wasmi_link_lib.specs.Linking.{named_of, names_of, all_names, import_names, with_value};
-ghost use Rattle.wasmi_link_lib.specs.Tables.{AreSymbolsOf, HasSymbols};
+ghost use Rattle.wasmi_link_lib.specs.inner.Tables.{AreSymbolsOf, HasSymbols};
 
 use crate::named::NamedModule;
 use std::alloc::Allocator;
@@ -32,6 +32,8 @@ pub(crate) fn intern_all<A: Allocator + Copy>(
     ensures ok { OnOk result (names.new ≡ fold (with_value bytes_eq) names.old (all_names (map named_of modules.now))) }
     ensures symbols { IfOk result (λ symbols.
         AllZip (HasSymbols names.new) (map named_of modules.now) (map (λ s. s.items) symbols.items)) }
+    ensures keys { IsErrOf result ArenaError.NotEnoughKeys
+        → 2 ^ 32 < length (fold (with_value bytes_eq) names.old (all_names (map named_of modules.now))) }
     ensures errors { IfErr result (λ error. (error ≡ ArenaError.NotEnoughKeys)
         ⊎ (error ≡ ArenaError.OutOfSystemMemory)) }
 {
@@ -51,6 +53,8 @@ fn intern_names<A: Allocator + Copy>(
 ) -> Result<Vec<ImportSymbols, A>, ArenaError>
     ensures ok { OnOk result (names.new ≡ fold (with_value bytes_eq) names.old (names_of (named_of named.now))) }
     ensures symbols { IfOk result (λ symbols. HasSymbols names.new (named_of named.now) symbols.items) }
+    ensures keys { IsErrOf result ArenaError.NotEnoughKeys
+        → 2 ^ 32 < length (fold (with_value bytes_eq) names.old (names_of (named_of named.now))) }
     ensures errors { IfErr result (λ error. (error ≡ ArenaError.NotEnoughKeys)
         ⊎ (error ≡ ArenaError.OutOfSystemMemory)) }
 {
@@ -69,6 +73,8 @@ fn intern_imports<A: Allocator + Copy>(
     ensures ok { OnOk result (names.new
         ≡ fold (with_value bytes_eq) names.old (flat_map import_names (map import_of imports.now))) }
     ensures symbols { IfOk result (λ symbols. AllZip (AreSymbolsOf names.new) (map import_of imports.now) symbols.items) }
+    ensures keys { IsErrOf result ArenaError.NotEnoughKeys
+        → 2 ^ 32 < length (fold (with_value bytes_eq) names.old (flat_map import_names (map import_of imports.now))) }
     ensures errors { IfErr result (λ error. (error ≡ ArenaError.NotEnoughKeys)
         ⊎ (error ≡ ArenaError.OutOfSystemMemory)) }
 {
@@ -88,6 +94,8 @@ fn intern_exports<A: Allocator + Copy>(
 ) -> Result<(), ArenaError>
     ensures ok { OnOk result (names.new
         ≡ fold (with_value bytes_eq) names.old (map (λ e. e.name) (map export_of exports.now))) }
+    ensures keys { IsErrOf result ArenaError.NotEnoughKeys
+        → 2 ^ 32 < length (fold (with_value bytes_eq) names.old (map (λ e. e.name) (map export_of exports.now))) }
     ensures errors { IfErr result (λ error. (error ≡ ArenaError.NotEnoughKeys)
         ⊎ (error ≡ ArenaError.OutOfSystemMemory)) }
 {
@@ -101,6 +109,8 @@ fn intern_exports<A: Allocator + Copy>(
 fn intern<A: Allocator + Copy>(names: &mut StringInterner<A>, name: &str) -> Result<Sym, ArenaError>
     ensures ok { OnOk result (names.new ≡ with_value bytes_eq names.old name.now) }
     ensures symbol { IfOk result (λ symbol. symbol_of names.new name.now ≡ Some symbol) }
+    ensures keys { IsErrOf result ArenaError.NotEnoughKeys
+        → 2 ^ 32 < length (with_value bytes_eq names.old name.now) }
     ensures errors { IfErr result (λ error. (error ≡ ArenaError.NotEnoughKeys)
         ⊎ (error ≡ ArenaError.OutOfSystemMemory)) }
 {

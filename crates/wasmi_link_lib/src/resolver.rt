@@ -1,7 +1,7 @@
 //! Which module gives what another one asks for.
-ghost use Rattle.std.specs.Prelude.{◌≡◌, ◌⊎◌, map, IfOk, IfErr};
+ghost use Rattle.std.specs.Prelude.{◌≡◌, ◌⊎◌, map, IfOk, IfErr, IsErrOf};
 ghost use Rattle.wasmi_link_lib.specs.Lines.{linked_of};
-ghost use Rattle.wasmi_link_lib.specs.Linking.{AreValid, linked, named_of};
+ghost use Rattle.wasmi_link_lib.specs.Linking.{AreValid, IsPastKeys, linked, named_of};
 
 use crate::line::Linked;
 use crate::linker::Linker;
@@ -14,13 +14,15 @@ use wasmi_arena::ArenaError;
 /// their hashes.
 ///
 /// The modules are valid, as those that `decode` returns. Fails with `OutOfSystemMemory` if there is no memory for
-/// the tables or the lines, and with `NotEnoughKeys` if there are more than 2^32 modules, names or types of functions.
+/// the tables or the lines, and with `NotEnoughKeys` only if there are more than 2^32 modules, names or types of
+/// functions, or 2^64 entries of type sections.
 pub fn resolve<'a, A: Allocator + Copy>(
     alloc: A,
     modules: &'a [NamedModule<'a, A>],
 ) -> Result<Linked<'a, A>, ArenaError>
     requires { AreValid (map named_of modules.now) }
     ensures ok { IfOk result (λ found. linked_of found ≡ linked (map named_of modules.now)) }
+    ensures keys { IsErrOf result ArenaError.NotEnoughKeys → IsPastKeys (linked (map named_of modules.now)) }
     ensures errors { IfErr result (λ error. (error ≡ ArenaError.NotEnoughKeys)
         ⊎ (error ≡ ArenaError.OutOfSystemMemory)) }
 {

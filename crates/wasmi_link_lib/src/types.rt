@@ -1,8 +1,8 @@
 //! The types of functions, each once under a key.
-ghost use Rattle.std.specs.Prelude.{◌≡◌, ◌⊎◌, length, map, fold, IfOk, OnOk, IfErr, IsOkUnless, IsSome, Some};
+ghost use Rattle.std.specs.Prelude.{◌≡◌, ◌<◌, ◌≤◌, ◌^◌, ◌⊎◌, length, map, fold, IfOk, OnOk, IfErr, IsErrOf, IsOkUnless, IsSome, Some};
 ghost use Rattle.wasmi_module.specs.Views.{func_type_of};
 ghost use Rattle.wasmi_link_lib.specs.Linking.{named_of, all_types, func_type_eq, with_value, without_repetitions};
-ghost use Rattle.wasmi_link_lib.specs.Tables.{key_of, signature_of};
+ghost use Rattle.wasmi_link_lib.specs.inner.Tables.{key_of, signature_of};
 
 use crate::ids::TypeId;
 use crate::named::NamedModule;
@@ -37,6 +37,8 @@ pub(crate) fn take_all<'a, A: Allocator + Copy>(
 ) -> Result<DedupArena<TypeId, Signature<'a>, A>, ArenaError>
     ensures ok { IfOk result (λ types. map signature_of types.handed
         ≡ without_repetitions func_type_eq (all_types (map named_of modules.now))) }
+    ensures keys { IsErrOf result ArenaError.NotEnoughKeys
+        → 2 ^ 32 < length (without_repetitions func_type_eq (all_types (map named_of modules.now))) }
     ensures errors { IfErr result (λ error. (error ≡ ArenaError.NotEnoughKeys)
         ⊎ (error ≡ ArenaError.OutOfSystemMemory)) }
 {
@@ -54,6 +56,8 @@ fn take_types<'a, A: Allocator + Copy>(
 ) -> Result<(), ArenaError>
     ensures ok { OnOk result (map signature_of types.new.handed
         ≡ fold (with_value func_type_eq) (map signature_of types.old.handed) (map func_type_of taken.now)) }
+    ensures keys { IsErrOf result ArenaError.NotEnoughKeys → 2 ^ 32
+        < length (fold (with_value func_type_eq) (map signature_of types.old.handed) (map func_type_of taken.now)) }
     ensures errors { IfErr result (λ error. (error ≡ ArenaError.NotEnoughKeys)
         ⊎ (error ≡ ArenaError.OutOfSystemMemory)) }
 {
@@ -70,6 +74,8 @@ fn take_type<'a, A: Allocator + Copy>(
 ) -> Result<(), ArenaError>
     ensures ok { OnOk result (map signature_of types.new.handed
         ≡ with_value func_type_eq (map signature_of types.old.handed) (func_type_of ty.now)) }
+    ensures keys { IsErrOf result ArenaError.NotEnoughKeys
+        → 2 ^ 32 < length (with_value func_type_eq (map signature_of types.old.handed) (func_type_of ty.now)) }
     ensures errors { IfErr result (λ error. (error ≡ ArenaError.NotEnoughKeys)
         ⊎ (error ≡ ArenaError.OutOfSystemMemory)) }
 {
@@ -96,13 +102,15 @@ pub(crate) fn id_of<'a, A: Allocator>(
 /// Fails with `NotEnoughKeys` where these are 2^64 or more.
 pub(crate) fn count<A: Allocator>(modules: &[NamedModule<'_, A>]) -> Result<usize, ArenaError>
     ensures ok { IfOk result (λ count. count ≡ length (all_types (map named_of modules.now))) }
+    ensures keys { IsErrOf result ArenaError.NotEnoughKeys → 2 ^ 64 ≤ length (all_types (map named_of modules.now)) }
     ensures errors { IsOkUnless result ArenaError.NotEnoughKeys }
 {
     let mut count = 0usize;
     for named in modules {
-        count = count
-            .checked_add(named.module.types.len())
-            .ok_or(ArenaError::NotEnoughKeys)?;
+        let Some(more) = count.checked_add(named.module.types.len()) else {
+            return Err(ArenaError::NotEnoughKeys);
+        };
+        count = more;
     }
     Ok(count)
 }

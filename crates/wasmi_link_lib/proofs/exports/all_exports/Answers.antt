@@ -1,7 +1,7 @@
 use Rattle.std.proofs.Common.{◌∙◌, ap, find, map, option_map, bytes_eq}
 use Rattle.wasmi_module.specs.Views.{export_of}
 use Rattle.wasmi_link_lib.specs.Linking.{named_of}
-use Rattle.wasmi_link_lib.specs.Tables.{place_of}
+use Rattle.wasmi_link_lib.specs.inner.Tables.{place_of}
 use Rattle.wasmi_link_lib.proofs.Noted.{some_iff, absent_step, exports_step, exports_all}
 use Rattle.wasmi_link_lib.proofs.exports.all_exports.Goals as goal
 

@@ -1,6 +1,6 @@
 use Rattle.std.proofs.Common.{Some, ap, sym}
 use Rattle.wasmi_module.specs.Views.{export_of}
-use Rattle.wasmi_link_lib.specs.Tables.{place_in, place_of}
+use Rattle.wasmi_link_lib.specs.inner.Tables.{place_in, place_of}
 use Rattle.wasmi_link_lib.proofs.Symbols.{notes_tried, place_changes, place_tried}
 use Rattle.wasmi_link_lib.proofs.exports.note_export.Goals as goal
 

@@ -1,6 +1,6 @@
 use Rattle.std.proofs.Common.{◌∙◌}
 use Rattle.wasmi_module.specs.Views.{export_of}
-use Rattle.wasmi_link_lib.specs.Tables.{place_in}
+use Rattle.wasmi_link_lib.specs.inner.Tables.{place_in}
 use Rattle.wasmi_link_lib.proofs.Noted.{places_step}
 use Rattle.wasmi_link_lib.proofs.exports.note_exports.Goals as goal
 

@@ -2,7 +2,7 @@ use Rattle.std.proofs.Common.{◌≡◌, ◌≢◌, ℕ, List, map, take, Some, 
 use Rattle.std.specs.Str.{bytes_eq}
 use Rattle.wasmi_interner.specs.Interner.{symbol_of}
 use Rattle.wasmi_module.specs.Views.{export_of}
-use Rattle.wasmi_link_lib.specs.Tables.{place_in, place_of}
+use Rattle.wasmi_link_lib.specs.inner.Tables.{place_in, place_of}
 use Rattle.wasmi_link_lib.proofs.exports.note_exports.Given as goal
 
 -- those so far are noted, and no other module's places have changed

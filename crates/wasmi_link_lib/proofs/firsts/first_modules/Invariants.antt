@@ -1,6 +1,6 @@
 use Rattle.std.proofs.Common.{map, take}
 use Rattle.wasmi_link_lib.specs.Linking.{named_of}
-use Rattle.wasmi_link_lib.specs.Tables.{HasFirsts}
+use Rattle.wasmi_link_lib.specs.inner.Tables.{HasFirsts}
 use Rattle.wasmi_link_lib.proofs.firsts.first_modules.Given as goal
 
 abbrev pub invariant-loop-number : goal.invariant-loop-number

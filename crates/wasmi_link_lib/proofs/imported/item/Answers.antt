@@ -1,6 +1,6 @@
 use Rattle.std.proofs.Common.{◌≡◌, ◌+◌, ◌-◌, ◌∙◌, Some, ap, length, map, option_map, slice_get, sym, arith}
 use Rattle.wasmi_module.specs.Views.{module_of}
-use Rattle.wasmi_link_lib.specs.Tables.{imported_of, keyed, signature_of}
+use Rattle.wasmi_link_lib.specs.inner.Tables.{imported_of, keyed, signature_of}
 use Rattle.wasmi_link_lib.proofs.Asked.{imported_within, imported_item, own_item}
 use Rattle.wasmi_link_lib.proofs.Lists.{got}
 use Rattle.wasmi_link_lib.proofs.imported.item.Goals as goal

@@ -1,6 +1,6 @@
 use Rattle.std.proofs.Common.{◌≡◌, map, take}
 use Rattle.wasmi_link_lib.specs.Linking.{named_of}
-use Rattle.wasmi_link_lib.specs.Tables.{all_imported, imported_view}
+use Rattle.wasmi_link_lib.specs.inner.Tables.{all_imported, imported_view}
 use Rattle.wasmi_link_lib.proofs.imported.of_all.Given as goal
 
 abbrev pub invariant-loop-named : goal.invariant-loop-named

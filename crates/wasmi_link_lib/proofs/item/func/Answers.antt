@@ -1,6 +1,6 @@
 use Rattle.wasmi_module.specs.Views.{func_type_of}
 use Rattle.std.proofs.Common.{map}
-use Rattle.wasmi_link_lib.specs.Tables.{signature_of}
+use Rattle.wasmi_link_lib.specs.inner.Tables.{signature_of}
 use Rattle.wasmi_link_lib.proofs.Asked.{key_at}
 use Rattle.wasmi_link_lib.proofs.item.func.Goals as goal
 

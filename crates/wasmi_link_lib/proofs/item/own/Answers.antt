@@ -1,7 +1,7 @@
 use Rattle.std.proofs.Common.{Some, None, ap, map, sym}
 use Rattle.std.proofs.lemmas.Option.{slice_get_past}
 use Rattle.wasmi_module.specs.Views.{global_of, module_of}
-use Rattle.wasmi_link_lib.specs.Tables.{signature_of}
+use Rattle.wasmi_link_lib.specs.inner.Tables.{signature_of}
 use Rattle.wasmi_link_lib.proofs.Asked.{own_global}
 use Rattle.wasmi_link_lib.proofs.Lists.{got}
 use Rattle.wasmi_link_lib.proofs.item.own.Goals as goal

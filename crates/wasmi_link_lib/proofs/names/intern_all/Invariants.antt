@@ -2,7 +2,7 @@ use Rattle.std.proofs.Common.{◌≡◌, map, take}
 use Rattle.std.specs.List.{AllZip, fold}
 use Rattle.std.specs.Str.{bytes_eq}
 use Rattle.wasmi_link_lib.specs.Linking.{named_of, all_names, with_value}
-use Rattle.wasmi_link_lib.specs.Tables.{HasSymbols}
+use Rattle.wasmi_link_lib.specs.inner.Tables.{HasSymbols}
 use Rattle.wasmi_link_lib.proofs.names.intern_all.Given as goal
 
 abbrev pub invariant-loop-named : goal.invariant-loop-named

@@ -3,7 +3,7 @@ use Rattle.std.specs.List.{AllZip, fold, flat_map}
 use Rattle.std.specs.Str.{bytes_eq}
 use Rattle.wasmi_module.specs.Views.{import_of}
 use Rattle.wasmi_link_lib.specs.Linking.{import_names, with_value}
-use Rattle.wasmi_link_lib.specs.Tables.{AreSymbolsOf}
+use Rattle.wasmi_link_lib.specs.inner.Tables.{AreSymbolsOf}
 use Rattle.wasmi_link_lib.proofs.names.intern_imports.Given as goal
 
 abbrev pub invariant-loop-import : goal.invariant-loop-import

@@ -2,7 +2,7 @@ use Rattle.std.proofs.Common.{◌≡◌, ◌∙◌, List, ap, length, map, sym}
 use Rattle.std.proofs.lemmas.List.{length-map}
 use Rattle.wasmi_module.specs.Modules.{FuncType}
 use Rattle.wasmi_link_lib.specs.Linking.{all_types, func_type_eq, named_of, without_repetitions}
-use Rattle.wasmi_link_lib.specs.Tables.{signature_of}
+use Rattle.wasmi_link_lib.specs.inner.Tables.{signature_of}
 use Rattle.wasmi_link_lib.proofs.resolver.resolve.Goals as goal
 
 pub returns-clause-ok : goal.returns-clause-ok

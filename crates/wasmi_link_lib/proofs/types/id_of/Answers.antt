@@ -1,5 +1,5 @@
 use Rattle.std.proofs.Common.{◌∙◌, ap, map, sym, is_some, position, true≢false}
-use Rattle.wasmi_link_lib.specs.Tables.{key_of, signature_of}
+use Rattle.wasmi_link_lib.specs.inner.Tables.{key_of, signature_of}
 use Rattle.wasmi_link_lib.specs.contracts.types.SignaturePartialEq.TheImpl as signature
 use Rattle.wasmi_link_lib.proofs.Keys.{key_seen}
 use Rattle.wasmi_link_lib.proofs.Lists.{is_some-map}

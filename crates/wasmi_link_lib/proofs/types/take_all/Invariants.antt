@@ -1,6 +1,6 @@
 use Rattle.std.proofs.Common.{◌≡◌, map, take}
 use Rattle.wasmi_link_lib.specs.Linking.{named_of, all_types, func_type_eq, without_repetitions}
-use Rattle.wasmi_link_lib.specs.Tables.{signature_of}
+use Rattle.wasmi_link_lib.specs.inner.Tables.{signature_of}
 use Rattle.wasmi_link_lib.proofs.types.take_all.Given as goal
 
 abbrev pub invariant-loop-named : goal.invariant-loop-named

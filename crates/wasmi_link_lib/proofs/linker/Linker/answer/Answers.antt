@@ -3,7 +3,7 @@ use Rattle.wasmi_module.specs.Valid.{IsValid}
 use Rattle.wasmi_module.specs.Views.{module_of}
 use Rattle.wasmi_link_lib.specs.Lines.{Found, Differs}
 use Rattle.wasmi_link_lib.specs.Linking.{answer_by, exported, named_of}
-use Rattle.wasmi_link_lib.specs.Tables.{keyed_of, signature_of}
+use Rattle.wasmi_link_lib.specs.inner.Tables.{keyed_of, signature_of}
 use Rattle.wasmi_link_lib.proofs.Asked.{answered, missing}
 use Rattle.wasmi_link_lib.proofs.Keys.{has_keys}
 use Rattle.wasmi_link_lib.proofs.Lists.{All_get, Contains-got}

@@ -1,7 +1,7 @@
 use Rattle.std.proofs.Common.{Err, ◌<◌, length, arith, ◌∙◌, ap, map, option_map}
 use Rattle.wasmi_module.specs.Views.{module_of}
 use Rattle.wasmi_link_lib.specs.Linking.{named_of, export_named}
-use Rattle.wasmi_link_lib.specs.Tables.{imported_view, keyed, signature_of}
+use Rattle.wasmi_link_lib.specs.inner.Tables.{imported_view, keyed, signature_of}
 use Rattle.wasmi_link_lib.proofs.Asked.{imported_is, imported_there, place_given, exported_at, exported_none}
 use Rattle.wasmi_link_lib.proofs.linker.Linker.exported.Goals as goal
 

@@ -2,7 +2,7 @@ use Rattle.std.proofs.Common.{◌≡◌, ◌∙◌, ap, map}
 use Rattle.wasmi_module.specs.Views.{import_of}
 use Rattle.wasmi_link_lib.specs.Linking.{answer_by, asked_item, module_named, named_of}
 use Rattle.wasmi_link_lib.specs.Lines.{ItemType}
-use Rattle.wasmi_link_lib.specs.Tables.{Keyed, keyed_of, signature_of}
+use Rattle.wasmi_link_lib.specs.inner.Tables.{Keyed, keyed_of, signature_of}
 use Rattle.wasmi_link_lib.proofs.Asked.{keyed-type}
 use Rattle.wasmi_link_lib.proofs.linker.Linker.line.Goals as goal
 

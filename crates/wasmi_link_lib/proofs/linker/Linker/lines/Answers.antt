@@ -4,7 +4,7 @@ use Rattle.std.proofs.lemmas.Slice.Zip.{AllZip-long}
 use Rattle.wasmi_module.specs.Valid.{IsValid}
 use Rattle.wasmi_link_lib.specs.Lines.{line_of}
 use Rattle.wasmi_link_lib.specs.Linking.{line_for, named_of}
-use Rattle.wasmi_link_lib.specs.Tables.{HasSymbols, signature_of}
+use Rattle.wasmi_link_lib.specs.inner.Tables.{HasSymbols, signature_of}
 use Rattle.wasmi_link_lib.proofs.Keys.{has_keys}
 use Rattle.wasmi_link_lib.proofs.Lists.{All_get, Contains-got, got, pieces_step, slice_get_map}
 use Rattle.wasmi_link_lib.proofs.Zips.{AllZip-read}

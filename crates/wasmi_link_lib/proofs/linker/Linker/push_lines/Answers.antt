@@ -6,7 +6,7 @@ use Rattle.wasmi_module.specs.Valid.{IsImportWithin, counts_of}
 use Rattle.wasmi_module.specs.Views.{import_of, module_of}
 use Rattle.wasmi_link_lib.specs.Lines.{line_of}
 use Rattle.wasmi_link_lib.specs.Linking.{line_for, named_of}
-use Rattle.wasmi_link_lib.specs.Tables.{AreSymbolsOf}
+use Rattle.wasmi_link_lib.specs.inner.Tables.{AreSymbolsOf}
 use Rattle.wasmi_link_lib.proofs.Lists.{All_along, All_at, got, got_at, joined_step, slice_get_map}
 use Rattle.wasmi_link_lib.proofs.Zips.{AllZip-read}
 use Rattle.wasmi_link_lib.proofs.linker.Linker.push_lines.Goals as goal
