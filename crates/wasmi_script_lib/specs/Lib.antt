@@ -6,5 +6,5 @@ pub mod Store
 pub mod Replies
 pub mod States
 pub mod Outputs
-pub mod Sessions
+pub mod inner
 pub mod Statuses

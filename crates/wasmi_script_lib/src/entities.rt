@@ -2,7 +2,7 @@
 //!
 //! Each adds its reply to `replies`, and ends the script if there is no memory.
 ghost use Rattle.std.specs.Prelude.{◌≡◌, OnOk, IsOkUnless};
-ghost use Rattle.wasmi_script_lib.specs.Sessions.{AddsReply, with_store};
+ghost use Rattle.wasmi_script_lib.specs.inner.Sessions.{AddsReply, with_store};
 ghost use Rattle.wasmi_script_lib.specs.States.{reply_to, state_after};
 ghost use Rattle.wasmi_script_lib.specs.Requests as request;
 

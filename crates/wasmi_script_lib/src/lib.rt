@@ -22,6 +22,7 @@
 mod entities;
 mod error;
 mod kinds;
+pub mod laws;
 mod line;
 mod program;
 mod reply;

@@ -57,7 +57,7 @@ impl<'a> Command<'a> {
     }
 }
 
-/// `NAME KIND`, where the name isn't empty.
+// `NAME KIND`, where the name isn't empty.
 fn add(argument: &str) -> Option<Command<'_>>
     ensures { option_map meaning_of result ≡ add_of (parts_of argument.now) }
 {
@@ -68,7 +68,7 @@ fn add(argument: &str) -> Option<Command<'_>>
     Some(Command::AddEntity(name, kind))
 }
 
-/// `N M`.
+// `N M`.
 fn set(argument: &str) -> Option<Command<'_>>
     ensures { option_map meaning_of result ≡ set_of (parts_of argument.now) }
 {
@@ -76,7 +76,7 @@ fn set(argument: &str) -> Option<Command<'_>>
     Some(Command::SetProperty(number(key)?, number(property)?))
 }
 
-/// `N KIND`.
+// `N KIND`.
 fn rename(argument: &str) -> Option<Command<'_>>
     ensures { option_map meaning_of result ≡ rename_of (parts_of argument.now) }
 {
@@ -84,15 +84,15 @@ fn rename(argument: &str) -> Option<Command<'_>>
     Some(Command::RenameKind(number(key)?, kind))
 }
 
-/// What stands before the first space, and what after it.
+// What stands before the first space, and what after it.
 fn parts(argument: &str) -> Option<(&str, &str)>
     ensures { option_map (λ parts. (parts.0.now, parts.1.now)) result ≡ parts_of argument.now }
 {
     argument.split_once(' ')
 }
 
-/// The number that one or more ASCII digits name. `None` for any other text, so for one with a sign,
-/// and for a number above `usize::MAX`.
+// The number that one or more ASCII digits name. `None` for any other text, so for one with a sign,
+// and for a number above `usize::MAX`.
 fn number(digits: &str) -> Option<usize>
     ensures { result ≡ number_of digits.now }
 {

@@ -9,10 +9,10 @@ use crate::session::answer;
 use std::alloc::Allocator;
 use std::io::{Read, Write};
 
-/// The most reads that an input may take.
+// The most reads that an input may take.
 const MOST_READS: u64 = 1 << 40;
 
-/// How many bytes one read asks for.
+// How many bytes one read asks for.
 const READ_LEN: usize = 8192;
 
 /// Reads a script to its end, and writes the replies to it and nothing else.
@@ -46,7 +46,7 @@ pub fn run<A: Allocator + Copy, R: Read, W: Write>(
     write_out(writer, replies.as_bytes())
 }
 
-/// All bytes up to the reader's end.
+// All bytes up to the reader's end.
 fn read_all<A: Allocator, R: Read>(alloc: A, reader: &mut R) -> Result<Vec<u8, A>, ScriptError>
     ensures bytes { IfOk result (λ input.
         IfSome (R.remaining reader.old) (λ all. input.items ≡ all)) }
@@ -69,7 +69,7 @@ fn read_all<A: Allocator, R: Read>(alloc: A, reader: &mut R) -> Result<Vec<u8, A
     Err(ScriptError::ReadFailed)
 }
 
-/// Writes all bytes, and flushes.
+// Writes all bytes, and flushes.
 fn write_out<W: Write>(writer: &mut W, bytes: &[u8]) -> Result<(), ScriptError>
     ensures ok { OnOk result (Appends (W.contents writer.old) (W.contents writer.new) bytes.now) }
     ensures errors { IsOkUnless result ScriptError.WriteFailed }

@@ -1,7 +1,7 @@
 //! The reply to a refused call.
 ghost use Rattle.std.specs.Prelude.{◌≢◌, OnOk, IsOkUnless};
 ghost use Rattle.wasmi_script_lib.specs.Replies.{error_reply};
-ghost use Rattle.wasmi_script_lib.specs.Sessions.{AddsReply};
+ghost use Rattle.wasmi_script_lib.specs.inner.Sessions.{AddsReply};
 
 use std::alloc::Allocator;
 use wasmi_arena::ArenaError;

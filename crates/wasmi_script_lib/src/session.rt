@@ -2,7 +2,7 @@
 ghost use Rattle.std.specs.Prelude.{◌≡◌, ◌++◌, [], IfOk, OnOk, IsOkUnless, string_bytes, codes, decimal};
 ghost use Rattle.wasmi_script_lib.specs.Outputs.{line_reply, output_of, state_after_line};
 ghost use Rattle.wasmi_script_lib.specs.Requests.{request_of};
-ghost use Rattle.wasmi_script_lib.specs.Sessions.{state_of, AddsReply};
+ghost use Rattle.wasmi_script_lib.specs.inner.Sessions.{state_of, AddsReply};
 ghost use Rattle.wasmi_script_lib.specs.States.{empty};
 
 use crate::line::Command;

@@ -18,7 +18,7 @@ pub enum Entities {}
 /// The key of an entity. A contract sees its number, which is the entity's position.
 pub type EntityKey = TypedKey<Entities>;
 
-/// What is kept of an entity: the symbol of its name, and the key of its kind.
+// What is kept of an entity: the symbol of its name, and the key of its kind.
 #[derive(Clone, Copy, PartialEq, Eq)]
 struct Named {
     name: Sym,

@@ -1,6 +1,6 @@
 //! The texts that a script keeps, and their commands.
 ghost use Rattle.std.specs.Prelude.{◌≡◌, OnOk, IsOkUnless};
-ghost use Rattle.wasmi_script_lib.specs.Sessions.{AddsReply};
+ghost use Rattle.wasmi_script_lib.specs.inner.Sessions.{AddsReply};
 ghost use Rattle.wasmi_script_lib.specs.States.{empty, reply_to, state_after};
 ghost use Rattle.wasmi_script_lib.specs.Requests as request;
 
@@ -24,7 +24,7 @@ pub(crate) struct ScriptTexts<A: Allocator> {
 }
 
 impl<A: Allocator> ScriptTexts<A> {
-    ghost use Rattle.wasmi_script_lib.specs.Sessions.{with_texts};
+    ghost use Rattle.wasmi_script_lib.specs.inner.Sessions.{with_texts};
 
     pub(crate) fn new(alloc: A) -> Self
     where

@@ -2,7 +2,7 @@ use Rattle.std.proofs.Common.{◌≡◌, ◌+◌, ◌≤◌, cond, [], ◌++◌,
 use Rattle.std.specs.Str.Iter.{split_text, split_has_more, split_terminator_parts, split_terminator_pattern}
 use Rattle.wasmi_script_lib.specs.Lines.{lines_of}
 use Rattle.wasmi_script_lib.specs.Outputs.{output_from, output_of}
-use Rattle.wasmi_script_lib.specs.Sessions.{state_of}
+use Rattle.wasmi_script_lib.specs.inner.Sessions.{state_of}
 use Rattle.wasmi_script_lib.proofs.session.reply_all.Given as goal
 
 abbrev pub invariant-loop-line : goal.invariant-loop-line

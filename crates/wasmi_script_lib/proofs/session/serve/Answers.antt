@@ -1,6 +1,6 @@
 use Rattle.std.proofs.Common.{length, ltb, map, string_bytes, ap, ◌∙◌}
 use Rattle.wasmi_arena.specs.Geometry.{max_len}
-use Rattle.wasmi_script_lib.specs.Sessions.{with_texts}
+use Rattle.wasmi_script_lib.specs.inner.Sessions.{with_texts}
 use Rattle.wasmi_script_lib.specs.States.{State}
 use Rattle.wasmi_script_lib.specs.Store.{Store}
 use Rattle.wasmi_script_lib.proofs.KeptLemmas.{of-either}

@@ -2,7 +2,7 @@ use Rattle.std.proofs.Common.{[], ◌∷◌, ◌++◌, Err, codes, decimal, is_o
 use Rattle.std.proofs.lemmas.Result.{on_ok_weaker}
 use Rattle.wasmi_arena.specs.declared.error.ArenaError.{ArenaError}
 use Rattle.wasmi_script_lib.specs.Replies.{error_reply}
-use Rattle.wasmi_script_lib.specs.Sessions.{AddsReply, with_store}
+use Rattle.wasmi_script_lib.specs.inner.Sessions.{AddsReply, with_store}
 use Rattle.wasmi_script_lib.proofs.EntityLemmas.{key-added, no-entity_key}
 use Rattle.wasmi_script_lib.proofs.ReplyLemmas.{OnOk-both, not_memory, word_text}
 use Rattle.wasmi_script_lib.proofs.store.EntityStore.serve_add.Goals as goal

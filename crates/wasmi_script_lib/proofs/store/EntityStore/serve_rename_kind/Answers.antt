@@ -4,7 +4,7 @@ use Rattle.std.proofs.lemmas.Option.{slice_get_past}
 use Rattle.std.proofs.lemmas.Result.{on_ok_weaker}
 use Rattle.wasmi_arena.specs.declared.error.ArenaError.{ArenaError}
 use Rattle.wasmi_script_lib.specs.Replies.{error_reply}
-use Rattle.wasmi_script_lib.specs.Sessions.{AddsReply, with_store}
+use Rattle.wasmi_script_lib.specs.inner.Sessions.{AddsReply, with_store}
 use Rattle.wasmi_script_lib.specs.Store.{is_other_kind}
 use Rattle.wasmi_script_lib.proofs.EntityLemmas.{is-duplicate, not_past}
 use Rattle.wasmi_script_lib.proofs.ReplyLemmas.{OnOk-both}

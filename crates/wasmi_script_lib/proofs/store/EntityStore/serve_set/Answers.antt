@@ -2,7 +2,7 @@ use Rattle.std.proofs.Common.{◌≡◌, Err, None, Some, codes, decimal, slice_
 use Rattle.std.specs.Option.{option_map}
 use Rattle.std.proofs.lemmas.Option.{slice_get_past}
 use Rattle.std.proofs.lemmas.Result.{on_ok_weaker}
-use Rattle.wasmi_script_lib.specs.Sessions.{with_store}
+use Rattle.wasmi_script_lib.specs.inner.Sessions.{with_store}
 use Rattle.wasmi_script_lib.specs.Store.{Entity}
 use Rattle.wasmi_script_lib.proofs.EntityLemmas.{not_past, property_of_none, under_key, was-property}
 use Rattle.wasmi_script_lib.proofs.ReplyLemmas.{not_either, word_text}

@@ -3,7 +3,7 @@ use Rattle.std.proofs.lemmas.List.{length-map}
 use Rattle.std.proofs.lemmas.Result.{on_ok_weaker}
 use Rattle.wasmi_arena.specs.declared.error.ArenaError.{ArenaError}
 use Rattle.wasmi_script_lib.specs.Replies.{error_reply}
-use Rattle.wasmi_script_lib.specs.Sessions.{AddsReply, with_texts}
+use Rattle.wasmi_script_lib.specs.inner.Sessions.{AddsReply, with_texts}
 use Rattle.wasmi_script_lib.specs.States.{State}
 use Rattle.wasmi_script_lib.specs.declared.texts.ScriptTexts.{ScriptTexts}
 use Rattle.wasmi_script_lib.proofs.KeptLemmas.{kept-last, no-key}

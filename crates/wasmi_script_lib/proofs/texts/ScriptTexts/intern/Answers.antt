@@ -2,7 +2,7 @@ use Rattle.std.proofs.Common.{ℕ, List, Err, codes, decimal, is_ok, string_byte
 use Rattle.std.proofs.lemmas.Result.{on_ok_weaker}
 use Rattle.wasmi_arena.specs.declared.error.ArenaError.{ArenaError}
 use Rattle.wasmi_script_lib.specs.Replies.{error_reply}
-use Rattle.wasmi_script_lib.specs.Sessions.{AddsReply, with_texts}
+use Rattle.wasmi_script_lib.specs.inner.Sessions.{AddsReply, with_texts}
 use Rattle.wasmi_script_lib.specs.States.{State, symbols}
 use Rattle.wasmi_script_lib.specs.declared.texts.ScriptTexts.{ScriptTexts}
 use Rattle.wasmi_script_lib.proofs.DistinctLemmas.{given-number, no-number}
