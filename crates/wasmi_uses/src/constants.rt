@@ -15,6 +15,7 @@ pub fn share_a_slot(
 ) -> Result<bool, ArenaError>
     ensures { IfOk result (λ shared. shared ≡ (one == other)) }
 {
+    // proof: equal values have one key, and each value has a key of its own.
     equal_values_share_a_key::<u32, u64>();
     table.len();
     let first = table.alloc(one)?;
@@ -61,6 +62,7 @@ pub fn slot_of_text(table: &DedupArena<u32, String>, text: &String) -> Option<u3
     ensures { IfSome result (λ slot.
         symbol_of (map string_bytes table.now.handed) (string_bytes text.now) ≡ Some slot) }
 {
+    // proof: strings are equal where their bytes are.
     strings_by_bytes::<Global>();
     table.key_of(text)
 }

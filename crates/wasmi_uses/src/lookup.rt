@@ -14,6 +14,7 @@ pub fn any_differs<Key: ArenaKey>(
 ) -> bool
     requires { length one.now ≤ length other.now }
 {
+    // proof: each position has a key, and a walk gives the entries of the positions.
     one.len();
     walked_entries_read::<Key, u64>();
     for (key, item) in one {
@@ -28,6 +29,7 @@ pub fn any_differs<Key: ArenaKey>(
 pub fn first_above<Key: ArenaKey>(arena: &StableArena<Key, u64>, limit: u64) -> Option<(Key, u64)>
     ensures { IfSome result (λ found. slice_get arena.now (Key.keys.number found.0) ≡ Some found.1) }
 {
+    // proof: as above.
     arena.len();
     walked_entries_read::<Key, u64>();
     match arena.iter().find(|entry| *entry.1 > limit) {
