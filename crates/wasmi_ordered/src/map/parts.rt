@@ -48,7 +48,7 @@ impl<K: Hash + Ord, V, A: Allocator> Map<K, V, A> {
 
     /// Moves all entries of another map here, which is empty then. Under a key that is in both stands the
     /// value of the other map; one of the two keys and the value that was here are dropped.
-    /// An empty map is exchanged with the other one, allocators included.
+    /// An empty map is exchanged with one that has entries, allocators included.
     /// `n log n` for `n` moved entries, or linear in both maps.
     ///
     /// Fails with `OutOfSystemMemory` if there is no memory. The entries before the one that found no

@@ -49,7 +49,7 @@ impl<T: Hash + Ord, A: Allocator> Set<T, A> {
 
     /// Moves all elements of another set here, which is empty then. Of an element that is in both, one is
     /// dropped.
-    /// An empty set is exchanged with the other one, allocators included.
+    /// An empty set is exchanged with one that has elements, allocators included.
     /// `n log n` for `n` moved elements, or linear in both sets.
     ///
     /// Fails with `OutOfSystemMemory` if there is no memory. The elements before the one that found no
