@@ -53,6 +53,16 @@ fn a_call_costs_the_same_in_any_arena(rt: HostRuntime) {
     }
 }
 
+// It would take minutes if it went over the values, or the entries of the index.
+#[test]
+fn a_call_takes_no_walk(rt: HostRuntime) {
+    let numbers = DedupArena::<usize, usize>::from_iter(rt.alloc(), 0..524_288);
+    let mut arena = numbers.expect(&rt, "");
+    for key in 0..524_288usize {
+        assert_equal!(rt; arena.replace(key, key + 524_288), Ok(key));
+    }
+}
+
 // A value that is looked up is compared with no other that was handed in.
 #[test]
 fn a_look_compares_one_value(rt: HostRuntime) {

@@ -2,7 +2,7 @@
 use std::alloc::{AllocError, Global};
 use std::process::Abort;
 use wasmi_collections::arena::ArenaError;
-use wasmi_collections::hash::RandomState;
+use wasmi_collections::hash::{FixedState, RandomState};
 use wasmi_collections::run::{
     AnyMap, AnySet, MapCommand, MapReply, SetCommand, SetReply, run_map, run_set,
 };
@@ -249,4 +249,27 @@ fn a_full_hashed_map_stays_as_it_is(rt: HostRuntime) {
     let asked = log.requests();
     assert_equal!(rt; (map.or_insert(0, 1), map.capacity()), (Ok(true), room));
     assert_equal!(rt; log.requests(), asked);
+}
+
+// What is taken out leaves its room to what comes.
+#[test]
+fn a_removal_asks_for_no_memory(rt: HostRuntime) {
+    let (log, alloc) = (Log::new(), rt.alloc());
+    let mut map: hashed::Map<u32, u32, FixedState, Logged<'_>> = hashed::Map::new(Logged::new(
+        alloc, &log,
+    ));
+    let mut set: hashed::Set<u32, FixedState, Logged<'_>> = hashed::Set::new(Logged::new(
+        alloc, &log,
+    ));
+    let (mut of_map, mut of_set) = (Vec::new(alloc), Vec::new(alloc));
+    for key in 0..1_000u32 {
+        map.insert(key, key).expect(&rt, "");
+        set.insert(key).expect(&rt, "");
+        of_map.push(MapCommand::Remove(key)).expect(&rt, "");
+        of_set.push(SetCommand::Remove(key)).expect(&rt, "");
+    }
+    let asked = log.requests();
+    run_map(alloc, &mut map, of_map).expect(&rt, "");
+    run_set(alloc, &mut set, of_set).expect(&rt, "");
+    assert_equal!(rt; (map.len(), set.len(), log.requests()), (0, 0, asked));
 }

@@ -89,6 +89,9 @@ fn a_far_number_asks_for_its_places_alone(rt: HostRuntime) {
     assert_equal!(rt; components.extent(), 1_000_000);
     drop(components);
     assert_equal!(rt; log.amiss(), 0);
+    // And forty million of one byte.
+    let mut far: ComponentVec<usize, ()> = ComponentVec::new(rt.alloc());
+    assert_equal!(rt; (far.set(40_000_000, ()), far.extent()), (Ok(None), 40_000_001));
 }
 
 #[test]
@@ -103,6 +106,8 @@ fn many_that_come_one_by_one_ask_seldom(rt: HostRuntime) {
         assert_equal!(rt; arena.alloc(7), Ok(number));
     }
     assert_equal!(rt; log.requests(), 21);
+    let more = arena.alloc_many(3_000_000).expect(&rt, "");
+    assert_equal!(rt; (more.start, log.requests()), (2_097_153, 22));
     let log = Log::new();
     let handle = Observed::new(rt.alloc(), &log);
     let collected = Arena::<usize, u64, Observed<'_>>::from_iter(handle, 0..2_097_153u64);

@@ -138,6 +138,25 @@ fn what_is_in_both_is_dropped_once(rt: HostRuntime) {
     assert_equal!(rt; (keys.dropped(), values.get(), elements.dropped()), (4, 4, 4));
 }
 
+// What has entries leaves an empty one its allocator for its own, of which the next entry is asked; what has none keeps it.
+#[test]
+fn empty_ones_are_exchanged(rt: HostRuntime) {
+    for len in [0, 1] {
+        let (log, others) = (Log::new(), Log::new());
+        let mut map: Map<u64, u64, Observed<'_>> = Map::new(Observed::new(rt.alloc(), &log));
+        let mut set: Set<u64, Observed<'_>> = Set::new(Observed::new(rt.alloc(), &log));
+        let mut pairs: Map<u64, u64, Observed<'_>> = Map::new(Observed::new(rt.alloc(), &others));
+        let mut elements: Set<u64, Observed<'_>> = Set::new(Observed::new(rt.alloc(), &others));
+        pairs.extend((0..len).map(|key| (key, key))).expect(&rt, "");
+        elements.extend(0..len).expect(&rt, "");
+        map.append(&mut pairs).expect(&rt, "");
+        set.append(&mut elements).expect(&rt, "");
+        pairs.insert(2, 2).expect(&rt, "");
+        elements.insert(2).expect(&rt, "");
+        assert_equal!(rt; (map.len(), set.len(), log.requests()), (len as usize, len as usize, len * 2));
+    }
+}
+
 // They would take minutes if they went over the entries.
 #[test]
 fn the_ends_take_no_walk(rt: HostRuntime) {
