@@ -63,8 +63,35 @@ trait AnyArena<Key: ArenaKey>: Sized {
     /// Makes an iteration. Where it writes, each item is shown as it was, and they become the numbers from one on.
     fn answer_walk(&mut self, words: &[&str], out: &mut Line) -> Reply;
 
-    /// Makes a call on the item under a key.
-    fn answer_item(&mut self, words: &[&str], out: &mut Line) -> Reply;
+    /// Makes a call on the item under a key. The number of the key is read here, once for all such calls.
+    fn answer_item(&mut self, words: &[&str], out: &mut Line) -> Reply {
+        let answer = match *words {
+            [name, number] => match key_of(number) {
+                Ok(key) => self.answer_key(name, key),
+                Err(answer) => Err(answer),
+            },
+            [name, number, new] => match key_of(number) {
+                Ok(key) => self.answer_new(name, key, read(new)?),
+                Err(answer) => Err(answer),
+            },
+            _ => Err(Answer::BAD),
+        };
+        match answer {
+            Ok(answer) => Ok(answer),
+            Err(answer) => self.answer_place(words, answer, out),
+        }
+    }
+
+    /// Makes a call on the item under a key that takes no other one.
+    fn answer_key(&mut self, name: &str, key: Key) -> Reply;
+
+    /// Makes a call on the item under a key that takes a new one.
+    fn answer_new(&mut self, name: &str, key: Key, new: i64) -> Reply;
+
+    /// Makes a call on where the items lie, or else returns the answer so far.
+    fn answer_place(&self, _words: &[&str], answer: Answer, _out: &mut Line) -> Reply {
+        Err(answer)
+    }
 }
 
 macro_rules! answer {
@@ -102,31 +129,37 @@ macro_rules! answer_walk {
     };
 }
 
-macro_rules! answer_item {
-    ($arena:ident, $words:ident, $other:expr) => {
-        Ok(match *$words {
-            ["get", number] => lent($arena.get(key_of(number)?)),
-            ["get_mut", number, new] => overwritten($arena.get_mut(key_of(number)?), read(new)?),
-            ["put", number, new] => item($arena.put(key_of(number)?, read(new)?)),
-            ["has", number] => Answer::Truth($arena.has(key_of(number)?)),
-            ["index", number] => {
-                let key: Key = key_of(number)?;
-                if $arena.has(key) {
-                    Answer::Item(Some($arena[key]))
+macro_rules! answer_key {
+    ($arena:ident, $name:ident, $key:ident) => {
+        Ok(match $name {
+            "get" => lent($arena.get($key)),
+            "has" => Answer::Truth($arena.has($key)),
+            "index" => {
+                if $arena.has($key) {
+                    Answer::Item(Some($arena[$key]))
                 } else {
                     Answer::NO_ITEM
                 }
             }
-            ["index_mut", number, new] => {
-                let (key, new): (Key, i64) = (key_of(number)?, read(new)?);
-                if $arena.has(key) {
-                    $arena[key] = new;
+            _ => return Err(Answer::BAD),
+        })
+    };
+}
+
+macro_rules! answer_new {
+    ($arena:ident, $name:ident, $key:ident, $new:ident) => {
+        Ok(match $name {
+            "get_mut" => overwritten($arena.get_mut($key), $new),
+            "put" => item($arena.put($key, $new)),
+            "index_mut" => {
+                if $arena.has($key) {
+                    $arena[$key] = $new;
                     Answer::Word("written")
                 } else {
                     Answer::NO_ITEM
                 }
             }
-            _ => return $other,
+            _ => return Err(Answer::BAD),
         })
     };
 }
@@ -189,8 +222,16 @@ impl<Key: ArenaKey> AnyArena<Key> for StableArena<Key, i64> {
         Ok(Answer::Written)
     }
 
-    fn answer_item(&mut self, words: &[&str], out: &mut Line) -> Reply {
-        answer_item!(self, words, answer_place(self.items(), words, out))
+    fn answer_key(&mut self, name: &str, key: Key) -> Reply {
+        answer_key!(self, name, key)
+    }
+
+    fn answer_new(&mut self, name: &str, key: Key, new: i64) -> Reply {
+        answer_new!(self, name, key, new)
+    }
+
+    fn answer_place(&self, words: &[&str], answer: Answer, out: &mut Line) -> Reply {
+        answer_place(self.items(), words, out).map_err(|_| answer)
     }
 }
 
@@ -242,8 +283,12 @@ impl<Key: PairKey> AnyArena<Key> for Arena<Key, i64> {
         Ok(Answer::Written)
     }
 
-    fn answer_item(&mut self, words: &[&str], _out: &mut Line) -> Reply {
-        answer_item!(self, words, Err(Answer::BAD))
+    fn answer_key(&mut self, name: &str, key: Key) -> Reply {
+        answer_key!(self, name, key)
+    }
+
+    fn answer_new(&mut self, name: &str, key: Key, new: i64) -> Reply {
+        answer_new!(self, name, key, new)
     }
 }
 
@@ -272,7 +317,11 @@ impl<Key: ArenaKey> AnyArena<Key> for DedupArena<Key, i64> {
         Ok(Answer::Written)
     }
 
-    fn answer_item(&mut self, words: &[&str], _out: &mut Line) -> Reply {
-        answer_item!(self, words, Err(Answer::BAD))
+    fn answer_key(&mut self, name: &str, key: Key) -> Reply {
+        answer_key!(self, name, key)
+    }
+
+    fn answer_new(&mut self, name: &str, key: Key, new: i64) -> Reply {
+        answer_new!(self, name, key, new)
     }
 }

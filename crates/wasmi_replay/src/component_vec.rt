@@ -66,22 +66,45 @@ fn answer_component<Key: ArenaKey>(
     components: &mut ComponentVec<Key, i64>,
     words: &[&str],
 ) -> Reply {
-    Ok(match *words {
-        ["get", number] => shown(components.get(key_of(number)?)),
-        ["get_mut", number, new] => written(components.get_mut(key_of(number)?), read(new)?),
-        ["set", number, new] => found(components.set(key_of(number)?, read(new)?)),
-        ["has", number] => Answer::Truth(components.has(key_of(number)?)),
-        ["unset", number] => Answer::Item(components.unset(key_of(number)?)),
-        ["index", number] => {
-            let key: Key = key_of(number)?;
+    match *words {
+        [name, number] => answer_key(components, name, key_of(number)?),
+        [name, number, new] => answer_new(components, name, key_of(number)?, read(new)?),
+        _ => Err(Answer::BAD),
+    }
+}
+
+// The same, of a call that takes a key alone.
+fn answer_key<Key: ArenaKey>(
+    components: &mut ComponentVec<Key, i64>,
+    name: &str,
+    key: Key,
+) -> Reply {
+    Ok(match name {
+        "get" => shown(components.get(key)),
+        "has" => Answer::Truth(components.has(key)),
+        "unset" => Answer::Item(components.unset(key)),
+        "index" => {
             if components.get(key).is_none() {
                 Answer::NO_ITEM
             } else {
                 Answer::Item(Some(components[key]))
             }
         }
-        ["index_mut", number, new] => {
-            let (key, new): (Key, i64) = (key_of(number)?, read(new)?);
+        _ => return Err(Answer::BAD),
+    })
+}
+
+// The same, of a call that takes a component too.
+fn answer_new<Key: ArenaKey>(
+    components: &mut ComponentVec<Key, i64>,
+    name: &str,
+    key: Key,
+    new: i64,
+) -> Reply {
+    Ok(match name {
+        "get_mut" => written(components.get_mut(key), new),
+        "set" => found(components.set(key, new)),
+        "index_mut" => {
             if components.get(key).is_none() {
                 Answer::NO_ITEM
             } else {
