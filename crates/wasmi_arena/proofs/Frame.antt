@@ -1,7 +1,7 @@
--- What the proofs of `src/raw/block` share. Assumes `Logic`.
+-- What the proofs by hand share. Assumes `Logic`.
 --     SlotsRow, PtrRow      the types of `Slots` and `BlockPtr`.        ptr_vals, ptr_tells      a pointer's machine value
 --     opens_slots, closes_slots      a `&mut Slots` is opened to its three runs of slots, and closed at others
---     says_two      an `ensures` of two facts
+--     says_two      an `ensures` of two facts.        let_go, gone      what is left of parameters that were let go
 use mathlib.Core.Path.{◌≡◌, refl, sym}
 use Prim.Native.Nat.{ℕ, zero, suc, ◌+◌, ◌*◌, ◌<◌, ◌^◌}
 use mathlib.Core.List.{List, [], ◌∷◌}

@@ -3,7 +3,7 @@ pub mod Table
 pub mod Refilled
 pub mod Rewritten
 pub mod LaidOut
-pub mod Arena
+pub mod ArenaSteps
 pub mod OneAnswer
 pub mod RunReplies
 pub mod Entries
@@ -33,7 +33,7 @@ pub mod TwoOfRow
 pub mod PairMemory
 pub mod BucketLoans
 pub mod PairLoans
-pub mod Refusals
+pub mod PairResults
 pub mod Answered
 pub mod WalkedKeys
 pub mod BothEnds

@@ -2,7 +2,8 @@
 use Rattle.std.proofs.Common.{◌≡◌, ℕ, ◌+◌, ◌-◌, ◌<◌, List, [], ◌∷◌, ◌++◌, length, map, Option, Some, None, sym, ◌∙◌, ap, subst, arith, length-append, append-nil}
 use Rattle.std.proofs.lemmas.List.{map-append}
 use Rattle.wasmi_arena.specs.Bucket.{Bucket}
-use Rattle.wasmi_arena.specs.IterMut.{IsCut, IsLent, parts_of, left}
+use Rattle.wasmi_arena.specs.IterMut.{left}
+use Rattle.wasmi_arena.specs.inner.LoanParts.{IsCut, IsLent, parts_of}
 use Rattle.wasmi_arena.specs.Table.{items_of, items_in, AreFilled}
 use Rattle.wasmi_arena.specs.declared.raw.loan.ItemsLoan.{ItemsLoan}
 

@@ -7,7 +7,7 @@ use Rattle.wasmi_arena.specs.declared.run.ArenaCommand.{ArenaCommand}
 use Rattle.wasmi_arena.specs.declared.run.ArenaCommand.TheVariants.{Alloc}
 use Rattle.wasmi_arena.specs.declared.run.ArenaReply.{ArenaReply}
 use Rattle.wasmi_arena.specs.declared.run.ArenaReply.TheVariants.{Key}
-use Rattle.wasmi_arena.proofs.Arena.{room_of_step}
+use Rattle.wasmi_arena.proofs.ArenaSteps.{room_of_step}
 use Rattle.wasmi_arena.proofs.OneAnswer.{counted}
 
 module _ {K T V : Type 0} (keys : Keys K) (limit : ℕ) (state : V → ArenaState T) where

@@ -10,7 +10,8 @@ use Rattle.std.specs.Borrow.{Bor}
 use Rattle.std.specs.Slice.Iter.{iter_rest, iter_steps_back}
 use Rattle.std.specs.declared.slice.Iter.{Iter}
 use Rattle.wasmi_arena.specs.Bucket.{Bucket}
-use Rattle.wasmi_arena.specs.Table.{items_of, items_in, bucket_filled, bucket_cut, with_item, write, bucket_from, IsTable, AreFilled, IsAhead}
+use Rattle.wasmi_arena.specs.Table.{items_of, items_in, bucket_filled, bucket_cut, with_item, write, bucket_from, IsTable, AreFilled}
+use Rattle.wasmi_arena.specs.inner.Ahead.{IsAhead}
 
 -- twice the width before is the width after
 mul-pow_suc : (width b : ℕ) → width * 2 ^ suc b ≡ 2 * width * 2 ^ b

@@ -95,15 +95,15 @@ module _ (E : El) (Z : Al) (n : ℕ) where
       with_bucket bucket = record { buckets = set t.buckets k bucket }
 
       -- where that bucket lies, and all but it
-      abbrev pub bucket_at : ℕ
-      bucket_at = k * type_size MaybeBucket + first_at o
+      abbrev pub offset_of_bucket : ℕ
+      offset_of_bucket = k * type_size MaybeBucket + first_at o
 
       abbrev pub other_buckets : SProp 𝓤
       other_buckets = sep 𝓤 (sem 𝓛 (others (shares MaybeBucket) full_share t.buckets k b (first_at o))) bare_table
 
-      pub bucket_back : (bucket : MaybeBucket.Denot) → ent 𝓤 (sep 𝓤 (sem 𝓛 (part_at MaybeBucket full_share bucket b bucket_at)) other_buckets) (sem 𝓛 ((mem TableRow).own_at (with_bucket bucket) b o))
+      pub bucket_back : (bucket : MaybeBucket.Denot) → ent 𝓤 (sep 𝓤 (sem 𝓛 (part_at MaybeBucket full_share bucket b offset_of_bucket)) other_buckets) (sem 𝓛 ((mem TableRow).own_at (with_bucket bucket) b o))
       bucket_back bucket =
-          qed 𝓛 (‵ (part_at MaybeBucket full_share bucket b bucket_at) ∷ ‵ (others (shares MaybeBucket) full_share t.buckets k b (first_at o)) ∷ raw bare_table ∷ []) ∵
+          qed 𝓛 (‵ (part_at MaybeBucket full_share bucket b offset_of_bucket) ∷ ‵ (others (shares MaybeBucket) full_share t.buckets k b (first_at o)) ∷ raw bare_table ∷ []) ∵
           rewrite ! 0 (λ (at : ℕ). ‵ (part_at MaybeBucket full_share bucket b at)) (sym (place_is (type_size MaybeBucket) (first_at o) k)) refl $
           use2 𝓛 (‵ (row MaybeBucket full_share (set t.buckets k bucket) b (first_at o))) (puts (shares MaybeBucket) full_share 𝓛 t.buckets k bucket b (first_at o) inside) $
           by ! (buckets_in (with_bucket bucket) (length-set t.buckets k bucket ∙ counted))
@@ -111,14 +111,14 @@ module _ (E : El) (Z : Al) (n : ℕ) where
       module _ (none : MaybeBucket.Denot) (κ : Lft) (q : Share) (γ : GName) where
         -- that bucket as a `&mut` for κ, whose name is δ, and what the table is afterwards
         abbrev pub LentBucket : GName → SProp 𝓤
-        LentBucket = Part 𝓛 TableRow MaybeBucket with_bucket (named 0) κ q b o b bucket_at γ other_buckets bucket_back (get_or t.buckets k none)
+        LentBucket = Part 𝓛 TableRow MaybeBucket with_bucket (named 0) κ q b o b offset_of_bucket γ other_buckets bucket_back (get_or t.buckets k none)
 
-        pub lends_bucket : ent 𝓤 (sep 𝓤 (sep 𝓤 (sem 𝓛 (row MaybeBucket full_share t.buckets b (first_at o))) bare_table)
+        pub bucket_lent : ent 𝓤 (sep 𝓤 (sep 𝓤 (sem 𝓛 (row MaybeBucket full_share t.buckets b (first_at o))) bare_table)
             (sem 𝓛 (fsep (fobor κ q (Body (mem TableRow) b o γ)) (fsep (fobs γ (TableRow.coded.code t)) (fauth γ (TableRow.coded.code t)))))) (⋆ 𝓛 (later (some (λ (δ : GName). raw (LentBucket δ))) ∷ []))
-        lends_bucket =
+        bucket_lent =
             let code = TableRow.coded.code t in let bucket = get_or t.buckets k none in let others_of = others (shares MaybeBucket) full_share t.buckets k b (first_at o) in
             qed 𝓛 ((‵ (row MaybeBucket full_share t.buckets b (first_at o)) ⊛ raw bare_table) ∷ ‵ (fsep (fobor κ q (Body (mem TableRow) b o γ)) (fsep (fobs γ code) (fauth γ code))) ∷ []) ∵
             split ! $ use1 𝓛 (‵ (part_at MaybeBucket full_share bucket b (nth (type_size MaybeBucket) (first_at o) k)) ⊛ ‵ others_of) (takes (shares MaybeBucket) full_share 𝓛 t.buckets k none b (first_at o) inside) $
             split ! $ rewrite ! 0 (λ (at : ℕ). ‵ (part_at MaybeBucket full_share bucket b at)) (place_is (type_size MaybeBucket) (first_at o) k) refl $
             move ! (3 ∷ []) $ fsplit3 ! $ group ! 6 $
-            by ! (lends_Part 𝓛 TableRow MaybeBucket with_bucket (named 0) κ q b o b bucket_at γ other_buckets bucket_back code code bucket)
+            by ! (lends_Part 𝓛 TableRow MaybeBucket with_bucket (named 0) κ q b o b offset_of_bucket γ other_buckets bucket_back code code bucket)

@@ -12,15 +12,19 @@ abbrev pub start : ℕ → ℕ
 start zero = 0
 start (suc b) = start b + size b
 
--- how many items the 27 buckets hold together.
+-- how many buckets a table has, open or not
+abbrev pub bucket_count : ℕ
+bucket_count = 27
+
+-- how many items these buckets hold together.
 -- These are 4,294,967,264.
 abbrev pub max_len : ℕ
-max_len = start 27
+max_len = start bucket_count
 
 -- the item at an index lies in this slot of this bucket.
 -- Index 95 lies in slot 63 of bucket 1.
 pub record IsPlace (index bucket slot : ℕ) : Type 0 where
-  pub bucket_exists : bucket < 27
+  pub bucket_exists : bucket < bucket_count
   pub slot_exists : slot < size bucket
   pub index_is : start bucket + slot ≡ index
 
@@ -39,7 +43,7 @@ least_from b (suc k) passes = if passes b then b else least_from (suc b) k passe
 -- most `start b`.
 -- Of 96: 2. Of 97: 3. `laws::fewest_is_least` says it of each number.
 unfoldable pub fewest : ℕ → ℕ
-fewest n = least_from 0 27 (λ b. nat_le n (start b))
+fewest n = least_from 0 bucket_count (λ b. nat_le n (start b))
 
 -- how many slots the fewest buckets for n items have.
 -- For 97 items: 224.

@@ -4,18 +4,18 @@ use Rattle.std.specs.List.{range_with_len}
 use Rattle.wasmi_arena.specs.Bucket.{Bucket}
 use Rattle.wasmi_arena.specs.Geometry.{size, start, fewest}
 
--- bucket b of a vector of these items, which is one of the fewest that hold them: what the list holds
--- from `start b` on, the first `size b` of it. The vector has no other bucket.
+-- the items in bucket b: from `start b` on, the first `size b` of the list
+abbrev pub filled_part : {T : Type 0} → List T → ℕ → List T
+filled_part items b = take (size b) (drop (start b) items)
+
+-- bucket b of a vector of these items, which is one of the fewest that hold them. The vector has no
+-- other bucket.
 -- Of 40 items bucket 1 has the last 8, and there is no bucket 2.
 abbrev pub bucket_at : {T : Type 0} → List T → ℕ → Option (Bucket T)
 bucket_at items b =
     if nat_lt b (fewest (length items))
-    then Some record { items = take (size b) (drop (start b) items); capacity = size b }
+    then Some record { items = filled_part items b; capacity = size b }
     else None
-
--- the items in bucket b: from `start b` on, the first `size b` of the list
-abbrev pub filled_part : {T : Type 0} → List T → ℕ → List T
-filled_part items b = take (size b) (drop (start b) items)
 
 -- the items bucket by bucket, one list for each of the fewest buckets that hold them.
 -- Of 100 items: lists of 32, 64 and 4.

@@ -1,8 +1,8 @@
--- How a stable vector lays out its items: in a table of buckets, each open or not. No public clause
--- cites this module.
+-- How a stable vector lays out its items: in a table of buckets, each open or not. `IterMut` uses it for
+-- the fields of an iterator; no public clause cites it.
 use Rattle.std.specs.Prelude.{◌≡◌, ℕ, zero, suc, ◌+◌, ◌*◌, ◌<◌, ◌≤◌, List, [], ◌∷◌, ◌++◌, length, take, drop, slice_set, slice_index_or, Option, Some, None}
 use Rattle.std.specs.List.{refill}
-use Rattle.wasmi_arena.specs.Geometry.{size, start, max_len, fewest}
+use Rattle.wasmi_arena.specs.Geometry.{size, start, bucket_count, max_len, fewest}
 use Rattle.wasmi_arena.specs.Bucket.{Bucket}
 
 module _ {T : Type 0} where
@@ -85,7 +85,7 @@ module _ {T : Type 0} where
 
   -- the fields of a stable vector agree
   pub record IsLaidOut (buckets : List (Option (Bucket T))) (open_buckets slots len : ℕ) : Type 0 where
-    pub buckets_counted : length buckets ≡ 27
+    pub buckets_counted : length buckets ≡ bucket_count
     pub table : IsTable 32 (items_of buckets) buckets
     pub items_counted : len ≡ length (items_of buckets)
     pub few_items : len ≤ max_len
@@ -94,14 +94,6 @@ module _ {T : Type 0} where
 
   -- a stable vector of these items has these buckets
   pub record HasBuckets (items : List T) (buckets : List (Option (Bucket T))) : Type 0 where
-    pub counted : length buckets ≡ 27
+    pub counted : length buckets ≡ bucket_count
     pub table : IsTable 32 items buckets
     pub few_items : length items ≤ max_len
-
-  -- an iterator has these items of a first bucket left, then these buckets, which hold `between`, and
-  -- then these items of a last bucket
-  pub record IsAhead (front : List T) (buckets : List (Option (Bucket T))) (back : List T)
-      (between : ℕ) : Type 0 where
-    pub filled : AreFilled buckets
-    pub counted : between ≡ length (items_of buckets)
-    pub few : length front + between + length back ≤ max_len

@@ -7,5 +7,6 @@ pub mod BucketLend
 pub mod TableLend
 pub mod Loan
 pub mod LoanLend
+pub mod LoanParts
 pub mod Ahead
 pub mod Apart

@@ -17,7 +17,7 @@ pub struct BucketTable<T, A: Allocator, const N: usize> {
 }
 
 impl<T, A: Allocator, const N: usize> BucketTable<T, A, N> {
-    /// A bucket, to write to.
+    // A bucket, to write to.
     pub(crate) fn bucket_mut(&mut self, bucket: usize) -> &mut Option<Bucket<T, A>>
         requires { bucket < N }
         ensures* writes_back { sem 𝓛 (lends_bucket T.row A.row N.row A.Allocator self.entry bucket result) }

@@ -86,7 +86,7 @@ pub(crate) fn buckets_before(_index: usize, place: (usize, usize)) -> usize
 
 // The bucket and the slot of one index, and those of another.
 // proof: a call of its own, so that only the call above it is proved by hand.
-pub(crate) fn places(first: usize, second: usize) -> (usize, usize, usize, usize)
+pub(crate) fn two_places(first: usize, second: usize) -> (usize, usize, usize, usize)
     requires first { first < max_len }
     requires second { second < max_len }
     ensures first { IsPlace first result.0 result.1 }

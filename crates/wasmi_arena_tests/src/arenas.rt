@@ -4,9 +4,8 @@ use std::num::NonZero;
 use std::ops::Range;
 use wasmi_arena::{ArenaCommand, ArenaError, ArenaKey, ArenaReply, StableArena};
 use wasmi_vectors::assert_equal;
+use wasmi_vectors::few_keys::FewKeys;
 use wasmi_vectors::observed::{Log, Observed};
-use wasmi_vectors::one::One;
-use wasmi_vectors::tiny::Tiny;
 
 /// An arena of 0, 1 and so on.
 pub fn numbered(alloc: Global, len: usize) -> Result<StableArena<usize, usize>, ArenaError> {
@@ -39,7 +38,9 @@ fn alloc_and_get(rt: HostRuntime) {
     for number in 0..100 {
         assert_equal!(rt; arena.alloc(number), Ok(number));
     }
-    assert!(rt; (0..100).all(|key| arena.get(key) == Ok(&key) && arena.has(key)));
+    for key in 0..100 {
+        assert_equal!(rt; (arena.get(key), arena.has(key)), (Ok(&key), true));
+    }
     assert_equal!(rt; arena.get(100), Err(ArenaError::KeyOutOfBounds));
     assert_equal!(rt; (arena.len(), arena.has(100), arena.last()), (100, false, Some(&99)));
 }
@@ -121,27 +122,29 @@ fn numbers<Key: ArenaKey>(
 #[test]
 fn items_come_while_there_are_keys(rt: HostRuntime) {
     let refused = Err(ArenaError::NotEnoughKeys);
-    let mut four: StableArena<Tiny, i32> = StableArena::new(rt.alloc());
+    let mut four: StableArena<FewKeys<4>, i32> = StableArena::new(rt.alloc());
     assert_equal!(rt; (numbers(four.alloc_many(4)), four.len(), four.items().open_buckets()), (refused, 0, 0));
     assert_equal!(rt; numbers(four.alloc_many(3)), Ok((0, 3)));
     assert_equal!(rt; (numbers(four.alloc_many(1)), four.len()), (refused, 3));
-    assert_equal!(rt; (numbers(four.alloc_many(0)), four.alloc(9).map(Tiny::into_usize)), (Ok((3, 3)), Ok(3)));
+    assert_equal!(rt; (numbers(four.alloc_many(0)), four.alloc(9).map(FewKeys::<4>::into_usize)), (Ok((3, 3)), Ok(3)));
     assert_equal!(rt; (four.alloc(9).err(), four.next_key().err()), (refused.err(), refused.err()));
     assert_equal!(rt; numbers(four.alloc_many(0)), refused);
     assert!(rt; four.values().copied().eq([0, 0, 0, 9]));
-    let mut one: StableArena<One, i32> = StableArena::new(rt.alloc());
+    let mut one: StableArena<FewKeys<1>, i32> = StableArena::new(rt.alloc());
     assert_equal!(rt; numbers(one.alloc_many(0)), Ok((0, 0)));
     assert_equal!(rt; (numbers(one.alloc_many(1)), one.len()), (refused, 0));
 }
 
 #[test]
 fn four_of_four_keys_are_collected(rt: HostRuntime) {
-    let four: StableArena<Tiny, usize> = StableArena::from_iter(rt.alloc(), 0..4).expect(&rt, "");
+    let four: StableArena<FewKeys<4>, usize> = StableArena::from_iter(rt.alloc(), 0..4).expect(
+        &rt, "",
+    );
     assert_equal!(rt; four.len(), 4);
     for (number, (key, item)) in four.iter().enumerate() {
         assert_equal!(rt; (key.into_usize(), *item), (number, number));
     }
-    let five = StableArena::<Tiny, usize>::from_iter(rt.alloc(), 0..5);
+    let five = StableArena::<FewKeys<4>, usize>::from_iter(rt.alloc(), 0..5);
     assert_equal!(rt; five.err(), Some(ArenaError::NotEnoughKeys));
 }
 

@@ -4,9 +4,9 @@ use wasmi_arena::{
     ArenaCommand, ArenaError, ArenaKey, ArenaReply, StableArena, StableVec, run_arena,
 };
 use wasmi_vectors::assert_equal;
+use wasmi_vectors::few_keys::FewKeys;
 use wasmi_vectors::observed::{Log, Observed};
 use wasmi_vectors::tally::{Item, Tally};
-use wasmi_vectors::tiny::Tiny;
 
 // Each end gives a bucket back as it goes on to the next.
 #[test]
@@ -107,12 +107,12 @@ fn items_that_do_not_come_in_are_dropped(rt: HostRuntime) {
     let error = vec.put(1, Item::new(&refused, 9)).err();
     assert_equal!(rt; (error, refused.dropped().0), (Some(ArenaError::KeyOutOfBounds), 2));
     let items = (0..4).map(|number| Item::new(&kept, number));
-    let made = StableArena::<Tiny, Item<'_>>::from_iter(rt.alloc(), items);
+    let made = StableArena::<FewKeys<4>, Item<'_>>::from_iter(rt.alloc(), items);
     let mut arena = made.expect(&rt, "");
     let error = arena.alloc(Item::new(&refused, 9)).err();
     assert_equal!(rt; (error, refused.dropped().0), (Some(ArenaError::NotEnoughKeys), 3));
     let five = (0..5).map(|number| Item::new(&refused, number));
-    let more = StableArena::<Tiny, Item<'_>>::from_iter(rt.alloc(), five);
+    let more = StableArena::<FewKeys<4>, Item<'_>>::from_iter(rt.alloc(), five);
     assert_equal!(rt; more.err(), Some(ArenaError::NotEnoughKeys));
     assert_equal!(rt; (refused.dropped().0, kept.dropped().0), (8, 0));
     drop((vec, arena));
@@ -188,7 +188,7 @@ fn a_run_drops_the_items_that_it_refuses(rt: HostRuntime) {
     assert_equal!(rt; (tally.dropped(), log.amiss()), ((34, 32), 0));
     let tally = Tally::new();
     let commands = allocs(rt.alloc(), &tally, 6).expect(&rt, "");
-    let mut arena: StableArena<Tiny, Item<'_>> = StableArena::new(rt.alloc());
+    let mut arena: StableArena<FewKeys<4>, Item<'_>> = StableArena::new(rt.alloc());
     let replies = run_arena(rt.alloc(), &mut arena, commands).expect(&rt, "");
     let refused = Some(Err(ArenaError::NotEnoughKeys));
     let keys = (0..4).map(|key| Some(Ok(key)));

@@ -49,22 +49,25 @@ fn an_iterator_that_is_left_early(rt: HostRuntime) {
     assert!(rt; arena.values().copied().eq(wanted));
 }
 
+// Adds to the item of an end, if there is one.
+fn add_to(item: Option<&mut u32>, more: u32) {
+    if let Some(item) = item {
+        *item = item.wrapping_add(more);
+    }
+}
+
 // Each end takes three at a time, over all buckets.
 #[test]
 fn both_ends_meet(rt: HostRuntime) {
     let mut vec = counted(rt.alloc(), 225).expect(&rt, "");
     let mut items = vec.iter_mut();
     for _ in 0..38 {
-        for _ in 0..3 {
-            if let Some(item) = items.next() {
-                *item = item.wrapping_add(1000);
-            }
-        }
-        for _ in 0..3 {
-            if let Some(item) = items.next_back() {
-                *item = item.wrapping_add(2000);
-            }
-        }
+        add_to(items.next(), 1000);
+        add_to(items.next(), 1000);
+        add_to(items.next(), 1000);
+        add_to(items.next_back(), 2000);
+        add_to(items.next_back(), 2000);
+        add_to(items.next_back(), 2000);
     }
     assert_equal!(rt; (items.next(), items.next_back(), items.len()), (None, None, 0));
     drop(items);

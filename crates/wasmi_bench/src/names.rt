@@ -5,18 +5,18 @@ use std::alloc::Global;
 use std::fmt::Write;
 use wasmi_arena::ArenaError;
 
-/// What names are like.
+// What names are like.
 #[derive(Clone, Copy)]
 pub(crate) enum Kind {
-    /// A word and twenty digits.
+    // A word and twenty digits.
     MadeUp,
-    /// Paths of files, of some 65 to 90 bytes, which begin alike.
+    // Paths of files, of some 65 to 90 bytes, which begin alike.
     Path,
-    /// Symbols of a linker, of some 30 to 110 bytes, many of one length.
+    // Symbols of a linker, of some 30 to 110 bytes, many of one length.
     Mangled,
-    /// A word and a number.
+    // A word and a number.
     Identifier,
-    /// Texts of 32 bytes that all have one hash in the interner.
+    // Texts of 32 bytes that all have one hash in the interner.
     Colliding,
 }
 
@@ -74,7 +74,7 @@ fn write_path(name: &mut String, project: u64, folder: u64, file: u64) -> Result
     Ok(())
 }
 
-/// `n` names of a kind, no two alike. They are in no order, or paths in ascending order. `n` is a power of two.
+// `n` names of a kind, no two alike. They are in no order, or paths in ascending order. `n` is a power of two.
 pub(crate) fn names(
     alloc: Global,
     kind: Kind,

@@ -1,5 +1,5 @@
 -- Facts on the values handed in to a deduplicating arena, and on its index.
--- for src/arena/dedup.rt, src/arena/dedup/
+-- for src/arena/dedup.rt, src/arena/dedup/, src/laws/strings.rt
 use Rattle.std.proofs.Common.{All, ◌≡◌, ℕ, ◌+◌, ◌<◌, ◌≤◌, suc, Bool, true, false, cond, List, [], ◌∷◌, ◌++◌, length, length-append, map, MatchOption, Option, Some, None, option_map, find, filter_map, position, slice_get, nat_eq, IsPermutation, refl, sym, ap, ◌∙◌, subst, is_some, eqb-true, ◌||◌, true≢false, arith}
 use Rattle.std.specs.Cmp.{IsEquivalence}
 use Rattle.std.specs.Map.{set_value}

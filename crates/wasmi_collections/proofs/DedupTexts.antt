@@ -1,5 +1,5 @@
 -- An index of texts finds each by its bytes.
--- for src/arena/dedup/by_text.rt, src/laws/appended.rt
+-- for src/arena/dedup/by_text.rt, src/laws/strings.rt
 use Rattle.std.proofs.Common.{◌≡◌, ℕ, ◌+◌, ◌<◌, ◌≤◌, Bool, true, false, cond, List, [], ◌∷◌, ◌++◌, length, map, slice_set, Option, Some, None, option_map, refl, sym, ap, ◌∙◌, subst, string_bytes, inl, inr, is_some, true≢false, arith}
 use Rattle.std.specs.List.{AllByRecursion, IsDistinct, position, position_from}
 use Rattle.std.specs.Str.{bytes_eq}

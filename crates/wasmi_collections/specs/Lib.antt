@@ -11,6 +11,7 @@ pub mod NewKeys
 pub mod Runs
 pub mod SetCalls
 pub mod SetSteps
+-- These five lie in `wasmi_interner`.
 pub use Rattle.wasmi_interner.specs.BinaryDigits
 pub use Rattle.wasmi_interner.specs.Interner
 pub use Rattle.wasmi_interner.specs.LenOrder

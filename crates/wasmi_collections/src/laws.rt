@@ -21,10 +21,11 @@ mod appended;
 mod dedup;
 mod interner;
 mod replies;
+mod strings;
 
 use crate::HeadVec;
 use crate::run::{AnyMap, AnySet};
-pub use appended::{appended_values, strings_by_bytes, texts_handed_in};
+pub use appended::appended_values;
 pub use dedup::{keys_of_new_values, searched_by_keys};
 pub use interner::{equal_symbols_of_equal_texts, symbols_of_new_texts};
 pub use replies::{
@@ -33,6 +34,7 @@ pub use replies::{
 use std::alloc::Allocator;
 use std::cmp::Ordering;
 use std::hash::Hash;
+pub use strings::{strings_by_bytes, texts_handed_in};
 use wasmi_arena::ArenaKey;
 pub use wasmi_interner::laws::{
     appended_texts, binary_digits, equal_in_length_order, equal_symbols, interned_texts,

@@ -6,10 +6,9 @@ use wasmi_arena::ArenaKey;
 use wasmi_collections::arena::{ArenaError, DedupArena};
 use wasmi_collections::run::{DedupCommand, DedupReply, run_dedup};
 use wasmi_vectors::assert_equal;
+use wasmi_vectors::few_keys::FewKeys;
 use wasmi_vectors::logged::Logged;
 use wasmi_vectors::observed::Log;
-use wasmi_vectors::one::One;
-use wasmi_vectors::tiny::Tiny;
 
 // An item whose clone fails where the number is odd.
 #[derive(Debug, PartialEq, Eq, Hash, Drop)]
@@ -87,7 +86,7 @@ fn writes_in_a_loop_change_no_key(rt: HostRuntime) {
 
 #[test]
 fn a_repeat_needs_no_key(rt: HostRuntime) {
-    let mut arena: DedupArena<Tiny, &str> = DedupArena::from_iter(
+    let mut arena: DedupArena<FewKeys<4>, &str> = DedupArena::from_iter(
         rt.alloc(),
         ["p", "q", "r", "s"],
     ).expect(&rt, "");
@@ -96,7 +95,7 @@ fn a_repeat_needs_no_key(rt: HostRuntime) {
     assert_equal!(rt; (arena.len(), arena.is_empty()), (4, false));
     arena.clear();
     assert_equal!(rt; (arena.alloc("t").map(|key| key.into_usize()), arena.index().len()), (Ok(0), 1));
-    let full: Result<DedupArena<Tiny, i32>, ArenaError> = DedupArena::from_iter(
+    let full: Result<DedupArena<FewKeys<4>, i32>, ArenaError> = DedupArena::from_iter(
         rt.alloc(),
         [0, 1, 0, 2, 3, 1, 4],
     );
@@ -105,16 +104,16 @@ fn a_repeat_needs_no_key(rt: HostRuntime) {
 
 #[test]
 fn one_key_is_enough_for_equal_values(rt: HostRuntime) {
-    let mut arena: DedupArena<One, &str> = DedupArena::new(rt.alloc());
+    let mut arena: DedupArena<FewKeys<1>, &str> = DedupArena::new(rt.alloc());
     for (value, key) in [
         ("a", Ok(0)),
         ("b", Err(ArenaError::NotEnoughKeys)),
         ("a", Ok(0)),
     ] {
-        assert_equal!(rt; arena.alloc(value).map(One::into_usize), key, "of {value}");
+        assert_equal!(rt; arena.alloc(value).map(FewKeys::<1>::into_usize), key, "of {value}");
     }
     for (last, wanted) in [("a", Ok(1)), ("b", Err(ArenaError::NotEnoughKeys))] {
-        let made = DedupArena::<One, &str>::from_iter(rt.alloc(), ["a", "a", last]);
+        let made = DedupArena::<FewKeys<1>, &str>::from_iter(rt.alloc(), ["a", "a", last]);
         assert_equal!(rt; made.map(|made| made.len()), wanted, "with {last}");
     }
 }
@@ -385,7 +384,9 @@ fn what_is_refused_is_dropped(rt: HostRuntime) {
     for nth in 1..12 {
         let log = Log::new();
         let heap = Logged::new(rt.alloc(), &log);
-        let mut arena: DedupArena<Tiny, String<Logged<'_>>, Logged<'_>> = DedupArena::new(heap);
+        let mut arena: DedupArena<FewKeys<4>, String<Logged<'_>>, Logged<'_>> = DedupArena::new(
+            heap,
+        );
         log.refuse_once(nth);
         for text in ["p", "q", "r", "s", "t"] {
             if let Ok(value) = String::from_str(heap, text) {

@@ -8,10 +8,10 @@ use wasmi_collections::run::{
 use wasmi_collections::{StringInterner, hashed, ordered};
 use wasmi_vectors::assert_equal;
 use wasmi_vectors::counted::Counted;
+use wasmi_vectors::few_keys::FewKeys;
 use wasmi_vectors::logged::Logged;
 use wasmi_vectors::noted::{Noted, Notes};
 use wasmi_vectors::observed::Log;
-use wasmi_vectors::tiny::Tiny;
 
 type MapCommands<'a, 'l> = Vec<MapCommand<Noted<'a>, Counted<'a>>, Logged<'l>>;
 
@@ -161,7 +161,7 @@ fn a_run_asks_for_its_replies_alone(rt: HostRuntime) {
     let replies = run_set(heap, &mut ordered::Set::new(rt.alloc()), commands);
     assert_equal!(rt; asks_for_these(&log, before, &replies.expect(&rt, "")), Ok(true));
     let commands = (0..9)
-        .map(|_| DedupCommand::<Tiny, i32>::Clear)
+        .map(|_| DedupCommand::<FewKeys<4>, i32>::Clear)
         .collect(heap);
     let (commands, before) = (commands.expect(&rt, ""), log.bytes());
     let replies = run_dedup(heap, &mut DedupArena::new(rt.alloc()), commands);
@@ -176,6 +176,14 @@ fn a_run_hashes_once(rt: HostRuntime) {
     let commands = commands.collect(rt.alloc()).expect(&rt, "");
     run_set(rt.alloc(), &mut set, commands).expect(&rt, "");
     assert_equal!(rt; (set.len(), notes.hashed()), (10, 20));
+    let mut map: hashed::Map<Noted<'_>, u32> = hashed::Map::new(rt.alloc());
+    let commands = (0..20u32).map(|number| MapCommand::Insert(
+        Noted::new(number / 2, &notes),
+        number,
+    ));
+    let commands = commands.collect(rt.alloc()).expect(&rt, "");
+    run_map(rt.alloc(), &mut map, commands).expect(&rt, "");
+    assert_equal!(rt; (map.len(), notes.hashed()), (10, 20));
 }
 
 #[test]

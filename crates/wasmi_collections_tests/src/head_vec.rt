@@ -78,28 +78,6 @@ fn one_item_needs_no_memory(rt: HostRuntime) {
         assert_equal!(rt; (items.pop(), items.clone().expect(&rt, "").len()), (Some(5), 0));
     }
     assert_equal!(rt; log.requests(), 0);
-    // Nor does the clone of one that others stood before or behind.
-    log.refuse_none();
-    for item in [1, 2, 3] {
-        items.push(item).expect(&rt, "");
-    }
-    assert_equal!(rt; (items.pop(), items.pop()), (Some(3), Some(2)));
-    log.refuse_from(1);
-    assert_equal!(rt; items.clone().expect(&rt, "").last(), Some(&1));
-}
-
-#[test]
-fn other_last_items_are_told_by_one_comparison(rt: HostRuntime) {
-    let notes = Notes::new();
-    let (mut one, mut other) = (HeadVec::new(rt.alloc()), HeadVec::new(rt.alloc()));
-    for number in 0..100u32 {
-        one.push(Noted::new(number, &notes)).expect(&rt, "");
-        other.push(Noted::new(number, &notes)).expect(&rt, "");
-    }
-    other.push(Noted::new(100, &notes)).expect(&rt, "");
-    one.push(Noted::new(101, &notes)).expect(&rt, "");
-    notes.compared();
-    assert_equal!(rt; (one == other, notes.compared()), (false, 1));
 }
 
 // The items before the last lie in blocks of 4, 8, 16 and so on places.

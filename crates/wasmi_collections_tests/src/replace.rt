@@ -5,10 +5,10 @@ use std::hash::{Hash, Hasher};
 use wasmi_collections::arena::{ArenaError, DedupArena};
 use wasmi_collections::run::{DedupCommand, DedupReply, run_dedup};
 use wasmi_vectors::assert_equal;
+use wasmi_vectors::few_keys::FewKeys;
 use wasmi_vectors::logged::Logged;
 use wasmi_vectors::noted::{Noted, Notes};
 use wasmi_vectors::observed::Log;
-use wasmi_vectors::tiny::Tiny;
 
 // What was compared, cloned and dropped since it was asked for last.
 fn taken(notes: &Notes) -> (u64, u64, u64) {
@@ -122,7 +122,7 @@ fn the_worked_rows(rt: HostRuntime) {
 
 #[test]
 fn a_new_value_needs_no_key(rt: HostRuntime) {
-    let mut arena: DedupArena<Tiny, &str> = DedupArena::from_iter(
+    let mut arena: DedupArena<FewKeys<4>, &str> = DedupArena::from_iter(
         rt.alloc(),
         ["p", "q", "r", "s"],
     ).expect(&rt, "");

@@ -1,4 +1,5 @@
 -- Facts on blocks that grow with the items, one by one.
+-- for src/arena/grow.rt
 use Rattle.std.proofs.Common.{◌≡◌, ℕ, suc, ◌+◌, ◌<◌, ◌^◌, max, inl, inr, arith}
 use Rattle.std.proofs.Math.Nat.{pow-succ'}
 use Rattle.std.proofs.lemmas.Nat.{pow_pos}

@@ -1,4 +1,5 @@
 -- What an arena is after its items were lent out together.
+-- for src/arena.rt, src/arena/pairs.rt
 use Rattle.std.proofs.Common.{◌≡◌, ℕ, ◌-◌, List, ◌++◌, length, take, drop, slice_set, sym, ap, ◌∙◌}
 use Rattle.std.proofs.Math.Seq.{take-append_seam}
 use Rattle.std.proofs.lemmas.List.{length-set}

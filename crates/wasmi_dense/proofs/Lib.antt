@@ -1,5 +1,5 @@
 pub mod ArenaLoans
 pub mod ArenaGrowth
-pub mod PairLoans
+pub mod PairOrError
 mod Components
 pub mod ComponentEntries

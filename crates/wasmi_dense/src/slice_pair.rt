@@ -15,7 +15,7 @@ fn pair_in_order<T>(items: &mut [T], low: usize, high: usize) -> (&mut T, &mut T
     (&mut front[low], &mut back[0])
 }
 
-/// Two items of a slice, in the order of their places. Constant time.
+// Two items of a slice, in the order of their places. Constant time.
 pub(crate) fn pair_within<T>(items: &mut [T], one: usize, other: usize) -> (&mut T, &mut T)
     requires apart { one ≢ other }
     requires first { one < length items.old }

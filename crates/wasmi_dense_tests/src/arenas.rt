@@ -7,8 +7,7 @@ use wasmi_arena::{
 };
 use wasmi_dense::Arena;
 use wasmi_vectors::assert_equal;
-use wasmi_vectors::one::One;
-use wasmi_vectors::tiny::Tiny;
+use wasmi_vectors::few_keys::FewKeys;
 
 const TEXTS: [&str; 4] = ["a", "b", "c", "d"];
 
@@ -129,27 +128,27 @@ pub fn numbers<Key: ArenaKey>(
 #[test]
 fn four_keys_are_enough_for_four_items(rt: HostRuntime) {
     let refused = Err(ArenaError::NotEnoughKeys);
-    let mut arena: Arena<Tiny, i32> = Arena::new(rt.alloc());
+    let mut arena: Arena<FewKeys<4>, i32> = Arena::new(rt.alloc());
     assert_equal!(rt; (numbers(arena.alloc_many(4)), arena.len()), (refused, 0));
     assert_equal!(rt; numbers(arena.alloc_many(3)), Ok((0, 3)));
     assert_equal!(rt; (numbers(arena.alloc_many(1)), arena.len()), (refused, 3));
     assert_equal!(rt; numbers(arena.alloc_many(0)), Ok((3, 3)));
-    assert_equal!(rt; arena.alloc(9).map(Tiny::into_usize), Ok(3));
+    assert_equal!(rt; arena.alloc(9).map(FewKeys::<4>::into_usize), Ok(3));
     assert_equal!(rt; (arena.alloc(9).err(), arena.next_key().err()), (refused.err(), refused.err()));
     assert_equal!(rt; (numbers(arena.alloc_many(0)), arena.len()), (refused, 4));
-    let mut one: Arena<One, i32> = Arena::new(rt.alloc());
+    let mut one: Arena<FewKeys<1>, i32> = Arena::new(rt.alloc());
     assert_equal!(rt; numbers(one.alloc_many(0)), Ok((0, 0)));
     assert_equal!(rt; (numbers(one.alloc_many(1)), one.len()), (refused, 0));
 }
 
 #[test]
 fn four_of_four_keys_are_collected(rt: HostRuntime) {
-    let four: Arena<Tiny, usize> = Arena::from_iter(rt.alloc(), 0..4).expect(&rt, "");
+    let four: Arena<FewKeys<4>, usize> = Arena::from_iter(rt.alloc(), 0..4).expect(&rt, "");
     assert_equal!(rt; four.len(), 4);
     for (number, (key, item)) in four.iter().enumerate() {
         assert_equal!(rt; (key.into_usize(), *item), (number, number));
     }
-    let five: Result<Arena<Tiny, usize>, ArenaError> = Arena::from_iter(rt.alloc(), 0..5);
+    let five: Result<Arena<FewKeys<4>, usize>, ArenaError> = Arena::from_iter(rt.alloc(), 0..5);
     assert_equal!(rt; five.err(), Some(ArenaError::NotEnoughKeys));
 }
 

@@ -5,10 +5,10 @@ use std::mem::replace;
 use wasmi_arena::{ArenaCommand, ArenaError, run_arena};
 use wasmi_dense::{Arena, ComponentVec};
 use wasmi_vectors::assert_equal;
+use wasmi_vectors::few_keys::FewKeys;
 use wasmi_vectors::noted::{Noted, Notes};
 use wasmi_vectors::observed::{Log, Observed};
 use wasmi_vectors::tally::{Item, Tally};
-use wasmi_vectors::tiny::Tiny;
 
 // Cleared, or taken out, some by value from both ends.
 #[test]
@@ -140,14 +140,14 @@ fn arenas_compare_as_few_items_as_tell(rt: HostRuntime) {
 fn items_that_do_not_come_in_are_dropped(rt: HostRuntime) {
     let (kept, refused) = (Tally::new(), Tally::new());
     {
-        let mut arena: Arena<Tiny, Item<'_>> = Arena::new(rt.alloc());
+        let mut arena: Arena<FewKeys<4>, Item<'_>> = Arena::new(rt.alloc());
         for number in 0..4 {
             arena.alloc(Item::new(&kept, number)).expect(&rt, "");
         }
         let error = arena.alloc(Item::new(&refused, 0)).err();
         assert_equal!(rt; (error, refused.dropped().0), (Some(ArenaError::NotEnoughKeys), 1));
         let five = (0..5).map(|number| Item::new(&refused, number));
-        let more = Arena::<Tiny, Item<'_>>::from_iter(rt.alloc(), five);
+        let more = Arena::<FewKeys<4>, Item<'_>>::from_iter(rt.alloc(), five);
         assert_equal!(rt; (more.err(), refused.dropped().0), (Some(ArenaError::NotEnoughKeys), 6));
         let mut arena: Arena<usize, Item<'_>> = Arena::new(rt.alloc());
         let commands = vec![in rt.alloc();

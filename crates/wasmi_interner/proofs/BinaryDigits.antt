@@ -1,4 +1,5 @@
 -- Facts on the number of binary digits.
+-- for src/probe.rt, src/sought.rt, src/index.rt, src/laws.rt
 use Rattle.std.proofs.Common.{◌≡◌, ℕ, zero, suc, ◌+◌, ◌/◌, ◌^◌, ◌<◌, ◌≤◌, refl, ap, arith, inl, inr}
 use Rattle.std.proofs.lemmas.Bool.{cases_lt}
 use Rattle.std.proofs.Math.Nat.{pow-succ'}

@@ -1,4 +1,5 @@
 -- Facts on the index of an interner: the rest in order, and where each text is filed.
+-- for src/index.rt, src/sought.rt, src/string_interner.rt
 use Rattle.std.proofs.Common.{◌≡◌, ◌≢◌, ℕ, zero, suc, ◌+◌, ◌<◌, ◌≤◌, ◌⊎◌, ◌↔◌, Bool, true, false, true≢false, ◌||◌, List, [], ◌∷◌, ◌++◌, length, take, drop, map, replicate, get_or, set, Some, None, option_map, slice_get, refl, sym, ap, subst, ◌∙◌, inl, inr, arith, Ordering, Less, Equal, Greater, nat_eq}
 use Rattle.std.specs.Cmp.{IsTotalOrder, Equal-is, nat_cmp_total, on_total, then_total, unsigned_ties}
 use Rattle.std.specs.List.{All, AllByRecursion, Contains, IsDistinct, insert, list_any}

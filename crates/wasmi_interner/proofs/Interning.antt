@@ -1,4 +1,5 @@
 -- What interning says of a text, and of others.
+-- for src/string_interner.rt, src/laws.rt
 use Rattle.std.proofs.Common.{◌≡◌, ℕ, zero, suc, List, [], ◌∷◌, Some, slice_get, sym, ap, ◌∙◌, inl, inr}
 use Rattle.std.specs.Prelude.{◌++◌, Result, Ok, Err, IfOk}
 use Rattle.std.proofs.lemmas.Option.{none-some, same_Some}

@@ -1,4 +1,5 @@
 -- Texts that are interned one after another.
+-- for src/string_interner.rt
 use Rattle.std.proofs.Common.{ℕ, List, [], ◌∷◌, ◌++◌, refl, subst}
 use Rattle.std.specs.Borrow.{Bor}
 use Rattle.wasmi_interner.specs.Interner.{Interns, InternsEach}

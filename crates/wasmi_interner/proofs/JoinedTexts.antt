@@ -1,4 +1,5 @@
 -- Facts on texts that are joined to one.
+-- for src/texts.rt
 use Rattle.std.proofs.Common.{◌≡◌, ℕ, zero, suc, ◌+◌, ◌-◌, ◌<◌, ◌≤◌, ◌&&◌, Bool, List, [], ◌∷◌, ◌++◌, length, take, drop, get_or, slice_range, slice_get, option_map, Some, inl, inr, IsUtf8, IsCharBoundary, Decides, nat_eq, refl, sym, ap, subst, ◌∙◌, arith}
 use Rattle.std.specs.Cmp.Lexicographic.{pointwise}
 use Rattle.std.specs.Str.{bytes_eq}

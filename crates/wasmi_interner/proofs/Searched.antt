@@ -1,4 +1,5 @@
 -- Among distinct texts, symbols are searched as texts are.
+-- for src/laws.rt
 use Rattle.std.proofs.Common.{◌≡◌, ℕ, ◌+◌, ◌<◌, ◌==◌, true, false, cond, List, [], ◌∷◌, length, map, Some, None, get_or, slice_get, refl, sym, ap, subst, ◌∙◌}
 use Rattle.std.specs.List.{All, position, position_from}
 use Rattle.std.specs.Str.{bytes_eq}

@@ -1,5 +1,5 @@
 //! An entry of the index of an interner.
-ghost use Rattle.std.specs.Prelude.{◌≡◌, ◌<◌, List, Some, true, length, nat_lt, slice_get};
+ghost use Rattle.std.specs.Prelude.{◌≡◌, true, nat_lt};
 ghost use Rattle.wasmi_interner.specs.inner.HashTable.{is_empty_slot, is_marker};
 ghost use Rattle.wasmi_interner.specs.declared.entry.Entry.{Entry};
 
@@ -15,10 +15,10 @@ pub(crate) struct Entry {
     pub(crate) symbol: Sym,
 }
 
-// The symbol of an empty slot,
+// The symbol of an empty slot.
 const EMPTY: u32 = u32::MAX;
 
-// and of a marker.
+// The symbol of a marker.
 const MARKER: u32 = u32::MAX - 1;
 
 impl Entry {
@@ -66,15 +66,4 @@ impl Entry {
     {
         self.symbol.into_u32() == MARKER
     }
-}
-
-// Entries by place.
-pub(crate) trait Entries {
-    // All of them, in order.
-    ghost entries: { Self → List Entry };
-
-    // The entry of a place.
-    fn at(&self, place: usize) -> Entry
-        requires { place < length (entries self.now) }
-        ensures { slice_get (entries self.now) place ≡ Some result };
 }

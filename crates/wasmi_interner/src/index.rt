@@ -6,7 +6,7 @@ ghost use Rattle.wasmi_interner.specs.Interner.{symbol_of};
 ghost use Rattle.wasmi_interner.specs.Search.{IsFound};
 ghost use Rattle.wasmi_interner.specs.inner.HashTable.{IsTaken, met_in, rest};
 
-use crate::entry::{Entries, Entry};
+use crate::entry::Entry;
 use crate::hash_table::{HashTable, Met};
 use crate::rest::Rest;
 use crate::sought::Sought;
@@ -188,6 +188,7 @@ impl<A: Allocator> Index<A> {
     }
 
     // Makes room in the rest for the entry of a new text, which belongs at a rank there, and returns that place.
+    // proof: a call of its own, for its clauses.
     fn reserve_in_rest(
         &mut self,
         rank: usize,
@@ -285,14 +286,13 @@ fn find_in_rest<A: Allocator>(
     ensures few_steps { steps.new ≤ steps.old + digits (length sought.now.texts.now) }
     ensures some_steps { 0 < length sought.now.texts.now → steps.old < steps.new }
 {
-    let len = rest.len();
-    if len == 0 {
+    if rest.len() == 0 {
         return match sought.symbol_if_first(steps) {
             Some(symbol) => Ok(symbol),
             None => Err(0),
         };
     }
-    match sought.place_among(rest, len, steps) {
+    match sought.rank_in(rest, steps) {
         Ok(rank) => Ok(rest.at(rank).symbol),
         Err(rank) => Err(rank),
     }
@@ -305,5 +305,5 @@ fn rank_of<A: Allocator>(rest: &Rest<A>, texts: &Texts<A>, entry: &Entry) -> Res
     ensures { IsFound (orders_with texts.now entry.now.hash (text_at texts.now entry.now) rest.now.entries) result }
 {
     let sought = Sought::new(texts, texts.get(entry.symbol.into_usize()));
-    sought.place_among(rest, rest.len(), &mut Steps::new())
+    sought.rank_in(rest, &mut Steps::new())
 }

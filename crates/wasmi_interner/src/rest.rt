@@ -1,12 +1,12 @@
 //! The entries of an interner that no slot has.
-ghost use Rattle.std.specs.Prelude.{◌≡◌, ◌+◌, ◌%◌, ◌<◌, ◌≤◌, ◌⊎◌, ◌^◌, [], length, nat_lt, IfOk, OnOk, IsOkUnless, vec_items};
+ghost use Rattle.std.specs.Prelude.{◌≡◌, ◌+◌, ◌%◌, ◌<◌, ◌≤◌, ◌⊎◌, ◌^◌, [], length, nat_lt, IfOk, OnOk, IsOkUnless, Some, slice_get, vec_items};
 ghost use Rattle.std.specs.List.{insert};
 ghost use Rattle.wasmi_interner.specs.inner.RestBlocks.{AreFew, IsBlocks, entries_in, room_in};
 
 mod block;
 mod width;
 
-use crate::entry::{Entries, Entry};
+use crate::entry::Entry;
 use block::Block;
 use std::alloc::{AllocError, Allocator};
 use std::marker::Model;
@@ -78,6 +78,14 @@ impl<A: Allocator> Rest<A> {
         ensures { result ≡ length self.now.entries }
     {
         self.len
+    }
+
+    // The entry of a rank.
+    pub(crate) fn at(&self, rank: usize) -> Entry
+        requires { rank < length self.now.entries }
+        ensures { slice_get self.now.entries rank ≡ Some result }
+    {
+        self.blocks[self.width.block_of(rank)].at(self.width.place_of(rank))
     }
 
     // Makes room for one more entry. Where all blocks are full, `widen` may give the one that stands alone room, or
@@ -204,13 +212,5 @@ impl<A: Allocator> Rest<A> {
             width: self.width.copy(),
             len: self.len,
         })
-    }
-}
-
-impl<A: Allocator> Entries for Rest<A> {
-    ghost entries = { λ rest. rest.entries };
-
-    fn at(&self, place: usize) -> Entry {
-        self.blocks[self.width.block_of(place)].at(self.width.place_of(place))
     }
 }

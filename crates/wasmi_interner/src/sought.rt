@@ -7,8 +7,9 @@ ghost use Rattle.wasmi_interner.specs.inner.Index.{orders_with, order_with, AreS
 ghost use Rattle.wasmi_interner.specs.LenOrder.{len_cmp};
 ghost use Rattle.wasmi_interner.specs.Search.{IsFound, IsSearchable};
 
-use crate::entry::{Entries, Entry};
+use crate::entry::Entry;
 use crate::hash::hash_of_text;
+use crate::rest::Rest;
 use crate::texts::Texts;
 use crate::{LenOrder, Probe, Steps, Sym, search};
 use std::alloc::Allocator;
@@ -69,30 +70,24 @@ impl<'a, A: Allocator> Sought<'a, A> {
         }
     }
 
-    // The place of its entry among these, or as an error the place where it belongs. A step for each look.
+    // The rank of its entry in the rest, or as an error the one where it belongs. A step for each look.
     #[inline]
-    pub(crate) fn place_among<E: Entries>(
-        &self,
-        entries: &E,
-        len: usize,
-        steps: &mut Steps,
-    ) -> Result<usize, usize>
-        requires len { len ≡ length (E.entries entries.now) }
-        requires symbols { AreSymbolsOf self.now.texts.now (E.entries entries.now) }
-        requires in_order { IsSearchable (orders_with self.now.texts.now self.now.hash self.now.text.now (E.entries entries.now)) }
+    pub(crate) fn rank_in(&self, rest: &Rest<A>, steps: &mut Steps) -> Result<usize, usize>
+        requires symbols { AreSymbolsOf self.now.texts.now rest.now.entries }
+        requires in_order { IsSearchable (orders_with self.now.texts.now self.now.hash self.now.text.now rest.now.entries) }
         requires countable { steps.old ≤ 2 ^ 63 }
-        ensures found { IsFound (orders_with self.now.texts.now self.now.hash self.now.text.now (E.entries entries.now)) result }
-        ensures few_steps { steps.new ≤ steps.old + digits len }
-        ensures some_steps { 0 < len → steps.old < steps.new }
+        ensures found { IsFound (orders_with self.now.texts.now self.now.hash self.now.text.now rest.now.entries) result }
+        ensures few_steps { steps.new ≤ steps.old + digits (length rest.now.entries) }
+        ensures some_steps { 0 < length rest.now.entries → steps.old < steps.new }
     {
         // Counted in a local: through the `&mut` each step is a store, after which the compiler reads again where the
         // entries lie.
         let mut probe = Comparison {
             sought: self,
-            entries,
+            rest,
             steps: mem::replace(steps, Steps::new()),
         };
-        let found = search(len, &mut probe);
+        let found = search(rest.len(), &mut probe);
         *steps = probe.steps;
         found
     }
@@ -115,23 +110,23 @@ impl<'a, A: Allocator> Sought<'a, A> {
     }
 }
 
-// A text that is sought among entries, and how many of these it was compared with.
+// A text that is sought in the rest, and with how many entries it was compared.
 #[derive(Drop)]
-struct Comparison<'a, E: Entries, A: Allocator> {
+struct Comparison<'a, A: Allocator> {
     sought: &'a Sought<'a, A>,
-    entries: &'a E,
+    rest: &'a Rest<A>,
     steps: Steps,
-    ghost symbols: { AreSymbolsOf sought.now.texts.now (E.entries entries.now) },
+    ghost symbols: { AreSymbolsOf sought.now.texts.now rest.now.entries },
 }
 
-impl<E: Entries, A: Allocator> Probe for Comparison<'_, E, A> {
-    ghost orders = { λ probe. orders_with probe.sought.now.texts.now probe.sought.now.hash probe.sought.now.text.now (E.entries probe.entries.now) };
+impl<A: Allocator> Probe for Comparison<'_, A> {
+    ghost orders = { λ probe. orders_with probe.sought.now.texts.now probe.sought.now.hash probe.sought.now.text.now probe.rest.now.entries };
 
     ghost looks = { λ probe. probe.steps };
 
     #[inline]
     fn look(&mut self, at: usize) -> Ordering {
         self.steps.tick();
-        self.sought.compare(self.entries.at(at))
+        self.sought.compare(self.rest.at(at))
     }
 }

@@ -231,7 +231,13 @@ fn many_texts_are_found(rt: HostRuntime) {
     for number in 0..660_003 {
         let text = scattered(&rt, rt.alloc(), number);
         if number % 2 == 0 {
-            assert_equal!(rt; interner.get_or_intern(text.as_str()), Ok(Sym::from_u32(number)));
+            let hint = if number % 4 == 0 {
+                InternHint::LikelyNew
+            } else {
+                InternHint::LikelyExists
+            };
+            let symbol = interner.get_or_intern_with_hint(text.as_str(), hint);
+            assert_equal!(rt; symbol, Ok(Sym::from_u32(number)));
         } else {
             assert_equal!(rt; interner.extend([text.as_str()]), Ok(()), "at {number}");
         }

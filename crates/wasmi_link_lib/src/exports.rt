@@ -15,14 +15,14 @@ use wasmi_hashed::hash::FixedState;
 use wasmi_interner::{StringInterner, Sym};
 use wasmi_module::{Export, Kind};
 
-/// Where an export is among its module's items.
+// Where an export is among its module's items.
 #[derive(Clone, Copy)]
 pub(crate) struct Place {
     pub(crate) kind: Kind,
     pub(crate) index: u32,
 }
 
-/// Where each export is, by the key of its module and the symbol of its name.
+// Where each export is, by the key of its module and the symbol of its name.
 pub(crate) fn all_exports<A: Allocator + Copy>(
     alloc: A,
     names: &StringInterner<A>,

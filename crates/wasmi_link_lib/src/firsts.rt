@@ -11,7 +11,7 @@ use wasmi_arena::{ArenaError, ArenaKey};
 use wasmi_dense::ComponentVec;
 use wasmi_interner::{StringInterner, Sym};
 
-/// The first module of each name, under the symbol of the name.
+// The first module of each name, under the symbol of the name.
 pub(crate) fn first_modules<A: Allocator>(
     alloc: A,
     names: &StringInterner<A>,

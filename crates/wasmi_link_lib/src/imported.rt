@@ -16,7 +16,7 @@ use wasmi_collections::DedupArena;
 use wasmi_dense::Arena;
 use wasmi_module::{ImportType, Kind, Module};
 
-/// What a module imports of each kind, in order.
+// What a module imports of each kind, in order.
 #[derive(Drop)]
 pub(crate) struct Imported<A: Allocator> {
     functions: Vec<ImportType, A>,
@@ -70,7 +70,7 @@ fn of_kind<A: Allocator>(
     Ok(items)
 }
 
-/// What each module imports, under the module's key.
+// What each module imports, under the module's key.
 pub(crate) fn of_all<A: Allocator + Copy>(
     alloc: A,
     modules: &[NamedModule<'_, A>],
@@ -89,7 +89,7 @@ pub(crate) fn of_all<A: Allocator + Copy>(
     Ok(all)
 }
 
-/// What a module has under an index: what it imports, and then its own.
+// What a module has under an index: what it imports, and then its own.
 pub(crate) fn item<'a, A: Allocator>(
     imported: &Imported<A>,
     types: &DedupArena<TypeId, Signature<'a>, A>,

@@ -13,7 +13,7 @@ use std::alloc::Allocator;
 use wasmi_collections::DedupArena;
 use wasmi_module::{FuncType, GlobalType, ImportType, Kind, MemoryType, Module, TableType};
 
-/// The type of what is imported or exported; of a function with the key of its type.
+// The type of what is imported or exported; of a function with the key of its type.
 #[derive_where(Clone, Copy)]
 pub(crate) enum Item<'a, A: Allocator> {
     Func(TypeId, &'a FuncType<A>),
@@ -23,7 +23,7 @@ pub(crate) enum Item<'a, A: Allocator> {
 }
 
 impl<'a, A: Allocator> Item<'a, A> {
-    /// The type without the key.
+    // The type without the key.
     pub(crate) fn ty(&self) -> ItemType<'a, A>
         ensures { item_of result ≡ (keyed_of self.now).type }
     {
@@ -35,7 +35,7 @@ impl<'a, A: Allocator> Item<'a, A> {
         }
     }
 
-    /// Whether what is given is what is asked for by this. Constant time.
+    // Whether what is given is what is asked for by this. Constant time.
     pub(crate) fn admits(&self, given: &Item<'_, A>) -> bool
         ensures { result ≡ keyed_matches (keyed_of self.now) (keyed_of given.now) }
     {
@@ -65,7 +65,7 @@ fn func<'a, A: Allocator>(
     Item::Func(id, ty)
 }
 
-/// What an import asks for.
+// What an import asks for.
 pub(crate) fn asked<'a, A: Allocator>(
     types: &DedupArena<TypeId, Signature<'a>, A>,
     body: &'a Module<'a, A>,
@@ -84,7 +84,7 @@ pub(crate) fn asked<'a, A: Allocator>(
     }
 }
 
-/// What a module has of its own under an index, if there is something.
+// What a module has of its own under an index, if there is something.
 pub(crate) fn own<'a, A: Allocator>(
     types: &DedupArena<TypeId, Signature<'a>, A>,
     body: &'a Module<'a, A>,

@@ -26,8 +26,8 @@ use wasmi_hashed::hash::FixedState;
 use wasmi_interner::{StringInterner, Sym};
 use wasmi_module::{Import, Module};
 
-/// All names and types of functions of some modules; the first module of each name; and for each module the symbols
-/// of its imports, where its exports are, and what it imports of each kind.
+// All names and types of functions of some modules; the first module of each name; and for each module the symbols
+// of its imports, where its exports are, and what it imports of each kind.
 #[derive(Drop)]
 pub(crate) struct Linker<'a, A: Allocator> {
     pub(crate) names: StringInterner<A>,
@@ -39,7 +39,7 @@ pub(crate) struct Linker<'a, A: Allocator> {
 }
 
 impl<'a, A: Allocator + Copy> Linker<'a, A> {
-    /// The tables of these modules.
+    // The tables of these modules.
     pub(crate) fn new(alloc: A, modules: &'a [NamedModule<'a, A>]) -> Result<Self, ArenaError>
         ensures ok { IfOk result (λ linker. IsLinkerOf (map named_of modules.now) linker) }
         ensures keys { IsErrOf result ArenaError.NotEnoughKeys → IsPastKeys (linked (map named_of modules.now)) }
@@ -63,6 +63,7 @@ impl<'a, A: Allocator + Copy> Linker<'a, A> {
     }
 
     // The first module of the name of a symbol.
+    // proof: a call of its own, for its clause.
     fn first(&self, symbol: Sym) -> Option<ModuleId>
         ensures { (modules : List Named) (name : List ℕ) → IsLinkerOf modules self.now
             → symbol_of self.now.names name ≡ Some symbol → result ≡ first_of modules name }
@@ -176,7 +177,7 @@ impl<'a, A: Allocator + Copy> Linker<'a, A> {
         Ok(())
     }
 
-    /// All imports of all modules with their answers.
+    // All imports of all modules with their answers.
     pub(crate) fn lines(
         &self,
         alloc: A,

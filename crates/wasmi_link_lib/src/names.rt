@@ -13,17 +13,17 @@ use wasmi_arena::ArenaError;
 use wasmi_interner::{StringInterner, Sym};
 use wasmi_module::{Export, Import};
 
-/// The symbols of the two names of an import.
+// The symbols of the two names of an import.
 #[derive(Clone, Copy)]
 pub(crate) struct ImportSymbols {
-    /// Of the module that is asked.
+    // Of the module that is asked.
     pub(crate) asked: Sym,
-    /// Of the export that it asks for.
+    // Of the export that it asks for.
     pub(crate) field: Sym,
 }
 
-/// Takes the names of all modules: their own, those of their imports, and those of their exports. Returns for each
-/// module the symbols of its imports.
+// Takes the names of all modules: their own, those of their imports, and those of their exports. Returns for each
+// module the symbols of its imports.
 pub(crate) fn intern_all<A: Allocator + Copy>(
     alloc: A,
     names: &mut StringInterner<A>,

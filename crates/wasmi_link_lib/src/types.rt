@@ -11,7 +11,7 @@ use wasmi_arena::ArenaError;
 use wasmi_collections::DedupArena;
 use wasmi_module::{FuncType, ValType};
 
-/// The type of a function, lent from its module.
+// The type of a function, lent from its module.
 #[derive(Clone, Copy, PartialEq, Eq, Hash)]
 pub(crate) struct Signature<'a> {
     params: &'a [ValType],
@@ -19,7 +19,7 @@ pub(crate) struct Signature<'a> {
 }
 
 impl<'a> Signature<'a> {
-    /// The parameters and results of a type.
+    // The parameters and results of a type.
     pub(crate) fn of<A: Allocator>(ty: &'a FuncType<A>) -> Self
         ensures { signature_of result ≡ func_type_of ty.now }
     {
@@ -30,7 +30,7 @@ impl<'a> Signature<'a> {
     }
 }
 
-/// The types of functions of all modules.
+// The types of functions of all modules.
 pub(crate) fn take_all<'a, A: Allocator + Copy>(
     alloc: A,
     modules: &'a [NamedModule<'a, A>],
@@ -83,7 +83,7 @@ fn take_type<'a, A: Allocator + Copy>(
     Ok(())
 }
 
-/// The key of a type that is there.
+// The key of a type that is there.
 pub(crate) fn id_of<'a, A: Allocator>(
     types: &DedupArena<TypeId, Signature<'a>, A>,
     ty: &'a FuncType<A>,
@@ -97,9 +97,9 @@ pub(crate) fn id_of<'a, A: Allocator>(
     }
 }
 
-/// How many entries the sections of types of all modules have.
-///
-/// Fails with `NotEnoughKeys` where these are 2^64 or more.
+// How many entries the sections of types of all modules have.
+//
+// Fails with `NotEnoughKeys` where these are 2^64 or more.
 pub(crate) fn count<A: Allocator>(modules: &[NamedModule<'_, A>]) -> Result<usize, ArenaError>
     ensures ok { IfOk result (λ count. count ≡ length (all_types (map named_of modules.now))) }
     ensures keys { IsErrOf result ArenaError.NotEnoughKeys → 2 ^ 64 ≤ length (all_types (map named_of modules.now)) }

@@ -125,7 +125,7 @@ fn room_is_given_back(rt: HostRuntime) {
 #[test]
 fn what_is_empty_gives_its_room_back(rt: HostRuntime) {
     for by_clear in [false, true] {
-        let pairs = (0..1_000u32).map(|key| (key, key));
+        let pairs = (0..60_000u32).map(|key| (key, key));
         let mut map = Map::from_iter(rt.alloc(), pairs).expect(&rt, "");
         let mut set = Set::from_iter(rt.alloc(), 0..1_000u32).expect(&rt, "");
         let room = (map.capacity(), set.capacity());
@@ -146,10 +146,10 @@ fn what_is_empty_gives_its_room_back(rt: HostRuntime) {
 // Exactly as many as are kept, however many there were.
 #[test]
 fn room_is_given_back_down_to_what_is_kept(rt: HostRuntime) {
-    for kept in [1u32, 7, 100, 448, 449, 500, 896, 897, 1_000] {
-        let pairs = (0..1_000u32).map(|key| (key, key));
+    for kept in [1u32, 7, 100, 448, 449, 896, 897, 1_000, 60_000] {
+        let pairs = (0..60_000u32).map(|key| (key, key));
         let mut map = Map::from_iter(rt.alloc(), pairs).expect(&rt, "");
-        let mut set = Set::from_iter(rt.alloc(), 0..1_000u32).expect(&rt, "");
+        let mut set = Set::from_iter(rt.alloc(), 0..60_000u32).expect(&rt, "");
         map.retain(|key, _| *key < kept);
         set.retain(|key| *key < kept);
         map.shrink_to_fit();

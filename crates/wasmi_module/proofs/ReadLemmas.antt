@@ -14,8 +14,8 @@ reads-is text before after e = record { text = text; is_text = refl; parts = e }
 pub reads-nothing : (P : List ℕ → Type 0) (bytes : List ℕ) → P [] → Reads P bytes bytes
 reads-nothing P bytes h = record { text = []; is_text = h; parts = refl }
 
-pub reads-then : (P Q : List ℕ → Type 0) (before mid after : List ℕ) → Reads P before mid → Reads Q mid after → Reads (P ⋅ Q) before after
-reads-then P Q before mid after p q = record {
+pub reads-then : {P Q : List ℕ → Type 0} {before : List ℕ} (mid : List ℕ) {after : List ℕ} → Reads P before mid → Reads Q mid after → Reads (P ⋅ Q) before after
+reads-then mid {after = after} p q = record {
   text = p.text ++ q.text;
   is_text = record { front = p.text; back = q.text; parts = refl; first = p.is_text; second = q.is_text };
   parts = p.parts ∙ ap (λ (t : List ℕ). p.text ++ t) q.parts ∙ sym (append_assoc p.text q.text after);
@@ -47,8 +47,8 @@ pub reads-byte : (b code : ℕ) (before after : List ℕ) → b ≡ code → bef
 reads-byte b code before after is e = record { text = code ∷ []; is_text = refl; parts = e ∙ ap (λ (x : ℕ). x ∷ after) is }
 
 -- a byte, and then what follows
-pub reads-byte_then : (Q : List ℕ → Type 0) (b code : ℕ) (before mid after : List ℕ) → b ≡ code → before ≡ b ∷ mid → Reads Q mid after → Reads (Is (code ∷ []) ⋅ Q) before after
-reads-byte_then Q b code before mid after is e q = reads-then (Is (code ∷ [])) Q before mid after (reads-byte b code before mid is e) q
+pub reads-byte_then : {Q : List ℕ → Type 0} {b code : ℕ} {before : List ℕ} (mid : List ℕ) {after : List ℕ} → b ≡ code → before ≡ b ∷ mid → Reads Q mid after → Reads (Is (code ∷ []) ⋅ Q) before after
+reads-byte_then {b = b} {code = code} {before = before} mid is e q = reads-then mid (reads-byte b code before mid is e) q
 
 pub reads-bytes : (count : ℕ) (bytes before after : List ℕ) → before ≡ bytes ++ after → length bytes ≡ count → Reads (IsBytes count bytes) before after
 reads-bytes count bytes before after e len = record { text = bytes; is_text = record { len = len; written = refl }; parts = e }
@@ -59,6 +59,6 @@ reads-u32_at n m before after e h = subst (λ (k : ℕ). Reads (IsU32 k) before 
 pub reads-name : (len : ℕ) (bytes name before mid after : List ℕ) → Reads (IsU32 len) before mid → mid ≡ bytes ++ after → length bytes ≡ len → name ≡ bytes → IsUtf8 bytes → Reads (IsName name) before after
 reads-name len bytes name before mid after number e is same utf8 =
     let known = reads-u32_at len (length bytes) before mid (sym is) number in
-    let whole = reads-then (IsU32 (length bytes)) (Is bytes) before mid after known (reads-is bytes mid after e) in
+    let whole = reads-then mid known (reads-is bytes mid after e) in
     let read = reads-as (IsU32 (length bytes) ⋅ Is bytes) (IsName bytes) before after (λ text h. record { utf8 = utf8; written = h }) whole in
     subst (λ (n : List ℕ). Reads (IsName n) before after) (sym same) read

@@ -4,7 +4,7 @@ use Rattle.std.proofs.Common.{◌≡◌, ℕ, length, List, [], ◌∷◌, ◌++
 use Rattle.std.specs.Prelude.{IfSome, IfNone, slice_get}
 use Rattle.std.specs.Option.{is_some}
 use Rattle.std.proofs.lemmas.List.{append-nil}
-use Rattle.wasmi_module.specs.Texts.{Is, ◌⋅◌, Each, Reads}
+use Rattle.wasmi_module.specs.Texts.{Each, Reads}
 use Rattle.wasmi_module.specs.Numbers.{IsU32}
 use Rattle.wasmi_module.specs.Format.{IsVector}
 use Rattle.wasmi_module.specs.Sections.{IsSection, AreCustoms, IsSectionOf, IsNext, IsAny}
@@ -16,8 +16,8 @@ first_is b number before mid h e = let k = rw e at h in cc
 pub reads-section : {b : ℕ} (number len : ℕ) (contents : List ℕ) {before : List ℕ} (mid next : List ℕ) {after : List ℕ} → slice_get before 0 ≡ Some number → before ≡ b ∷ mid → Reads (IsU32 len) mid next → next ≡ contents ++ after → length contents ≡ len → Reads (IsSection number contents) before after
 reads-section {b} number len contents {before} mid next {after} is e number_read parts same =
     let known = reads-u32_at len (length contents) mid next (sym same) number_read in
-    let rest = reads-then (IsU32 (length contents)) (Is contents) mid next after known (reads-is contents next after parts) in
-    reads-byte_then (IsU32 (length contents) ⋅ Is contents) b number before mid after (first_is b number before mid is e) e rest
+    let rest = reads-then next known (reads-is contents next after parts) in
+    reads-byte_then mid (first_is b number before mid is e) e rest
 
 customs_more : (contents before mid after : List ℕ) → Reads AreCustoms before mid → Reads (IsSection 0 contents) mid after → Reads AreCustoms before after
 customs_more contents before mid after customs one =
@@ -38,12 +38,12 @@ reads-any (Some contents) number before after one none = reads-as (IsSection num
 -- A section is left out.
 pub reads-left_out : {X : Type 0} (W : X → List ℕ → Type 0) (number : ℕ) (before mid after : List ℕ) → Reads AreCustoms before mid → after ≡ mid → Reads (IsNext number W []) before after
 reads-left_out W number before mid after customs e =
-    reads-then AreCustoms (IsSectionOf number W []) before mid after customs (record { text = []; is_text = inr (refl, refl); parts = sym e })
+    reads-then mid customs (record { text = []; is_text = inr (refl, refl); parts = sym e })
 
 -- A section is there, and its items are all of its contents.
 pub reads-there : {X : Type 0} (W : X → List ℕ → Type 0) (xs : List X) (number : ℕ) (contents rest before mid after : List ℕ) → Reads AreCustoms before mid → Reads (IsSection number contents) mid after → Reads (IsVector W xs) contents rest → rest ≡ [] → Reads (IsNext number W xs) before after
 reads-there W xs number contents rest before mid after customs section items end =
     let whole : contents ≡ items.text = items.parts ∙ ap (λ (t : List ℕ). items.text ++ t) end ∙ append-nil items.text in
     let is_items = subst (λ (t : List ℕ). IsVector W xs t) (sym whole) items.is_text in
-    reads-then AreCustoms (IsSectionOf number W xs) before mid after customs
+    reads-then mid customs
     (reads-as (IsSection number contents) (IsSectionOf number W xs) mid after (λ text h. inl (record { contents = contents; items = is_items; written = h })) section)

@@ -10,7 +10,7 @@ use crate::module::{Export, Global, Import, ImportType, Init, Kind};
 use std::alloc::{AllocError, Allocator};
 use std::collections::BTreeSet;
 
-/// Whether an import has a type of the module.
+// Whether an import has a type of the module.
 pub(crate) fn is_import_within(item: &ImportType, counts: &Counts) -> bool
     ensures { IsTrue result → IsImportWithin counts.now item.now }
 {
@@ -34,7 +34,7 @@ impl ImportType {
     }
 }
 
-/// How many imports are of this kind.
+// How many imports are of this kind.
 pub(crate) fn imported(imports: &[Import<'_>], kind: Kind) -> usize
     ensures count { result ≡ count_by (λ import. is_of kind import.item) imports.now }
     ensures bound { result ≤ length imports.now }
@@ -45,7 +45,7 @@ pub(crate) fn imported(imports: &[Import<'_>], kind: Kind) -> usize
         .count()
 }
 
-/// Whether the first values of globals refer only to what there is.
+// Whether the first values of globals refer only to what there is.
 pub(crate) fn are_inits_within(globals: &[Global<'_>], counts: &Counts) -> bool
     ensures { IsTrue result → All (λ global. IsInitWithin counts.now (init_of global.init)) globals.now }
 {
@@ -68,7 +68,7 @@ fn is_init_within(init: &Init<'_>, counts: &Counts) -> bool
 // So many names are compared each with each, which costs less than a set of them.
 const FEW: usize = 16;
 
-/// Whether no two exports have one name.
+// Whether no two exports have one name.
 pub(crate) fn are_distinct<A: Allocator + Copy>(
     alloc: A,
     exports: &[Export<'_>],

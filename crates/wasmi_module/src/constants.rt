@@ -10,7 +10,7 @@ use crate::module::Init;
 use crate::reader::Reader;
 
 impl<'a> Reader<'a> {
-    /// A constant instruction, and the instruction `end`.
+    // A constant instruction, and the instruction `end`.
     pub(crate) fn init(&mut self) -> Result<Init<'a>, DecodeError>
         ensures { IfOk result (λ init. Reads (IsConstant (init_of init) ⋅ Byte 11) self.old self.new) }
     {

@@ -20,7 +20,7 @@ pub struct Counts {
 }
 
 impl Counts {
-    /// How many there are of a kind.
+    // How many there are of a kind.
     pub(crate) fn of(&self, kind: Kind) -> usize
         ensures { result ≡ count_of self.now kind }
     {

@@ -74,7 +74,7 @@ pub enum Expected {
 }
 
 impl Expected {
-    /// The error that this was expected at an offset.
+    // The error that this was expected at an offset.
     pub(crate) fn at(self, offset: usize) -> DecodeError {
         DecodeError::Malformed {
             offset,

@@ -8,24 +8,24 @@ use crate::error::DecodeError;
 use crate::reader::Reader;
 use std::alloc::Allocator;
 
-/// What a module has a list of.
+// What a module has a list of.
 pub(crate) trait Item<'a, A: Allocator>: Sized + Drop {
-    /// The texts that are writings of an item.
+    // The texts that are writings of an item.
     ghost writes: { Self → List ℕ → Type 0 };
 
-    /// The indices in it are below these counts.
+    // The indices in it are below these counts.
     ghost use Rattle.wasmi_module.specs.declared.counts.Counts.{Counts};
 
     ghost valid: { Counts → Self → Type 0 };
 
-    /// Reads an item, in a module that has so many to refer to.
+    // Reads an item, in a module that has so many to refer to.
     fn read(reader: &mut Reader<'a>, alloc: A, counts: &Counts) -> Result<Self, DecodeError>
         ensures written { IfOk result (λ item. Reads (writes item) reader.old reader.new) }
         ensures valid { IfOk result (λ item. valid counts.now item) };
 }
 
 impl<'a> Reader<'a> {
-    /// A vector: a count, and so many items.
+    // A vector: a count, and so many items.
     pub(crate) fn vector<T: Item<'a, A>, A: Allocator + Copy>(
         &mut self,
         alloc: A,

@@ -7,7 +7,7 @@ use crate::error::{DecodeError, Expected};
 use crate::reader::Reader;
 
 impl Reader<'_> {
-    /// A number below 2^32.
+    // A number below 2^32.
     pub(crate) fn u32(&mut self) -> Result<u32, DecodeError>
         ensures { IfOk result (λ n. Reads (IsU32 n) self.old self.new) }
     {
@@ -15,7 +15,7 @@ impl Reader<'_> {
         Ok(number as u32)
     }
 
-    /// A signed number of 32 bits.
+    // A signed number of 32 bits.
     pub(crate) fn i32(&mut self) -> Result<i32, DecodeError>
         ensures number { IfOk result (λ n. Reads (IsI32 n) self.old self.new) }
         ensures above { IfOk result (λ n. pos 0 ≤ℤ (n +ℤ pos (2 ^ 31))) }
@@ -25,7 +25,7 @@ impl Reader<'_> {
         Ok(number as i32)
     }
 
-    /// A signed number of 64 bits.
+    // A signed number of 64 bits.
     pub(crate) fn i64(&mut self) -> Result<i64, DecodeError>
         ensures number { IfOk result (λ n. Reads (IsI64 n) self.old self.new) }
         ensures above { IfOk result (λ n. pos 0 ≤ℤ (n +ℤ pos (2 ^ 63))) }

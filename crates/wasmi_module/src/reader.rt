@@ -5,7 +5,7 @@ ghost use Rattle.wasmi_module.specs.Texts.{Is, Reads};
 use crate::error::{DecodeError, Expected};
 use std::marker::Model;
 
-/// What is left of the bytes of a module. A contract sees the bytes that are left.
+// What is left of the bytes of a module. A contract sees the bytes that are left.
 #[derive(Drop)]
 pub(crate) struct Reader<'a> {
     // What is left.
@@ -25,7 +25,7 @@ impl<'a> Model for Reader<'a> {
 }
 
 impl<'a> Reader<'a> {
-    /// Reads all of the bytes.
+    // Reads all of the bytes.
     pub(crate) fn new(bytes: &'a [u8]) -> Self
         ensures { result ≡ bytes.now }
     {
@@ -35,17 +35,17 @@ impl<'a> Reader<'a> {
         }
     }
 
-    /// How many bytes of the module were read.
+    // How many bytes of the module were read.
     pub(crate) fn offset(&self) -> usize {
         self.end - self.rest.len()
     }
 
-    /// How many bytes are left.
+    // How many bytes are left.
     pub(crate) fn left(&self) -> usize {
         self.rest.len()
     }
 
-    /// The next byte.
+    // The next byte.
     pub(crate) fn byte(&mut self) -> Result<u8, DecodeError>
         ensures { IfOk result (λ byte. self.old ≡ byte ∷ self.new) }
     {
@@ -58,7 +58,7 @@ impl<'a> Reader<'a> {
         }
     }
 
-    /// The next so many bytes.
+    // The next so many bytes.
     pub(crate) fn bytes(&mut self, len: usize) -> Result<&'a [u8], DecodeError>
         ensures { IfOk result (λ bytes. (self.old ≡ bytes.now ++ self.new) × (length bytes.now ≡ len)) }
     {
@@ -70,7 +70,7 @@ impl<'a> Reader<'a> {
         Ok(front)
     }
 
-    /// A reader of the next so many bytes.
+    // A reader of the next so many bytes.
     pub(crate) fn part(&mut self, len: usize) -> Result<Reader<'a>, DecodeError>
         ensures { IfOk result (λ part. (self.old ≡ part ++ self.new) × (length part ≡ len)) }
     {
@@ -85,21 +85,21 @@ impl<'a> Reader<'a> {
         })
     }
 
-    /// Whether this byte is next.
+    // Whether this byte is next.
     pub(crate) fn is_next(&self, byte: u8) -> bool
         ensures { IsTrue result → slice_get self.now 0 ≡ Some byte }
     {
         self.rest.first() == Some(&byte)
     }
 
-    /// Fails with this error unless all was read.
+    // Fails with this error unless all was read.
     pub(crate) fn end(&self, expected: Expected) -> Result<(), DecodeError>
         ensures { OnOk result (self.now ≡ []) }
     {
         self.require(self.rest.is_empty(), expected)
     }
 
-    /// Fails with this error unless this holds.
+    // Fails with this error unless this holds.
     pub(crate) fn require(&self, holds: bool, expected: Expected) -> Result<(), DecodeError>
         ensures { OnOk result (IsTrue holds) }
     {

@@ -10,8 +10,8 @@ use crate::reader::Reader;
 use std::alloc::Allocator;
 
 impl<'a> Reader<'a> {
-    /// Custom sections, and then the section of this number: its items, of which there are none if it
-    /// is left out.
+    // Custom sections, and then the section of this number: its items, of which there are none if it
+    // is left out.
     pub(crate) fn section<T: Item<'a, A>, A: Allocator + Copy>(
         &mut self,
         number: u8,
@@ -30,7 +30,7 @@ impl<'a> Reader<'a> {
         Ok(items)
     }
 
-    /// What is left when the sections were read that are stepped over.
+    // What is left when the sections were read that are stepped over.
     pub(crate) fn skipped(&mut self) -> Result<(), DecodeError>
         ensures { OnOk result (Reads AreSkipped self.old self.new) }
     {

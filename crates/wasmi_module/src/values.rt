@@ -9,7 +9,7 @@ use crate::module::{
 };
 use crate::reader::Reader;
 
-/// The most pages of a memory.
+// The most pages of a memory.
 const MAX_PAGES: u32 = 65536;
 
 impl ValType {
@@ -59,7 +59,7 @@ impl Kind {
 }
 
 impl<'a> Reader<'a> {
-    /// A name.
+    // A name.
     pub(crate) fn name(&mut self) -> Result<&'a str, DecodeError>
         ensures { IfOk result (λ name. Reads (IsName name.now) self.old self.new) }
     {
@@ -72,7 +72,7 @@ impl<'a> Reader<'a> {
         }
     }
 
-    /// The type of a value.
+    // The type of a value.
     pub(crate) fn val_type(&mut self) -> Result<ValType, DecodeError>
         ensures { IfOk result (λ ty. Reads (IsValType ty) self.old self.new) }
     {
@@ -84,7 +84,7 @@ impl<'a> Reader<'a> {
         }
     }
 
-    /// The type of a reference.
+    // The type of a reference.
     pub(crate) fn ref_type(&mut self) -> Result<RefType, DecodeError>
         ensures { IfOk result (λ ty. Reads (IsRefType ty) self.old self.new) }
     {
@@ -96,7 +96,7 @@ impl<'a> Reader<'a> {
         }
     }
 
-    /// What is imported or exported.
+    // What is imported or exported.
     pub(crate) fn kind(&mut self) -> Result<Kind, DecodeError>
         ensures { IfOk result (λ kind. Reads (Byte (kind_code kind)) self.old self.new) }
     {
@@ -108,7 +108,7 @@ impl<'a> Reader<'a> {
         }
     }
 
-    /// The limits of a table or a memory.
+    // The limits of a table or a memory.
     pub(crate) fn limits(&mut self) -> Result<Limits, DecodeError>
         ensures { IfOk result (λ limits. Reads (IsLimits limits) self.old self.new) }
     {
@@ -134,7 +134,7 @@ impl<'a> Reader<'a> {
         }
     }
 
-    /// The type of a table.
+    // The type of a table.
     pub(crate) fn table_type(&mut self) -> Result<TableType, DecodeError>
         ensures { IfOk result (λ ty. Reads (IsTableType ty) self.old self.new) }
     {
@@ -143,7 +143,7 @@ impl<'a> Reader<'a> {
         Ok(TableType { element, limits })
     }
 
-    /// The type of a memory.
+    // The type of a memory.
     pub(crate) fn memory_type(&mut self) -> Result<MemoryType, DecodeError>
         ensures { IfOk result (λ ty. Reads (IsMemoryType ty) self.old self.new) }
     {
@@ -159,7 +159,7 @@ impl<'a> Reader<'a> {
         Ok(MemoryType { limits })
     }
 
-    /// The type of a global.
+    // The type of a global.
     pub(crate) fn global_type(&mut self) -> Result<GlobalType, DecodeError>
         ensures { IfOk result (λ ty. Reads (IsGlobalType ty) self.old self.new) }
     {
@@ -178,7 +178,7 @@ impl<'a> Reader<'a> {
         }
     }
 
-    /// What a module asks for.
+    // What a module asks for.
     pub(crate) fn import_type(&mut self) -> Result<ImportType, DecodeError>
         ensures { IfOk result (λ ty. Reads (IsImportType ty) self.old self.new) }
     {

@@ -1,6 +1,6 @@
 //! What calls return, and the lines of the output.
 
-use crate::line::Line;
+use crate::answer_line::AnswerLine;
 use std::cmp::Ordering;
 use std::mem;
 use wasmi_arena::ArenaError;
@@ -112,7 +112,7 @@ pub fn keep<C: Drop>(made: Result<C, ArenaError>, place: &mut C) -> Answer {
 }
 
 /// Writes the line of an answer. Running out of memory ends the replay.
-pub fn write(out: &mut Line, answer: Answer) {
+pub fn write(out: &mut AnswerLine, answer: Answer) {
     match answer {
         Answer::Word(word) => writeln!(out, "{word}"),
         Answer::Truth(truth) => writeln!(out, "{truth}"),

@@ -1,9 +1,9 @@
 //! Calls on an `Arena`, a `StableArena` and a `DedupArena`. A line names a key by its number.
 
+use crate::answer_line::AnswerLine;
 use crate::answers::{Answer, Reply, done, item, keep, lent, overwritten, shown};
 use crate::format::{Number, Numbered, Plain, Renewed};
 use crate::items::Consecutive;
-use crate::line::Line;
 use crate::pair_key::PairKey;
 use crate::replay::Container;
 use crate::stable_vec::answer_place;
@@ -58,13 +58,13 @@ impl<Key: ArenaKey> Left for arena::IntoIter<Key, i64> {
 /// its body stands below. Each is asked where the one before knows no such call.
 trait AnyArena<Key: ArenaKey>: Sized {
     /// Makes a call that not all arenas have, or an iteration.
-    fn answer_own(&mut self, words: &[&str], out: &mut Line) -> Reply;
+    fn answer_own(&mut self, words: &[&str], out: &mut AnswerLine) -> Reply;
 
     /// Makes an iteration. Where it writes, each item is shown as it was, and they become the numbers from one on.
-    fn answer_walk(&mut self, words: &[&str], out: &mut Line) -> Reply;
+    fn answer_walk(&mut self, words: &[&str], out: &mut AnswerLine) -> Reply;
 
     /// Makes a call on the item under a key. The number of the key is read here, once for all such calls.
-    fn answer_item(&mut self, words: &[&str], out: &mut Line) -> Reply {
+    fn answer_item(&mut self, words: &[&str], out: &mut AnswerLine) -> Reply {
         let answer = match *words {
             [name, number] => match key_of(number) {
                 Ok(key) => self.answer_key(name, key),
@@ -89,7 +89,7 @@ trait AnyArena<Key: ArenaKey>: Sized {
     fn answer_new(&mut self, name: &str, key: Key, new: i64) -> Reply;
 
     /// Makes a call on where the items lie, or else returns the answer so far.
-    fn answer_place(&self, _words: &[&str], answer: Answer, _out: &mut Line) -> Reply {
+    fn answer_place(&self, _words: &[&str], answer: Answer, _out: &mut AnswerLine) -> Reply {
         Err(answer)
     }
 }
@@ -190,7 +190,13 @@ impl<Key: ArenaKey> Container for StableArena<Key, i64> {
         StableArena::new(alloc)
     }
 
-    fn answer(&mut self, other: &mut Self, alloc: Global, words: &[&str], out: &mut Line) -> Reply {
+    fn answer(
+        &mut self,
+        other: &mut Self,
+        alloc: Global,
+        words: &[&str],
+        out: &mut AnswerLine,
+    ) -> Reply {
         match *words {
             ["clone"] => Ok(keep(self.clone(), other)),
             ["clone_in"] => Ok(keep(self.clone_in(alloc), other)),
@@ -200,7 +206,7 @@ impl<Key: ArenaKey> Container for StableArena<Key, i64> {
 }
 
 impl<Key: ArenaKey> AnyArena<Key> for StableArena<Key, i64> {
-    fn answer_own(&mut self, words: &[&str], out: &mut Line) -> Reply {
+    fn answer_own(&mut self, words: &[&str], out: &mut AnswerLine) -> Reply {
         Ok(match *words {
             ["last"] => shown(self.last()),
             ["alloc_many", count] => numbers(self.alloc_many(usize::from(read::<u16>(count)?))),
@@ -209,7 +215,7 @@ impl<Key: ArenaKey> AnyArena<Key> for StableArena<Key, i64> {
         })
     }
 
-    fn answer_walk(&mut self, words: &[&str], out: &mut Line) -> Reply {
+    fn answer_walk(&mut self, words: &[&str], out: &mut AnswerLine) -> Reply {
         match *words {
             ["keys", steps] => walk_steps(self.keys(), steps_of(steps)?, Number, out),
             ["values", steps] => walk_steps(self.values(), steps_of(steps)?, Plain, out),
@@ -230,7 +236,7 @@ impl<Key: ArenaKey> AnyArena<Key> for StableArena<Key, i64> {
         answer_new!(self, name, key, new)
     }
 
-    fn answer_place(&self, words: &[&str], answer: Answer, out: &mut Line) -> Reply {
+    fn answer_place(&self, words: &[&str], answer: Answer, out: &mut AnswerLine) -> Reply {
         answer_place(self.items(), words, out).map_err(|_| answer)
     }
 }
@@ -240,7 +246,13 @@ impl<Key: PairKey> Container for Arena<Key, i64> {
         Arena::new(alloc)
     }
 
-    fn answer(&mut self, _: &mut Self, alloc: Global, words: &[&str], out: &mut Line) -> Reply {
+    fn answer(
+        &mut self,
+        _: &mut Self,
+        alloc: Global,
+        words: &[&str],
+        out: &mut AnswerLine,
+    ) -> Reply {
         match *words {
             ["into_iter", steps] => {
                 let steps = steps_of(steps)?;
@@ -254,7 +266,7 @@ impl<Key: PairKey> Container for Arena<Key, i64> {
 }
 
 impl<Key: PairKey> AnyArena<Key> for Arena<Key, i64> {
-    fn answer_own(&mut self, words: &[&str], out: &mut Line) -> Reply {
+    fn answer_own(&mut self, words: &[&str], out: &mut AnswerLine) -> Reply {
         Ok(match *words {
             ["reserve", additional] => {
                 let additional = usize::from(read::<u16>(additional)?);
@@ -272,7 +284,7 @@ impl<Key: PairKey> AnyArena<Key> for Arena<Key, i64> {
         })
     }
 
-    fn answer_walk(&mut self, words: &[&str], out: &mut Line) -> Reply {
+    fn answer_walk(&mut self, words: &[&str], out: &mut AnswerLine) -> Reply {
         match *words {
             ["rev_mut", first] => {
                 let (len, first) = (self.len(), Renewed(read(first)?));
@@ -297,13 +309,19 @@ impl<Key: ArenaKey> Container for DedupArena<Key, i64> {
         DedupArena::new(alloc)
     }
 
-    fn answer(&mut self, _: &mut Self, alloc: Global, words: &[&str], out: &mut Line) -> Reply {
+    fn answer(
+        &mut self,
+        _: &mut Self,
+        alloc: Global,
+        words: &[&str],
+        out: &mut AnswerLine,
+    ) -> Reply {
         answer!(self, alloc, words, out)
     }
 }
 
 impl<Key: ArenaKey> AnyArena<Key> for DedupArena<Key, i64> {
-    fn answer_own(&mut self, words: &[&str], out: &mut Line) -> Reply {
+    fn answer_own(&mut self, words: &[&str], out: &mut AnswerLine) -> Reply {
         Ok(match *words {
             ["key_of", item] => found(self.key_of(&read(item)?)),
             ["index_of", item] => found(self.index().get(&read(item)?).copied()),
@@ -312,7 +330,7 @@ impl<Key: ArenaKey> AnyArena<Key> for DedupArena<Key, i64> {
         })
     }
 
-    fn answer_walk(&mut self, words: &[&str], out: &mut Line) -> Reply {
+    fn answer_walk(&mut self, words: &[&str], out: &mut AnswerLine) -> Reply {
         answer_walk!(self, words, out);
         Ok(Answer::Written)
     }

@@ -1,8 +1,8 @@
 //! Calls on a `ComponentVec`. A line names a key by its number.
 
+use crate::answer_line::AnswerLine;
 use crate::answers::{Answer, Reply, found, keep, shown, written};
 use crate::format::{Numbered, Renewed};
-use crate::line::Line;
 use crate::replay::Container;
 use crate::walk::{Left, walk_steps, write_all};
 use crate::words::{key_of, read, steps_of};
@@ -27,7 +27,13 @@ impl<Key: ArenaKey> Container for ComponentVec<Key, i64> {
         ComponentVec::new(alloc)
     }
 
-    fn answer(&mut self, other: &mut Self, _: Global, words: &[&str], out: &mut Line) -> Reply {
+    fn answer(
+        &mut self,
+        other: &mut Self,
+        _: Global,
+        words: &[&str],
+        out: &mut AnswerLine,
+    ) -> Reply {
         Ok(match *words {
             ["extent"] => Answer::Number(self.extent()),
             ["clear"] => {
@@ -44,7 +50,7 @@ impl<Key: ArenaKey> Container for ComponentVec<Key, i64> {
 fn answer_walk<Key: ArenaKey>(
     components: &mut ComponentVec<Key, i64>,
     words: &[&str],
-    out: &mut Line,
+    out: &mut AnswerLine,
 ) -> Reply {
     match *words {
         ["iter", steps] => walk_steps(components.iter(), steps_of(steps)?, Numbered, out),

@@ -1,6 +1,6 @@
 //! How iterations write the items that they come to.
 
-use crate::line::Line;
+use crate::answer_line::AnswerLine;
 use std::fmt::Display;
 use std::mem;
 use wasmi_arena::ArenaKey;
@@ -8,7 +8,7 @@ use wasmi_collections::string_interner::Sym;
 
 /// Writes items. One that is lent may change.
 pub trait Format<T>: Drop {
-    fn write(&mut self, item: T, out: &mut Line);
+    fn write(&mut self, item: T, out: &mut AnswerLine);
 }
 
 /// An item alone.
@@ -44,37 +44,37 @@ pub struct Raised(pub i64);
 pub struct Renewed(pub i64);
 
 impl<T: Display + Drop> Format<T> for Plain {
-    fn write(&mut self, item: T, out: &mut Line) {
+    fn write(&mut self, item: T, out: &mut AnswerLine) {
         write!(out, "{item}")
     }
 }
 
 impl<K: Display + Drop, T: Display + Drop> Format<(K, T)> for Pair {
-    fn write(&mut self, (key, item): (K, T), out: &mut Line) {
+    fn write(&mut self, (key, item): (K, T), out: &mut AnswerLine) {
         write!(out, "{key}={item}")
     }
 }
 
 impl<Key: ArenaKey> Format<Key> for Number {
-    fn write(&mut self, key: Key, out: &mut Line) {
+    fn write(&mut self, key: Key, out: &mut AnswerLine) {
         Plain.write(key.into_usize(), out)
     }
 }
 
 impl<Key: ArenaKey, T: Display + Drop> Format<(Key, T)> for Numbered {
-    fn write(&mut self, (key, item): (Key, T), out: &mut Line) {
+    fn write(&mut self, (key, item): (Key, T), out: &mut AnswerLine) {
         Pair.write((key.into_usize(), item), out)
     }
 }
 
 impl<'a> Format<&'a [i64]> for Bucket {
-    fn write(&mut self, items: &'a [i64], out: &mut Line) {
+    fn write(&mut self, items: &'a [i64], out: &mut AnswerLine) {
         write!(out, "{items:?}")
     }
 }
 
 impl<'a> Format<(Sym, &'a str)> for Text {
-    fn write(&mut self, (symbol, text): (Sym, &'a str), out: &mut Line) {
+    fn write(&mut self, (symbol, text): (Sym, &'a str), out: &mut AnswerLine) {
         write!(out, "{symbol}=\"{text}\"")
     }
 }
@@ -87,13 +87,13 @@ impl Raised {
 }
 
 impl<'a> Format<&'a mut i64> for Raised {
-    fn write(&mut self, item: &'a mut i64, out: &mut Line) {
+    fn write(&mut self, item: &'a mut i64, out: &mut AnswerLine) {
         Plain.write(self.raise(item), out)
     }
 }
 
 impl<'a> Format<(&'a i64, &'a mut i64)> for Raised {
-    fn write(&mut self, (key, item): (&'a i64, &'a mut i64), out: &mut Line) {
+    fn write(&mut self, (key, item): (&'a i64, &'a mut i64), out: &mut AnswerLine) {
         Pair.write((*key, self.raise(item)), out)
     }
 }
@@ -107,19 +107,19 @@ impl Renewed {
 }
 
 impl<'a> Format<&'a mut i64> for Renewed {
-    fn write(&mut self, item: &'a mut i64, out: &mut Line) {
+    fn write(&mut self, item: &'a mut i64, out: &mut AnswerLine) {
         Plain.write(self.renew(item), out)
     }
 }
 
 impl<'a, Key: ArenaKey> Format<(Key, &'a mut i64)> for Renewed {
-    fn write(&mut self, (key, item): (Key, &'a mut i64), out: &mut Line) {
+    fn write(&mut self, (key, item): (Key, &'a mut i64), out: &mut AnswerLine) {
         Numbered.write((key, self.renew(item)), out)
     }
 }
 
 impl<'a> Format<&'a mut [i64]> for Renewed {
-    fn write(&mut self, items: &'a mut [i64], out: &mut Line) {
+    fn write(&mut self, items: &'a mut [i64], out: &mut AnswerLine) {
         Bucket.write(&*items, out);
         for item in items {
             self.renew(item);

@@ -1,7 +1,7 @@
 //! Calls on a `HeadVec`.
 
+use crate::answer_line::AnswerLine;
 use crate::answers::{Answer, Reply, done, keep, shown, written};
-use crate::line::Line;
 use crate::replay::Container;
 use crate::words::read;
 use std::alloc::Global;
@@ -12,7 +12,7 @@ impl Container for HeadVec<i64> {
         HeadVec::new(alloc)
     }
 
-    fn answer(&mut self, other: &mut Self, _: Global, words: &[&str], _: &mut Line) -> Reply {
+    fn answer(&mut self, other: &mut Self, _: Global, words: &[&str], _: &mut AnswerLine) -> Reply {
         Ok(match *words {
             ["len"] => Answer::Number(self.len()),
             ["is_empty"] => Answer::Truth(self.is_empty()),

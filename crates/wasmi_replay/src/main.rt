@@ -16,14 +16,14 @@
 //! that is none, `no item` where an index would panic. To a line that is no call it is `bad line`.
 #![tactic(auto)]
 
+mod answer_line;
 mod answers;
 mod arena;
 mod component_vec;
 mod format;
 mod head_vec;
+mod input_lines;
 mod items;
-mod line;
-mod lines;
 mod map;
 mod named;
 mod pair_key;

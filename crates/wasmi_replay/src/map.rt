@@ -1,9 +1,9 @@
 //! Calls on a `Map` of either backing.
 
+use crate::answer_line::AnswerLine;
 use crate::answers::{Answer, Reply, done, found, item, keep, overwritten, shown, written};
 use crate::format::{Pair, Plain, Raised};
 use crate::items::Pairs;
-use crate::line::Line;
 use crate::replay::Container;
 use crate::table::answer_table;
 use crate::walk::{walk, walk_ends, write_all};
@@ -17,10 +17,16 @@ use wasmi_ordered::map as ordered;
 /// and the macro that is its body stands below. Each is asked where the one before knows no such call.
 trait AnyMap: Sized {
     /// Makes a call that sets or maps of the other backing don't have, or an iteration over the whole.
-    fn own(&mut self, other: &mut Self, alloc: Global, words: &[&str], out: &mut Line) -> Reply;
+    fn own(
+        &mut self,
+        other: &mut Self,
+        alloc: Global,
+        words: &[&str],
+        out: &mut AnswerLine,
+    ) -> Reply;
 
     /// Makes a call of which all words behind its name are numbers. They are read here, once for all such calls.
-    fn answer_numbers(&mut self, alloc: Global, words: &[&str], out: &mut Line) -> Reply {
+    fn answer_numbers(&mut self, alloc: Global, words: &[&str], out: &mut AnswerLine) -> Reply {
         match *words {
             [name, number] => {
                 let number = read(number)?;
@@ -39,16 +45,22 @@ trait AnyMap: Sized {
     }
 
     /// Makes a call on a key.
-    fn answer_key(&mut self, name: &str, key: i64, alloc: Global, out: &mut Line) -> Reply;
+    fn answer_key(&mut self, name: &str, key: i64, alloc: Global, out: &mut AnswerLine) -> Reply;
 
     /// Makes a call on the entry of a key.
-    fn answer_entry(&mut self, name: &str, key: i64, alloc: Global, out: &mut Line) -> Reply;
+    fn answer_entry(&mut self, name: &str, key: i64, alloc: Global, out: &mut AnswerLine) -> Reply;
 
     /// Makes an iteration of so many steps, or one that makes each item more by the number and shows it as it was.
-    fn answer_walk(&mut self, name: &str, number: i64, alloc: Global, out: &mut Line) -> Reply;
+    fn answer_walk(
+        &mut self,
+        name: &str,
+        number: i64,
+        alloc: Global,
+        out: &mut AnswerLine,
+    ) -> Reply;
 
     /// Makes a call on a key and an item, or an iteration of so many steps that makes each item more by a number.
-    fn answer_item(&mut self, name: &str, key: i64, item: i64, out: &mut Line) -> Reply;
+    fn answer_item(&mut self, name: &str, key: i64, item: i64, out: &mut AnswerLine) -> Reply;
 
     /// Makes a call on the entry of a key and an item, which is written where a reference comes back.
     fn answer_entry_item(&mut self, name: &str, key: i64, item: i64) -> Reply;
@@ -249,13 +261,25 @@ impl Container for ordered::Map<i64, i64> {
         ordered::Map::new(alloc)
     }
 
-    fn answer(&mut self, other: &mut Self, alloc: Global, words: &[&str], out: &mut Line) -> Reply {
+    fn answer(
+        &mut self,
+        other: &mut Self,
+        alloc: Global,
+        words: &[&str],
+        out: &mut AnswerLine,
+    ) -> Reply {
         answer_table!(self, other, alloc, words, out, pairs => pairs)
     }
 }
 
 impl AnyMap for ordered::Map<i64, i64> {
-    fn own(&mut self, other: &mut Self, alloc: Global, words: &[&str], out: &mut Line) -> Reply {
+    fn own(
+        &mut self,
+        other: &mut Self,
+        alloc: Global,
+        words: &[&str],
+        out: &mut AnswerLine,
+    ) -> Reply {
         Ok(match *words {
             ["first"] => pair(self.first_key_value()),
             ["last"] => pair(self.last_key_value()),
@@ -272,20 +296,26 @@ impl AnyMap for ordered::Map<i64, i64> {
         })
     }
 
-    fn answer_key(&mut self, name: &str, key: i64, alloc: Global, out: &mut Line) -> Reply {
+    fn answer_key(&mut self, name: &str, key: i64, alloc: Global, out: &mut AnswerLine) -> Reply {
         answer_key!(self, name, key, alloc, out)
     }
 
-    fn answer_entry(&mut self, name: &str, key: i64, alloc: Global, out: &mut Line) -> Reply {
+    fn answer_entry(&mut self, name: &str, key: i64, alloc: Global, out: &mut AnswerLine) -> Reply {
         answer_entry!(self, ordered, name, key, alloc, out)
     }
 
-    fn answer_walk(&mut self, name: &str, number: i64, alloc: Global, out: &mut Line) -> Reply {
+    fn answer_walk(
+        &mut self,
+        name: &str,
+        number: i64,
+        alloc: Global,
+        out: &mut AnswerLine,
+    ) -> Reply {
         answer_walk!(self, name, number, alloc, out);
         Ok(Answer::Written)
     }
 
-    fn answer_item(&mut self, name: &str, key: i64, item: i64, out: &mut Line) -> Reply {
+    fn answer_item(&mut self, name: &str, key: i64, item: i64, out: &mut AnswerLine) -> Reply {
         answer_item!(self, name, key, item, out)
     }
 
@@ -302,7 +332,11 @@ impl AnyMap for ordered::Map<i64, i64> {
     }
 }
 
-fn range(map: &ordered::Map<i64, i64>, [from, to, steps]: [&str; 3], out: &mut Line) -> Reply {
+fn range(
+    map: &ordered::Map<i64, i64>,
+    [from, to, steps]: [&str; 3],
+    out: &mut AnswerLine,
+) -> Reply {
     let (from, to, steps): (i64, i64, u16) = (read(from)?, read(to)?, read(steps)?);
     if from > to {
         return Ok(Answer::Word("no range"));
@@ -316,13 +350,19 @@ impl Container for hashed::Map<i64, i64> {
         hashed::Map::new(alloc)
     }
 
-    fn answer(&mut self, other: &mut Self, alloc: Global, words: &[&str], out: &mut Line) -> Reply {
+    fn answer(
+        &mut self,
+        other: &mut Self,
+        alloc: Global,
+        words: &[&str],
+        out: &mut AnswerLine,
+    ) -> Reply {
         answer_table!(self, other, alloc, words, out, pairs => pairs)
     }
 }
 
 impl AnyMap for hashed::Map<i64, i64> {
-    fn own(&mut self, _: &mut Self, alloc: Global, words: &[&str], out: &mut Line) -> Reply {
+    fn own(&mut self, _: &mut Self, alloc: Global, words: &[&str], out: &mut AnswerLine) -> Reply {
         Ok(match *words {
             ["capacity"] => Answer::Truth(self.capacity() >= self.len()),
             ["shrink_to_fit"] => {
@@ -337,20 +377,26 @@ impl AnyMap for hashed::Map<i64, i64> {
         })
     }
 
-    fn answer_key(&mut self, name: &str, key: i64, alloc: Global, out: &mut Line) -> Reply {
+    fn answer_key(&mut self, name: &str, key: i64, alloc: Global, out: &mut AnswerLine) -> Reply {
         answer_key!(self, name, key, alloc, out)
     }
 
-    fn answer_entry(&mut self, name: &str, key: i64, alloc: Global, out: &mut Line) -> Reply {
+    fn answer_entry(&mut self, name: &str, key: i64, alloc: Global, out: &mut AnswerLine) -> Reply {
         answer_entry!(self, hashed, name, key, alloc, out)
     }
 
-    fn answer_walk(&mut self, name: &str, number: i64, alloc: Global, out: &mut Line) -> Reply {
+    fn answer_walk(
+        &mut self,
+        name: &str,
+        number: i64,
+        alloc: Global,
+        out: &mut AnswerLine,
+    ) -> Reply {
         answer_walk!(self, name, number, alloc, out);
         Ok(Answer::Written)
     }
 
-    fn answer_item(&mut self, name: &str, key: i64, item: i64, out: &mut Line) -> Reply {
+    fn answer_item(&mut self, name: &str, key: i64, item: i64, out: &mut AnswerLine) -> Reply {
         answer_item!(self, name, key, item, out)
     }
 

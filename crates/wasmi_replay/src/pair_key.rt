@@ -53,7 +53,7 @@ impl PairKey for NonZero<usize> {
     }
 }
 
-impl PairKey for FewKeys {
+impl PairKey for FewKeys<100> {
     fn write_both(arena: &mut Items<Self>, first: Self, second: Self, new: i64) -> Answer {
         write_both!(arena, first, second, new)
     }

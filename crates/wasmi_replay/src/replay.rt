@@ -1,8 +1,8 @@
 //! The loop over the input.
 
+use crate::answer_line::AnswerLine;
 use crate::answers::{Answer, Reply, write};
-use crate::line::Line;
-use crate::lines::Lines;
+use crate::input_lines::InputLines;
 use crate::named::{Keyed, Keys, Named};
 use crate::pair_key::PairKey;
 use std::alloc::Global;
@@ -23,7 +23,13 @@ pub trait Container: Sized {
 
     /// Makes the call that the words of a line name: a method's name and its arguments. The other container lies beside
     /// this one. An iteration writes what it comes to.
-    fn answer(&mut self, other: &mut Self, alloc: Global, words: &[&str], out: &mut Line) -> Reply;
+    fn answer(
+        &mut self,
+        other: &mut Self,
+        alloc: Global,
+        words: &[&str],
+        out: &mut AnswerLine,
+    ) -> Reply;
 }
 
 /// Makes the calls of the input on the containers that it names, and writes one line for each of its
@@ -34,8 +40,8 @@ pub trait Container: Sized {
 pub fn run<R: Read + Drop, W: Write + Drop>(alloc: Global, reader: R, writer: W) -> io::Result<()> {
     let mut replay = Replay {
         alloc,
-        lines: Lines::new(alloc, reader)?,
-        answer: Line::new(alloc),
+        lines: InputLines::new(alloc, reader)?,
+        answer: AnswerLine::new(alloc),
         out: BufWriter::new(alloc, writer)?,
     };
     let mut more = replay.lines.advance()?;
@@ -52,8 +58,8 @@ pub fn run<R: Read + Drop, W: Write + Drop>(alloc: Global, reader: R, writer: W)
 #[derive(Drop)]
 struct Replay<R: Read + Drop, W: Write + Drop> {
     alloc: Global,
-    lines: Lines<R>,
-    answer: Line,
+    lines: InputLines<R>,
+    answer: AnswerLine,
     out: BufWriter<W>,
 }
 
@@ -81,7 +87,7 @@ impl<R: Read + Drop, W: Write + Drop> Replay<R, W> {
             Some(Named::Keyed(keyed, Keys::NonZeroUsize)) => {
                 self.serve_keyed::<NonZero<usize>>(keyed)
             }
-            Some(Named::Keyed(keyed, Keys::Few)) => self.serve_keyed::<FewKeys>(keyed),
+            Some(Named::Keyed(keyed, Keys::Few)) => self.serve_keyed::<FewKeys<100>>(keyed),
             None => {
                 writeln!(self.out, "bad line")?;
                 self.lines.advance()
@@ -132,7 +138,7 @@ fn answer<C: Container + PartialEq + Debug>(
     other: &mut C,
     alloc: Global,
     words: &[&str],
-    out: &mut Line,
+    out: &mut AnswerLine,
 ) {
     match *words {
         ["exchange"] => {

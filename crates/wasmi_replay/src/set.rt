@@ -1,9 +1,9 @@
 //! Calls on a `Set` of either backing.
 
+use crate::answer_line::AnswerLine;
 use crate::answers::{Answer, Reply, done, found, keep, shown};
 use crate::format::Plain;
 use crate::items::Pairs;
-use crate::line::Line;
 use crate::replay::Container;
 use crate::table::answer_table;
 use crate::walk::{walk, walk_all, walk_ends, write_all};
@@ -17,7 +17,13 @@ use wasmi_ordered::set as ordered;
 /// macro that is its body stands below. Each is asked where the one before knows no such call.
 trait AnySet: Sized {
     /// Makes a call that maps or sets of the other backing don't have, or an iteration over the whole.
-    fn own(&mut self, other: &mut Self, alloc: Global, words: &[&str], out: &mut Line) -> Reply;
+    fn own(
+        &mut self,
+        other: &mut Self,
+        alloc: Global,
+        words: &[&str],
+        out: &mut AnswerLine,
+    ) -> Reply;
 
     /// Makes a call of which all words behind its name are numbers. They are read here, once for all such calls.
     fn answer_numbers(
@@ -25,7 +31,7 @@ trait AnySet: Sized {
         other: &mut Self,
         alloc: Global,
         words: &[&str],
-        out: &mut Line,
+        out: &mut AnswerLine,
     ) -> Reply {
         match *words {
             [name] => self.answer_both(name, other),
@@ -52,7 +58,7 @@ trait AnySet: Sized {
         key: i64,
         other: &mut Self,
         alloc: Global,
-        out: &mut Line,
+        out: &mut AnswerLine,
     ) -> Reply;
 
     /// Makes an iteration of so many steps.
@@ -62,7 +68,7 @@ trait AnySet: Sized {
         steps: u16,
         other: &mut Self,
         alloc: Global,
-        out: &mut Line,
+        out: &mut AnswerLine,
     ) -> Reply;
 
     /// Keeps the elements that have a bit of the mask. Counts the calls.
@@ -137,13 +143,25 @@ impl Container for ordered::Set<i64> {
         ordered::Set::new(alloc)
     }
 
-    fn answer(&mut self, other: &mut Self, alloc: Global, words: &[&str], out: &mut Line) -> Reply {
+    fn answer(
+        &mut self,
+        other: &mut Self,
+        alloc: Global,
+        words: &[&str],
+        out: &mut AnswerLine,
+    ) -> Reply {
         answer_table!(self, other, alloc, words, out, pairs => pairs.keys())
     }
 }
 
 impl AnySet for ordered::Set<i64> {
-    fn own(&mut self, other: &mut Self, alloc: Global, words: &[&str], out: &mut Line) -> Reply {
+    fn own(
+        &mut self,
+        other: &mut Self,
+        alloc: Global,
+        words: &[&str],
+        out: &mut AnswerLine,
+    ) -> Reply {
         Ok(match *words {
             ["first"] => shown(self.first()),
             ["last"] => shown(self.last()),
@@ -170,7 +188,7 @@ impl AnySet for ordered::Set<i64> {
         key: i64,
         other: &mut Self,
         alloc: Global,
-        out: &mut Line,
+        out: &mut AnswerLine,
     ) -> Reply {
         answer_key!(self, name, key, other, alloc, out)
     }
@@ -181,7 +199,7 @@ impl AnySet for ordered::Set<i64> {
         steps: u16,
         other: &mut Self,
         alloc: Global,
-        out: &mut Line,
+        out: &mut AnswerLine,
     ) -> Reply {
         answer_walk!(self, name, steps, other, alloc, out);
         Ok(Answer::Written)
@@ -192,7 +210,7 @@ impl AnySet for ordered::Set<i64> {
     }
 }
 
-fn range(set: &ordered::Set<i64>, [from, to, steps]: [&str; 3], out: &mut Line) -> Reply {
+fn range(set: &ordered::Set<i64>, [from, to, steps]: [&str; 3], out: &mut AnswerLine) -> Reply {
     let (from, to, steps): (i64, i64, u16) = (read(from)?, read(to)?, read(steps)?);
     if from > to {
         return Ok(Answer::Word("no range"));
@@ -206,13 +224,25 @@ impl Container for hashed::Set<i64> {
         hashed::Set::new(alloc)
     }
 
-    fn answer(&mut self, other: &mut Self, alloc: Global, words: &[&str], out: &mut Line) -> Reply {
+    fn answer(
+        &mut self,
+        other: &mut Self,
+        alloc: Global,
+        words: &[&str],
+        out: &mut AnswerLine,
+    ) -> Reply {
         answer_table!(self, other, alloc, words, out, pairs => pairs.keys())
     }
 }
 
 impl AnySet for hashed::Set<i64> {
-    fn own(&mut self, other: &mut Self, alloc: Global, words: &[&str], out: &mut Line) -> Reply {
+    fn own(
+        &mut self,
+        other: &mut Self,
+        alloc: Global,
+        words: &[&str],
+        out: &mut AnswerLine,
+    ) -> Reply {
         Ok(match *words {
             ["capacity"] => Answer::Truth(self.capacity() >= self.len()),
             ["shrink_to_fit"] => {
@@ -237,7 +267,7 @@ impl AnySet for hashed::Set<i64> {
         key: i64,
         other: &mut Self,
         alloc: Global,
-        out: &mut Line,
+        out: &mut AnswerLine,
     ) -> Reply {
         answer_key!(self, name, key, other, alloc, out)
     }
@@ -248,7 +278,7 @@ impl AnySet for hashed::Set<i64> {
         steps: u16,
         other: &mut Self,
         alloc: Global,
-        out: &mut Line,
+        out: &mut AnswerLine,
     ) -> Reply {
         answer_walk!(self, name, steps, other, alloc, out);
         Ok(Answer::Written)

@@ -1,9 +1,9 @@
 //! Calls on a `StableVec`.
 
+use crate::answer_line::AnswerLine;
 use crate::answers::{Answer, Reply, done, item, keep, shown, written};
 use crate::format::{Bucket, Plain, Renewed};
 use crate::items::Consecutive;
-use crate::line::Line;
 use crate::replay::Container;
 use crate::walk::{Left, walk_steps, write_all};
 use crate::words::{read, steps_of};
@@ -43,7 +43,13 @@ impl Container for StableVec<i64> {
         StableVec::new(alloc)
     }
 
-    fn answer(&mut self, other: &mut Self, alloc: Global, words: &[&str], out: &mut Line) -> Reply {
+    fn answer(
+        &mut self,
+        other: &mut Self,
+        alloc: Global,
+        words: &[&str],
+        out: &mut AnswerLine,
+    ) -> Reply {
         Ok(match *words {
             ["len"] => Answer::Number(self.len()),
             ["is_empty"] => Answer::Truth(self.is_empty()),
@@ -72,7 +78,7 @@ impl Container for StableVec<i64> {
 }
 
 // Makes a call on items.
-fn answer_item(vec: &mut StableVec<i64>, words: &[&str], out: &mut Line) -> Reply {
+fn answer_item(vec: &mut StableVec<i64>, words: &[&str], out: &mut AnswerLine) -> Reply {
     Ok(match *words {
         ["first"] => shown(vec.first()),
         ["last"] => shown(vec.last()),
@@ -102,7 +108,7 @@ fn answer_item(vec: &mut StableVec<i64>, words: &[&str], out: &mut Line) -> Repl
 }
 
 // Goes over all items. Where it writes, each item is shown as it was, and they become the numbers from one on.
-fn answer_walk(vec: &mut StableVec<i64>, words: &[&str], out: &mut Line) -> Reply {
+fn answer_walk(vec: &mut StableVec<i64>, words: &[&str], out: &mut AnswerLine) -> Reply {
     match *words {
         ["iter", steps] => walk_steps(vec.iter(), steps_of(steps)?, Plain, out),
         ["for"] => write_all(vec.len(), &*vec, Plain, out),
@@ -125,7 +131,7 @@ fn answer_walk(vec: &mut StableVec<i64>, words: &[&str], out: &mut Line) -> Repl
 }
 
 /// Makes a call on where the items lie.
-pub fn answer_place(vec: &StableVec<i64>, words: &[&str], out: &mut Line) -> Reply {
+pub fn answer_place(vec: &StableVec<i64>, words: &[&str], out: &mut AnswerLine) -> Reply {
     Ok(match *words {
         ["room"] => Answer::Number(vec.room()),
         ["open_buckets"] => Answer::Number(vec.open_buckets()),
@@ -152,7 +158,7 @@ pub fn answer_place(vec: &StableVec<i64>, words: &[&str], out: &mut Line) -> Rep
 }
 
 // Goes over the buckets, or the items of one.
-fn walk_buckets(vec: &StableVec<i64>, words: &[&str], out: &mut Line) -> Reply {
+fn walk_buckets(vec: &StableVec<i64>, words: &[&str], out: &mut AnswerLine) -> Reply {
     match *words {
         ["slices", steps] => walk_steps(vec.slices(), steps_of(steps)?, Bucket, out),
         ["bucket", number] => bucket(vec, read(number)?, out),
@@ -169,7 +175,7 @@ fn hash_of(vec: &StableVec<i64>) -> u64 {
 }
 
 // Writes how many slots a bucket has, and its items; or `none` if it isn't open.
-fn bucket(vec: &StableVec<i64>, number: usize, out: &mut Line) {
+fn bucket(vec: &StableVec<i64>, number: usize, out: &mut AnswerLine) {
     let Some(bucket) = vec.bucket(number) else {
         return writeln!(out, "none");
     };

@@ -1,8 +1,8 @@
 //! Calls on a `StringInterner`. A line names a symbol by its number.
 
+use crate::answer_line::AnswerLine;
 use crate::answers::{Answer, Reply, done, keep};
 use crate::format::Text;
-use crate::line::Line;
 use crate::replay::Container;
 use crate::walk::{Left, walk_steps};
 use crate::words::{read, steps_of};
@@ -23,7 +23,13 @@ impl Container for StringInterner {
         StringInterner::new(alloc)
     }
 
-    fn answer(&mut self, other: &mut Self, _: Global, words: &[&str], out: &mut Line) -> Reply {
+    fn answer(
+        &mut self,
+        other: &mut Self,
+        _: Global,
+        words: &[&str],
+        out: &mut AnswerLine,
+    ) -> Reply {
         Ok(match *words {
             ["len"] => Answer::Number(self.len()),
             ["is_empty"] => Answer::Truth(self.is_empty()),
@@ -42,7 +48,7 @@ impl Container for StringInterner {
 }
 
 // Makes a call that writes what it comes to.
-fn answer_symbol(interner: &mut StringInterner, words: &[&str], out: &mut Line) -> Reply {
+fn answer_symbol(interner: &mut StringInterner, words: &[&str], out: &mut AnswerLine) -> Reply {
     match *words {
         ["get_counted", text] => counted(interner, text, out),
         ["get_or_intern_with_hint", hint, text] => {
@@ -81,7 +87,7 @@ fn number(symbol: Result<Sym, ArenaError>) -> Answer {
 
 // Writes the symbol of a text, and whether there were as few comparisons as a binary search makes: at
 // most one for each binary digit of the number of texts, and one where there is a text.
-fn counted(interner: &StringInterner, text: &str, out: &mut Line) {
+fn counted(interner: &StringInterner, text: &str, out: &mut AnswerLine) {
     let mut steps = Steps::new();
     let found = interner.get_counted(text, &mut steps);
     let is_few = match interner.len().checked_ilog2() {
@@ -95,7 +101,7 @@ fn counted(interner: &StringInterner, text: &str, out: &mut Line) {
 }
 
 // Writes two symbols, how they compare, and the hash of the first.
-fn symbols(first: u32, second: u32, out: &mut Line) {
+fn symbols(first: u32, second: u32, out: &mut AnswerLine) {
     let (first, second) = (Sym::from_u32(first), Sym::from_u32(second));
     let mut hasher = DefaultHasher::new();
     first.hash(&mut hasher);

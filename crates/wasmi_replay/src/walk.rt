@@ -1,8 +1,8 @@
 //! Iterations that write what they come to. Each of their functions is proved once, for all iterators.
 ghost use Rattle.std.specs.Iterator.{IsFinite, IsFiniteIterable};
 
+use crate::answer_line::AnswerLine;
 use crate::format::Format;
-use crate::line::Line;
 
 /// An iterator that is asked how many items are left.
 pub trait Left {
@@ -15,7 +15,7 @@ pub fn walk<I: ExactSizeIterator, F: Format<I::Item>>(
     mut items: I,
     count: u16,
     mut format: F,
-    out: &mut Line,
+    out: &mut AnswerLine,
 )
     requires again { (it : I) → I.can_next it × IsFinite (I.remaining it) }
 {
@@ -29,7 +29,7 @@ pub fn walk_all<I: Iterator, F: Format<I::Item>>(
     mut items: I,
     count: u16,
     mut format: F,
-    out: &mut Line,
+    out: &mut AnswerLine,
 )
     requires again { (it : I) → I.can_next it × IsFinite (I.remaining it) }
 {
@@ -43,7 +43,7 @@ pub fn walk_ends<I: DoubleEndedIterator, F: Format<I::Item>>(
     mut items: I,
     count: u16,
     mut format: F,
-    out: &mut Line,
+    out: &mut AnswerLine,
 )
     requires again { (it : I) → I.can_next it × I.can_next_back it × IsFinite (I.remaining it) }
 {
@@ -64,7 +64,7 @@ pub fn walk_steps<I: DoubleEndedIterator + Left, F: Format<I::Item>>(
     mut items: I,
     steps: &str,
     mut format: F,
-    out: &mut Line,
+    out: &mut AnswerLine,
 )
     requires again { (it : I) → I.can_next it × I.can_next_back it }
 {
@@ -84,7 +84,7 @@ pub fn write_all<U: IntoIterator + Drop, F: Format<U::Item>>(
     len: usize,
     items: U,
     mut format: F,
-    out: &mut Line,
+    out: &mut AnswerLine,
 )
 where
     U::Item: Drop,
@@ -99,7 +99,12 @@ where
 }
 
 // Takes so many items.
-fn take<I: Iterator, F: Format<I::Item>>(items: &mut I, count: u16, format: &mut F, out: &mut Line)
+fn take<I: Iterator, F: Format<I::Item>>(
+    items: &mut I,
+    count: u16,
+    format: &mut F,
+    out: &mut AnswerLine,
+)
     requires again { (it : I) → I.can_next it × IsFinite (I.remaining it) }
 {
     for _ in 0..count {
@@ -108,7 +113,7 @@ fn take<I: Iterator, F: Format<I::Item>>(items: &mut I, count: u16, format: &mut
 }
 
 // Writes what a step gave, or `none`.
-fn step_given<T, F: Format<T>>(given: Option<T>, format: &mut F, out: &mut Line) {
+fn step_given<T, F: Format<T>>(given: Option<T>, format: &mut F, out: &mut AnswerLine) {
     match given {
         Some(item) => format.write(item, out),
         None => write!(out, "none"),
@@ -117,7 +122,7 @@ fn step_given<T, F: Format<T>>(given: Option<T>, format: &mut F, out: &mut Line)
 }
 
 // Ends the line with how many items are left, if the iterator knew.
-fn end(left: Option<usize>, out: &mut Line) {
+fn end(left: Option<usize>, out: &mut AnswerLine) {
     match left {
         Some(left) => writeln!(out, "left {left}"),
         None => writeln!(out),
@@ -125,7 +130,7 @@ fn end(left: Option<usize>, out: &mut Line) {
 }
 
 // Writes the items that are left, by a `for`, and ends the line.
-fn rest<I: Iterator, F: Format<I::Item>>(items: I, mut format: F, out: &mut Line)
+fn rest<I: Iterator, F: Format<I::Item>>(items: I, mut format: F, out: &mut AnswerLine)
     requires can { I.can_next items }
     requires ends { IsFinite (I.remaining items) }
 {

@@ -12,7 +12,7 @@ use std::alloc::Allocator;
 use wasmi_arena::{ArenaError, ArenaKey};
 
 impl<A: Allocator> EntityStore<A> {
-    /// `e NAME KIND`: adds an entity, and replies its key. Without a key it isn't added.
+    // `e NAME KIND`: adds an entity, and replies its key. Without a key it isn't added.
     pub(crate) fn serve_add<B: Allocator>(
         &mut self,
         name: &str,
@@ -33,7 +33,7 @@ impl<A: Allocator> EntityStore<A> {
         }
     }
 
-    /// `v N M`: gives an entity a property, and replies the one that it had.
+    // `v N M`: gives an entity a property, and replies the one that it had.
     pub(crate) fn serve_set<B: Allocator>(
         &mut self,
         number: usize,
@@ -56,7 +56,7 @@ impl<A: Allocator> EntityStore<A> {
         }
     }
 
-    /// `k N KIND`: renames the kind of an entity.
+    // `k N KIND`: renames the kind of an entity.
     pub(crate) fn serve_rename_kind<B: Allocator>(
         &mut self,
         number: usize,
@@ -80,7 +80,7 @@ impl<A: Allocator> EntityStore<A> {
         }
     }
 
-    /// `q N`: replies the property, the name and the kind of an entity.
+    // `q N`: replies the property, the name and the kind of an entity.
     pub(crate) fn serve_get<B: Allocator>(
         &self,
         number: usize,

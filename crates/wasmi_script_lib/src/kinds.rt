@@ -9,7 +9,7 @@ use wasmi_arena::ArenaError;
 use wasmi_collections::arena::DedupArena;
 use wasmi_collections::laws::{strings_by_bytes, symbols_of_distinct_texts, texts_handed_in};
 
-/// Distinct texts, each under its position. A contract sees their list.
+// Distinct texts, each under its position. A contract sees their list.
 #[derive(Drop)]
 pub(crate) struct Kinds<A: Allocator> {
     texts: DedupArena<usize, String<A>, A>,
@@ -28,7 +28,7 @@ impl<A: Allocator> Model for Kinds<A> {
 }
 
 impl<A: Allocator> Kinds<A> {
-    /// No kinds, which ask `alloc` for memory when one comes. Constant time, no allocation.
+    // No kinds, which ask `alloc` for memory when one comes. Constant time, no allocation.
     pub(crate) fn new(alloc: A) -> Self
     where
         A: Copy,
@@ -40,7 +40,7 @@ impl<A: Allocator> Kinds<A> {
         }
     }
 
-    /// The number of kinds. Constant time.
+    // The number of kinds. Constant time.
     pub(crate) fn len(&self) -> usize
         ensures value { result ≡ length self.now }
         ensures distinct { AreDistinctTexts self.now }
@@ -50,7 +50,7 @@ impl<A: Allocator> Kinds<A> {
         self.texts.len()
     }
 
-    /// The name of a kind, whose number is below that of the kinds. Constant time.
+    // The name of a kind, whose number is below that of the kinds. Constant time.
     pub(crate) fn text(&self, number: usize) -> &str
         requires { number < length self.now }
         ensures { slice_get self.now number ≡ Some result.now }
@@ -58,8 +58,8 @@ impl<A: Allocator> Kinds<A> {
         self.texts[number].as_str()
     }
 
-    /// The number of a kind, which goes to the end of the kinds if it is new, and then is copied.
-    pub(crate) fn hand_in(&mut self, kind: &str) -> Result<usize, ArenaError>
+    // The number of a kind, which goes to the end of the kinds if it is new, and then is copied.
+    pub(crate) fn number_for(&mut self, kind: &str) -> Result<usize, ArenaError>
     where
         A: Copy,
         ensures ok { OnOk result (self.new ≡ with_new self.old kind.now) }
@@ -74,7 +74,7 @@ impl<A: Allocator> Kinds<A> {
         self.texts.alloc_str(self.alloc, kind)
     }
 
-    /// Gives a kind another name, unless another kind has it.
+    // Gives a kind another name, unless another kind has it.
     pub(crate) fn rename(&mut self, number: usize, kind: &str) -> Result<(), ArenaError>
     where
         A: Copy,

@@ -6,7 +6,7 @@ ghost use Rattle.wasmi_script_lib.specs.inner.Sessions.{AddsReply};
 use std::alloc::Allocator;
 use wasmi_arena::ArenaError;
 
-/// Replies why a call was refused. Running out of memory ends the script.
+// Replies why a call was refused. Running out of memory ends the script.
 pub(crate) fn reply_error<A: Allocator>(
     replies: &mut String<A>,
     error: ArenaError,

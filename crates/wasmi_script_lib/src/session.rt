@@ -25,6 +25,7 @@ pub fn answer<A: Allocator + Copy>(alloc: A, text: &str) -> Result<String<A>, Ar
     let mut store = EntityStore::new(heap);
     let mut replies = String::new(alloc);
     let answered = reply_all(&mut texts, &mut store, &mut replies, text);
+    // proof: dropped before a branch.
     drop(texts);
     answered?;
     Ok(replies)

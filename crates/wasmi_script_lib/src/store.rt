@@ -70,7 +70,7 @@ impl<A: Allocator> EntityStore<A> {
         self.entities.len()
     }
 
-    /// The key of this number, if an entity has it. Constant time.
+    // The key of this number, if an entity has it. Constant time.
     pub(crate) fn key(&self, number: usize) -> Option<EntityKey>
         ensures there { IfSome result (λ key. (key ≡ number) × (number < length self.now.entities)) }
         ensures absent { IfNone result (length self.now.entities ≤ number) }
@@ -128,7 +128,7 @@ impl<A: Allocator> EntityStore<A> {
     {
         self.entities.next_key()?;
         let name = intern(&mut self.names, name)?;
-        let kind = self.kinds.hand_in(kind)?;
+        let kind = self.kinds.number_for(kind)?;
         self.entities.alloc(Named { name, kind })
     }
 

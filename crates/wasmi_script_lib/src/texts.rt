@@ -11,9 +11,9 @@ use wasmi_collections::arena::DedupArena;
 use wasmi_collections::laws::texts_handed_in;
 use wasmi_collections::string_interner::{StringInterner, Sym};
 
-/// The texts that a script keeps.
-///
-/// Each command adds its reply to `replies`, and ends the script if there is no memory.
+// The texts that a script keeps.
+//
+// Each command adds its reply to `replies`, and ends the script if there is no memory.
 #[derive(Drop)]
 pub(crate) struct ScriptTexts<A: Allocator> {
     // proof: first, since behind the arena it makes a goal on sizes too long to search.
@@ -39,7 +39,7 @@ impl<A: Allocator> ScriptTexts<A> {
         }
     }
 
-    /// `a TEXT`: keeps a text, and replies its key. Without a key the text isn't kept.
+    // `a TEXT`: keeps a text, and replies its key. Without a key the text isn't kept.
     pub(crate) fn alloc<B: Allocator>(
         &mut self,
         text: &str,
@@ -58,7 +58,7 @@ impl<A: Allocator> ScriptTexts<A> {
         }
     }
 
-    /// `g N`: replies the text of a key.
+    // `g N`: replies the text of a key.
     pub(crate) fn get<B: Allocator>(
         &self,
         number: usize,
@@ -73,7 +73,7 @@ impl<A: Allocator> ScriptTexts<A> {
         }
     }
 
-    /// `p N`: replies the bucket and the slot of an index.
+    // `p N`: replies the bucket and the slot of an index.
     pub(crate) fn place<B: Allocator>(
         &self,
         index: usize,
@@ -90,7 +90,7 @@ impl<A: Allocator> ScriptTexts<A> {
         }
     }
 
-    /// `n`: replies how much is kept.
+    // `n`: replies how much is kept.
     pub(crate) fn count<B: Allocator>(&self, replies: &mut String<B>) -> Result<(), AllocError>
         ensures { OnOk result (AddsReply replies.old replies.new
             (reply_to (with_texts self.now) request.Count)) }
@@ -102,7 +102,7 @@ impl<A: Allocator> ScriptTexts<A> {
         writeln!(replies, "counts {kept} {deduped} {interned} {slots}")
     }
 
-    /// `d TEXT`: keeps a text unless an equal one is kept, and replies the key of the one that is.
+    // `d TEXT`: keeps a text unless an equal one is kept, and replies the key of the one that is.
     pub(crate) fn dedup<B: Allocator>(
         &mut self,
         text: &str,
@@ -123,7 +123,7 @@ impl<A: Allocator> ScriptTexts<A> {
         }
     }
 
-    /// `i TEXT`: interns a text, and replies its symbol.
+    // `i TEXT`: interns a text, and replies its symbol.
     pub(crate) fn intern<B: Allocator>(
         &mut self,
         text: &str,
@@ -142,7 +142,7 @@ impl<A: Allocator> ScriptTexts<A> {
         }
     }
 
-    /// `r N`: replies the text of a symbol.
+    // `r N`: replies the text of a symbol.
     pub(crate) fn resolve<B: Allocator>(
         &self,
         symbol: usize,

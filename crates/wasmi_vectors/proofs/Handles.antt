@@ -1,4 +1,5 @@
 -- What the proofs of the handle's `Allocator` share. Assumes `Logic`.
+-- for src/observed.rt
 --     handle          the parameter `&self`
 --     HandleRef, HeapRef     what a `&` to a handle owns, and a `&` to a heap
 --     again           a `&` to a handle can be had twice

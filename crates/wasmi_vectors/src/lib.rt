@@ -9,7 +9,5 @@ pub mod few_keys;
 pub mod logged;
 pub mod noted;
 pub mod observed;
-pub mod one;
 pub mod streams;
 pub mod tally;
-pub mod tiny;

@@ -3,6 +3,8 @@
 use Rattle.std.specs.Prelude.{◌≡◌, ℕ, ◌+◌, ◌<◌, ◌≤◌, List, [], ◌∷◌, length, Option, Some, None}
 use Rattle.std.specs.List.{flat_map}
 use Rattle.wasmi_arena.specs.Geometry.{max_len}
+use Rattle.wasmi_arena.specs.Bucket.{Bucket}
+use Rattle.wasmi_arena.specs.Table.{items_of, AreFilled}
 
 module _ {T : Type 0} where
   -- the items of the parts, one part after another
@@ -24,4 +26,11 @@ module _ {T : Type 0} where
   pub record HasAhead (front : List T) (parts : List (List T)) (back : List T) (between : ℕ) : Type 0 where
     pub filled : AreSome parts
     pub counted : between ≡ length (joined parts)
+    pub few : length front + between + length back ≤ max_len
+
+  -- the same of buckets, each of them open: where the iterator reads or takes items, and lends none
+  pub record IsAhead (front : List T) (buckets : List (Option (Bucket T))) (back : List T)
+      (between : ℕ) : Type 0 where
+    pub filled : AreFilled buckets
+    pub counted : between ≡ length (items_of buckets)
     pub few : length front + between + length back ≤ max_len

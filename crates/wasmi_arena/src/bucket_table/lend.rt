@@ -9,6 +9,7 @@ use crate::raw::option::unwrap_mut;
 use std::alloc::Allocator;
 
 // The item in a filled slot of an open bucket, to write to.
+// proof: a call of its own, so that what it lends is said once.
 pub(crate) fn slot_mut<T, A: Allocator>(bucket: &mut Option<Bucket<T, A>>, slot: usize) -> &mut T
     requires { slot < length (items_in bucket.old) }
     ensures* writes_back { sem 𝓛 (lends_slot T.row A.row A.Allocator bucket.entry slot result) }
@@ -18,6 +19,7 @@ pub(crate) fn slot_mut<T, A: Allocator>(bucket: &mut Option<Bucket<T, A>>, slot:
 }
 
 // The items of an open bucket, to write to.
+// proof: as above.
 pub(crate) fn items_mut<T, A: Allocator>(bucket: &mut Option<Bucket<T, A>>) -> &mut [T]
     requires { IsSome bucket.old }
     ensures* writes_back { sem 𝓛 (lends_filled T.row A.row A.Allocator bucket.entry result) }

@@ -5,7 +5,7 @@ ghost use Rattle.wasmi_arena.specs.inner.OptionLend.{lends_value};
 
 use std::mem::align_of;
 
-/// The value. Constant time.
+// The value. Constant time.
 #[inline]
 pub(crate) fn unwrap_ref<T>(option: &Option<T>) -> &T
     requires { IsSome option.now }
@@ -14,7 +14,7 @@ pub(crate) fn unwrap_ref<T>(option: &Option<T>) -> &T
     unsafe { &*behind_tag!(option as *const Option<T>, const, T) }
 }
 
-/// The value, to write to. Constant time.
+// The value, to write to. Constant time.
 #[inline]
 pub(crate) fn unwrap_mut<T>(option: &mut Option<T>) -> &mut T
     requires { IsSome option.old }

@@ -7,8 +7,8 @@ use std::alloc::Allocator;
 use std::mem::align_of;
 
 impl<T, A: Allocator, const N: usize> BucketTable<T, A, N> {
-    /// Exchanges the items in two filled slots, of one bucket or of two. Each is found by its own bucket's
-    /// pointer, so nothing is tested.
+    // Exchanges the items in two filled slots, of one bucket or of two. Each is found by its own bucket's
+    // pointer, so nothing is tested.
     pub(crate) fn swap(
         &mut self,
         bucket: usize,

@@ -20,7 +20,7 @@ impl<Key: ArenaKey, T: Drop, A: Allocator + Clone> AnyArena<Key, T> for StableAr
         self.room()
     }
 
-    #[tactic(auto, using(crate::proofs::Arena::room_of_append))]
+    #[tactic(auto, using(crate::proofs::ArenaSteps::room_of_append))]
     fn alloc(&mut self, item: T) -> Result<Key, ArenaError> {
         self.alloc(item)
     }

@@ -10,6 +10,8 @@ use std::alloc::Allocator;
 
 impl<Key: ArenaKey, T, A: Allocator> StableArena<Key, T, A> {
     // The items at two positions that have one each.
+    // proof: this, `checked_pair` and `get_disjoint_mut` stand as in the vector's file, since what is lent there
+    // can't be handed on (`docs/LIMITS.md`).
     fn pair(&mut self, first: usize, second: usize) -> (&mut T, &mut T)
         requires disjoint { first ≢ second }
         requires first { first < length self.old }

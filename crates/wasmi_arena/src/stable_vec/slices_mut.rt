@@ -28,7 +28,7 @@ impl<'a, T, A: Allocator> Model for StableVecSlicesMut<'a, T, A> {
 
     ghost Value = { List (List T) × GName };
 
-    ghost use Rattle.wasmi_arena.specs.IterMut.{parts_of, IsLent};
+    ghost use Rattle.wasmi_arena.specs.inner.LoanParts.{parts_of, IsLent};
 
     ghost view = { λ it. parts_of it.loan };
 

@@ -1,13 +1,5 @@
-//! Laws of values that go to the end of a list, and of those that are strings.
-ghost use Rattle.std.specs.Prelude.{◌≡◌, ◌∷◌, ◌++◌, [], ℕ, List, length, map, position, None, Some, String, slice_set};
-ghost use Rattle.std.specs.List.{IsDistinct};
-ghost use Rattle.std.specs.Str.{bytes_eq};
-ghost use Rattle.std.specs.String.{string_bytes, string_eq};
-ghost use Rattle.wasmi_collections.specs.Dedup.{DedupState, AllocatesValue, ReplacesValue};
-ghost use Rattle.wasmi_interner.specs.Interner.{symbol_of, AreDistinctTexts};
-
-use std::alloc::Allocator;
-use wasmi_arena::ArenaKey;
+//! Laws of values that go to the end of a list.
+ghost use Rattle.std.specs.Prelude.{◌≡◌, ◌∷◌, ◌++◌, [], ℕ, List, length, position, None, Some};
 
 /// A value that wasn't there is found at the end once it was put there, and others are found where they were.
 pub fn appended_values<T: Eq>()
@@ -16,33 +8,4 @@ pub fn appended_values<T: Eq>()
     ensures kept { (values more : List T) (value : T) (place : ℕ)
         → position (T.eq value) values ≡ Some place
         → position (T.eq value) (values ++ more) ≡ Some place }
-{}
-
-/// A `String` is found among others where its bytes are found among theirs: so the key that a
-/// `DedupArena<_, String>` has for it is that of the text.
-pub fn strings_by_bytes<B: Allocator>()
-    ensures { (texts : List (String B)) (text : String B) → position (string_eq text) texts
-        ≡ symbol_of (map string_bytes texts) (string_bytes text) }
-{}
-
-/// What becomes of the texts of a `DedupArena<_, String>`, if a new one is handed in, or takes the place of
-/// another: they change in both lists as the values do. Distinct values have distinct texts.
-pub fn texts_handed_in<Key: ArenaKey, B: Allocator>()
-    ensures allocated { (old new : DedupState (String B)) (value : String B) (key : Key)
-        → symbol_of (map string_bytes old.handed) (string_bytes value) ≡ None
-        → AllocatesValue Key.keys string_eq (λ one clone. string_bytes clone ≡ string_bytes one)
-        old value key new
-        → (key ≡ Key.keys.key (length old.handed))
-        × (map string_bytes new.handed ≡ map string_bytes old.handed ++ string_bytes value ∷ [])
-        × (map string_bytes new.items ≡ map string_bytes old.items ++ string_bytes value ∷ []) }
-    ensures replaced { (old new : DedupState (String B)) (key : Key) (value there : String B)
-        → symbol_of (map string_bytes old.handed) (string_bytes value) ≡ None
-        → ReplacesValue Key.keys string_eq (λ one clone. string_bytes clone ≡ string_bytes one)
-        old key value there new
-        → (map string_bytes new.handed
-        ≡ slice_set (map string_bytes old.handed) (Key.keys.number key) (string_bytes value))
-        × (map string_bytes new.items
-        ≡ slice_set (map string_bytes old.items) (Key.keys.number key) (string_bytes value)) }
-    ensures distinct { (texts : List (String B)) → IsDistinct string_eq texts
-        → AreDistinctTexts (map string_bytes texts) }
 {}

@@ -5,7 +5,7 @@ ghost use Rattle.wasmi_arena.specs.Entries.{entries};
 
 use std::marker::PhantomData;
 use std::slice;
-use wasmi_arena::ArenaKey;
+use wasmi_arena::{ArenaKey, key_at};
 
 /// The keys and items of an [`Arena`](crate::Arena) that are left to visit, in order, from both ends,
 /// each item to write to.
@@ -58,13 +58,9 @@ impl<'a, Key: ArenaKey, T> Iterator for IterMut<'a, Key, T> {
 
     fn next(&mut self) -> Option<(Key, &'a mut T)> {
         let item = self.items.next()?;
-        match Key::from_usize(self.next) {
-            Some(key) => {
-                self.next += 1;
-                Some((key, item))
-            }
-            None => unreachable!(),
-        }
+        let key = key_at(self.next);
+        self.next += 1;
+        Some((key, item))
     }
 }
 
@@ -77,9 +73,7 @@ impl<'a, Key: ArenaKey, T> DoubleEndedIterator for IterMut<'a, Key, T> {
     #[tactic(auto, using(wasmi_arena::proofs::Entries::entries_from_last))]
     fn next_back(&mut self) -> Option<(Key, &'a mut T)> {
         let item = self.items.next_back()?;
-        match Key::from_usize(self.next + self.items.len()) {
-            Some(key) => Some((key, item)),
-            None => unreachable!(),
-        }
+        let key = key_at(self.next + self.items.len());
+        Some((key, item))
     }
 }

@@ -4,7 +4,7 @@ ghost use Rattle.wasmi_link_lib.specs.Report.{char_text, name_text};
 
 use std::alloc::{AllocError, Allocator};
 
-/// A name, whose control characters are written as their numbers.
+// A name, whose control characters are written as their numbers.
 pub(crate) fn write_name<B: Allocator>(text: &mut String<B>, name: &str) -> Result<(), AllocError>
     ensures { OnOk result (string_bytes text.new ≡ string_bytes text.old ++ name_text name.now) }
 {

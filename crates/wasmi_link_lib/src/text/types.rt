@@ -7,7 +7,7 @@ use crate::line::ItemType;
 use std::alloc::{AllocError, Allocator};
 use wasmi_module::{Limits, RefType, ValType};
 
-/// The kind of an item.
+// The kind of an item.
 pub(crate) fn kind_text<A: Allocator>(item: &ItemType<'_, A>) -> &'static str
     ensures { result.now ≡ kind_text (item_of item.now) }
 {
@@ -19,7 +19,7 @@ pub(crate) fn kind_text<A: Allocator>(item: &ItemType<'_, A>) -> &'static str
     }
 }
 
-/// The type of an item that is given in place of the one asked for, behind its kind where that is another.
+// The type of an item that is given in place of the one asked for, behind its kind where that is another.
 pub(crate) fn write_given<A: Allocator, B: Allocator>(
     text: &mut String<B>,
     asked: &ItemType<'_, A>,
@@ -45,7 +45,7 @@ fn is_same_kind<A: Allocator>(asked: &ItemType<'_, A>, given: &ItemType<'_, A>) 
     }
 }
 
-/// The type of an item.
+// The type of an item.
 pub(crate) fn write_type<A: Allocator, B: Allocator>(
     text: &mut String<B>,
     item: &ItemType<'_, A>,

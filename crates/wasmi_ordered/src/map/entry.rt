@@ -44,6 +44,7 @@ pub struct OccupiedEntry<'a, K: Hash + Ord, V, A: Allocator = Global> {
 /// The entry of a key that isn't there, with room for it.
 #[derive(Drop)]
 pub struct VacantEntry<'a, K: Hash + Ord, V, A: Allocator = Global> {
+    // proof: of this one callers can let go without a field `lent`.
     entry: btree_map::VacantEntry<'a, K, V, A>,
 }
 

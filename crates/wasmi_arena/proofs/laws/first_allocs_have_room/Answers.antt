@@ -1,5 +1,5 @@
 use Rattle.wasmi_arena.specs.Arena.{arena_limit}
-use Rattle.wasmi_arena.proofs.Arena.{room_of_run}
+use Rattle.wasmi_arena.proofs.ArenaSteps.{room_of_run}
 use Rattle.wasmi_arena.proofs.laws.first_allocs_have_room.Goals as goal
 
 pub returns : goal.returns

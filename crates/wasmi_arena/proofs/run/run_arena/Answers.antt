@@ -1,6 +1,6 @@
 use Rattle.std.proofs.Common.{◌∙◌, length-append, arith, [], ◌∷◌}
 use Rattle.wasmi_arena.specs.Arena.{arena_limit}
-use Rattle.wasmi_arena.proofs.Arena.{ArenaRun-append}
+use Rattle.wasmi_arena.proofs.ArenaSteps.{ArenaRun-append}
 use Rattle.wasmi_arena.proofs.run.run_arena.Goals as goal
 
 pub loop-command-preserved : goal.loop-command-preserved

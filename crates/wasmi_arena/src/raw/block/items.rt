@@ -8,7 +8,7 @@ use super::{BlockPtr, Slots};
 use std::slice;
 
 impl<T> Slots<T> {
-    /// Fills the slot behind the items, which is `slot`.
+    // Fills the slot behind the items, which is `slot`.
     pub(crate) fn write(&mut self, ptr: BlockPtr<T>, slot: usize, item: T)
         requires block { ptr.start ≡ self.old.block }
         requires next { slot ≡ self.old.taken + length self.old.items }
@@ -18,7 +18,7 @@ impl<T> Slots<T> {
         unsafe { ptr.start.add(slot).write(item) }
     }
 
-    /// Takes the first item out of its slot, which is `slot`.
+    // Takes the first item out of its slot, which is `slot`.
     pub(crate) fn take(&mut self, ptr: BlockPtr<T>, slot: usize) -> T
         requires block { ptr.start ≡ self.old.block }
         requires first { slot ≡ self.old.taken }
@@ -29,7 +29,7 @@ impl<T> Slots<T> {
         unsafe { ptr.start.add(slot).read() }
     }
 
-    /// Takes the last item out of its slot, which is `slot`, and is free then.
+    // Takes the last item out of its slot, which is `slot`, and is free then.
     pub(crate) fn take_last(&mut self, ptr: BlockPtr<T>, slot: usize) -> T
         requires block { ptr.start ≡ self.old.block }
         requires last { slot + 1 ≡ self.old.taken + length self.old.items }
@@ -40,7 +40,7 @@ impl<T> Slots<T> {
         unsafe { ptr.start.add(slot).read() }
     }
 
-    /// The items, of which there are `len`.
+    // The items, of which there are `len`.
     pub(crate) fn slice(&self, ptr: BlockPtr<T>, len: usize) -> &[T]
         requires block { ptr.start ≡ self.now.block }
         requires whole { self.now.taken ≡ 0 }
@@ -50,7 +50,7 @@ impl<T> Slots<T> {
         unsafe { slice::from_raw_parts(ptr.start, len) }
     }
 
-    /// The items, of which there are `len`, to write to.
+    // The items, of which there are `len`, to write to.
     pub(crate) fn slice_mut(&mut self, ptr: BlockPtr<T>, len: usize) -> &mut [T]
         requires block { ptr.start ≡ self.old.block }
         requires whole { self.old.taken ≡ 0 }
@@ -61,7 +61,7 @@ impl<T> Slots<T> {
         unsafe { slice::from_raw_parts_mut(ptr.start, len) }
     }
 
-    /// The item in a slot, to write to.
+    // The item in a slot, to write to.
     pub(crate) fn item_mut(&mut self, ptr: BlockPtr<T>, slot: usize) -> &mut T
         requires block { ptr.start ≡ self.old.block }
         requires whole { self.old.taken ≡ 0 }

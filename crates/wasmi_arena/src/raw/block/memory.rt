@@ -10,7 +10,7 @@ use std::alloc::{AllocError, Allocator};
 use std::marker::PhantomData;
 use std::mem::{align_of, size_of};
 
-/// The parts of a block that isn't there, for items without a size. `None` where items have one.
+// The parts of a block that isn't there, for items without a size. `None` where items have one.
 // proof: the contract alone reads the allocator.
 pub(crate) fn without_block<T, A: Allocator>(
     _alloc: &A,
@@ -37,7 +37,7 @@ pub(crate) fn without_block<T, A: Allocator>(
     ))
 }
 
-/// A block of that many free slots.
+// A block of that many free slots.
 pub(crate) fn allocate<T, A: Allocator>(
     alloc: &A,
     slots: usize,
@@ -65,7 +65,7 @@ pub(crate) fn allocate<T, A: Allocator>(
     }
 }
 
-/// Gives a block back, whose slots are all empty.
+// Gives a block back, whose slots are all empty.
 pub(crate) fn deallocate<T, A: Allocator>(
     alloc: &A,
     ptr: BlockPtr<T>,

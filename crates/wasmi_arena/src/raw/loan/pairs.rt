@@ -7,7 +7,7 @@ ghost use Rattle.wasmi_arena.specs.Table.{items_in, items_of, HasBuckets};
 
 use super::ItemsLoan;
 use crate::Bucket;
-use crate::geometry::places;
+use crate::geometry::two_places;
 use std::alloc::Allocator;
 use std::mem::align_of;
 
@@ -38,7 +38,7 @@ impl<'a, T, A: Allocator> ItemsLoan<'a, T, A> {
         }
     }
 
-    /// The items at two indices.
+    // The items at two indices.
     pub(crate) fn pair(self, first: usize, second: usize) -> (&'a mut T, &'a mut T)
         requires buckets { HasBuckets (items_of self.buckets) self.buckets }
         requires disjoint { first ≢ second }
@@ -48,7 +48,7 @@ impl<'a, T, A: Allocator> ItemsLoan<'a, T, A> {
         ensures first { slice_get (items_of self.entry.buckets) first ≡ Some result.0.now }
         ensures second { slice_get (items_of self.entry.buckets) second ≡ Some result.1.now }
     {
-        let (bucket, slot, other_bucket, other_slot) = places(first, second);
+        let (bucket, slot, other_bucket, other_slot) = two_places(first, second);
         self.pair_slots(bucket, slot, other_bucket, other_slot)
     }
 }

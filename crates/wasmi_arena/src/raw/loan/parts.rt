@@ -1,8 +1,8 @@
 //! A loan of items is cut in two, and one bucket of it is lent on as a slice.
 ghost use Rattle.std.specs.Prelude.{◌≡◌, ◌≤◌, length, slice_index_or, IsSome, None};
 ghost use Rattle.std.specs.Borrow.{sem};
-ghost use Rattle.wasmi_arena.specs.IterMut.{IsCut};
 ghost use Rattle.wasmi_arena.specs.inner.LoanLend.{lends_bucket};
+ghost use Rattle.wasmi_arena.specs.inner.LoanParts.{IsCut};
 ghost use Rattle.wasmi_arena.specs.Table.{items_in, items_of, AreFilled};
 ghost use Rattle.wasmi_arena.specs.inner.TableLend.{lends_filled};
 
@@ -13,7 +13,7 @@ use std::alloc::Allocator;
 use std::marker::PhantomData;
 
 impl<'a, T, A: Allocator> ItemsLoan<'a, T, A> {
-    /// Two loans: of the first buckets, of which there are `count`, and of those behind them.
+    // Two loans: of the first buckets, of which there are `count`, and of those behind them.
     pub(crate) fn cut(self, count: usize) -> (ItemsLoan<'a, T, A>, ItemsLoan<'a, T, A>)
         requires { count ≤ length self.buckets }
         ensures { IsCut self.entry result.0 result.1 count }
@@ -32,7 +32,7 @@ impl<'a, T, A: Allocator> ItemsLoan<'a, T, A> {
         )
     }
 
-    /// The items of one of the buckets, which is open.
+    // The items of one of the buckets, which is open.
     pub(crate) fn bucket(self, bucket: usize) -> &'a mut [T]
         requires { IsSome (slice_index_or self.buckets bucket None) }
         ensures* writes_back { sem 𝓛 (lends_bucket T.row A.row self.entry bucket result) }
@@ -42,7 +42,7 @@ impl<'a, T, A: Allocator> ItemsLoan<'a, T, A> {
         items_mut(unsafe { &mut *first.add(bucket) })
     }
 
-    /// The items of the one bucket of the loan.
+    // The items of the one bucket of the loan.
     pub(crate) fn into_slice(self) -> &'a mut [T]
         requires one { length self.buckets ≡ 1 }
         requires open { AreFilled self.buckets }

@@ -3,8 +3,8 @@ use Rattle.wasmi_interner.proofs.BinaryDigits.{digits_mono}
 use Rattle.wasmi_interner.proofs.Filing.{found_text, found_within, rest_few, rest_searchable}
 use Rattle.wasmi_interner.proofs.index.find_in_rest.Goals as goal
 
-pub place_among-requires-clause-in_order : goal.place_among-requires-clause-in_order
-place_among-requires-clause-in_order g c =
+pub rank_in-requires-clause-in_order : goal.rank_in-requires-clause-in_order
+rank_in-requires-clause-in_order g c =
     let sought = c.args.sought.now in
     rest_searchable sought.texts.now sought.hash sought.text.now sought.hashed c.args.rest.now.entries c.requires.sorted
 
@@ -21,9 +21,9 @@ returns-in-Ok-clause-there g c =
 pub returns-in-Ok-clause-few_steps : goal.returns-in-Ok-clause-few_steps
 returns-in-Ok-clause-few_steps g c =
     let n = length c.args.sought.now.texts.now in
-    omega (arith, c.in-Ok.ensures.few_steps, digits_mono c.len-len.result n (omega (arith, c.len-len.ensures, rest_few c.args.sought.now.texts.now c.args.rest.now.entries c.requires.sorted)))
+    omega (arith, c.in-Ok.ensures.few_steps, digits_mono (length c.args.rest.now.entries) n (rest_few c.args.sought.now.texts.now c.args.rest.now.entries c.requires.sorted))
 
 pub returns-in-Err-clause-few_steps : goal.returns-in-Err-clause-few_steps
 returns-in-Err-clause-few_steps g c =
     let n = length c.args.sought.now.texts.now in
-    omega (arith, c.in-Err.ensures.few_steps, digits_mono c.len-len.result n (omega (arith, c.len-len.ensures, rest_few c.args.sought.now.texts.now c.args.rest.now.entries c.requires.sorted)))
+    omega (arith, c.in-Err.ensures.few_steps, digits_mono (length c.args.rest.now.entries) n (rest_few c.args.sought.now.texts.now c.args.rest.now.entries c.requires.sorted))

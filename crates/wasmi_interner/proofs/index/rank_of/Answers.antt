@@ -6,8 +6,8 @@ use Rattle.wasmi_interner.specs.Search.{IsFound}
 use Rattle.wasmi_interner.proofs.Filing.{rest_searchable}
 use Rattle.wasmi_interner.proofs.index.rank_of.Goals as goal
 
-pub place_among-requires-clause-in_order : goal.place_among-requires-clause-in_order
-place_among-requires-clause-in_order g c =
+pub rank_in-requires-clause-in_order : goal.rank_in-requires-clause-in_order
+rank_in-requires-clause-in_order g c =
     let sought = c.new-sought.result in let entries = c.args.rest.now.entries in
     rest_searchable sought.texts.now sought.hash sought.text.now sought.hashed entries (subst (λ texts. IsRestOf texts entries) (sym c.new-sought.ensures.texts) c.requires.sorted)
 
@@ -17,4 +17,4 @@ returns g c =
     let text : sought.text.now ≡ text_at texts entry =
     c.new-sought.ensures.text ∙ sym (ap (λ k. get_or texts k []) (sym c.into_usize.ensures.number) ∙ get_or_from_slice_get texts c.into_usize.result c.get.result.now [] c.get.ensures) in
     let hash : sought.hash ≡ entry.hash = sought.hashed ∙ (ap hash_of text ∙ sym c.requires.entry.hash) in
-    subst (λ orders. IsFound orders c.place_among.result) (λ i. orders_with (c.new-sought.ensures.texts i) (hash i) (text i) c.args.rest.now.entries) c.place_among.ensures.found
+    subst (λ orders. IsFound orders c.rank_in.result) (λ i. orders_with (c.new-sought.ensures.texts i) (hash i) (text i) c.args.rest.now.entries) c.rank_in.ensures.found

@@ -33,7 +33,7 @@ use Rattle.wasmi_arena.specs.contracts.bucket_table.BucketTable.bucket_mut as F
 use Rattle.wasmi_arena.proofs.bucket_table.BucketTable.bucket_mut.Statement.{statement}
 use Rattle.wasmi_arena.proofs.bucket_table.BucketTable.bucket_mut.Code as code
 use Rattle.wasmi_arena.proofs.Frame.{let_go, gone}
-use Rattle.wasmi_arena.proofs.TableMemory.{args, MaybeBucket, TableRow, first_at, bare_table, buckets_out, with_bucket, bucket_at, LentBucket, lends_bucket}
+use Rattle.wasmi_arena.proofs.TableMemory.{args, MaybeBucket, TableRow, first_at, bare_table, buckets_out, with_bucket, offset_of_bucket, LentBucket, bucket_lent}
 
 pub bucket_mut_spec : {M : Type 1} → statement M
 bucket_mut_spec 𝓤 𝓛 𝓜 𝓡 wired X Y n LX LY count_fits g d dd met md =
@@ -63,8 +63,8 @@ bucket_mut_spec 𝓤 𝓛 𝓜 𝓡 wired X Y n LX LY count_fits g d dd met md =
     use1 𝓛 (given (length t.buckets ≡ n) (‵ (row Item full_share t.buckets b (first_at E Z n o)) ⊛ raw (bare_table E Z n 𝓛 b o))) (buckets_out E Z n 𝓛 b o t) $ learn ! (λ counted.
     let inside : k < length t.buckets = omega arith in
     move ! (1 ∷ 2 ∷ 3 ∷ []) $ fjoin3 ! $ move ! (1 ∷ 0 ∷ []) $
-    use2 𝓛 (later (some (λ (δ : GName). raw (LentBucket E Z n 𝓛 b o t counted k inside None κ q γ δ)))) (lends_bucket E Z n 𝓛 b o t counted k inside None κ q γ) $ await ! tt $ pick ! (λ δ.
-    let r : MutBor Item.Denot = record { ref_ptr = (b, bucket_at E Z n 𝓛 b o t counted k inside); ghost_name = δ; now = get_or t.buckets k None } in
+    use2 𝓛 (later (some (λ (δ : GName). raw (LentBucket E Z n 𝓛 b o t counted k inside None κ q γ δ)))) (bucket_lent E Z n 𝓛 b o t counted k inside None κ q γ) $ await ! tt $ pick ! (λ δ.
+    let r : MutBor Item.Denot = record { ref_ptr = (b, offset_of_bucket E Z n 𝓛 b o t counted k inside); ghost_name = δ; now = get_or t.buckets k None } in
     use1 𝓛 (‵ ((MutRef (named 0) κ Item).own_val r (mut_vals r)) ⊛ ‵ (flft κ q) ⊛ ‵ (follows Self Item γ δ (with_bucket E Z n 𝓛 b o t counted k inside))) (id⊢ 𝓤 _) $
     split ! $ move ! (1 ∷ []) $ split ! $ returns ! (look_at ! 0 refl) $ free_all ! refl $
     -- [the token; what the table is afterwards; the bucket; the other tokens]

@@ -78,7 +78,7 @@ lend_spec 𝓤 𝓛 𝓜 𝓡 wired K X Y LK LX LY copy keys kd clone cd g d dd 
     split3 ! $ fjoin ! $ flt_i ! (length buckets * type_size (MaybeBucket E Z 27)) (2 ^ 63) (subst (λ (n : ℕ). n * type_size (MaybeBucket E Z 27) < 2 ^ 63) (sym v.1.1.buckets_counted) (array_small E.row Z.row Z.g (vec_small E.row Z.row Z.g K keys small))) $ fjoin ! $
     use1 𝓛 (‵ ((LoanRow ℓ E Z).own_val (loan ℓ E Z (block_ptr b at) buckets ν ν) (loan_val ℓ E Z (block_ptr b at) ∷ []))) (loan_made ℓ E Z 𝓛 (block_ptr b at) buckets ν ν) $
     returns ! (look_at ! 0 refl) $ free_all ! refl $
-    -- [the loan; the token, and what the vector is afterwards; the other tokens]
+    -- [the loan; the token, and what the arena is afterwards; the other tokens]
     move ! (1 ∷ []) $ split ! $
     suffices ! _ (ends_at 𝓛 call stayed c y (loan_val ℓ E Z (block_ptr b at)) (loan ℓ E Z (block_ptr b at) buckets ν ν) (tt, tt) (tt, tt)) $
     move ! (0 ∷ 3 ∷ []) $ join ! $ use0 𝓛 (‵ (let_go 1)) (gone 𝓛 1) $ move ! (1 ∷ 0 ∷ 3 ∷ 2 ∷ []) $ group ! 3 $ frame ! $

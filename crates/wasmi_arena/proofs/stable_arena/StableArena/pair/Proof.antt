@@ -47,7 +47,7 @@ use Rattle.wasmi_arena.proofs.Frame.{let_go, gone, says_two}
 use Rattle.wasmi_arena.proofs.LoanMemory.{LoanRow, loan_val, loan_tells, loan_good}
 use Rattle.wasmi_arena.proofs.PairLoans.{follows_both_then}
 use Rattle.wasmi_arena.proofs.PairPlaces.{ends_both}
-use Rattle.wasmi_arena.proofs.Refusals.{Pair, pair_val, pair_told}
+use Rattle.wasmi_arena.proofs.PairResults.{Pair, pair_val, pair_told}
 use Rattle.wasmi_arena.proofs.ArenaMemory.{ArenaRow}
 
 pub pair_spec : {M : Type 1} → statement M

@@ -48,7 +48,7 @@ use Rattle.wasmi_arena.proofs.stable_vec.StableVec.pair.Met as Lends
 use Rattle.wasmi_arena.proofs.stable_vec.StableVec.checked_pair.Statement.{statement}
 use Rattle.wasmi_arena.proofs.stable_vec.StableVec.checked_pair.Code as code
 use Rattle.wasmi_arena.proofs.Frame.{let_go, gone}
-use Rattle.wasmi_arena.proofs.Refusals.{Pair, PairOr, pair_val, pair_told, error_val, place_of, refused, neqb→neq}
+use Rattle.wasmi_arena.proofs.PairResults.{Pair, PairOr, pair_val, pair_told, error_val, place_of, refused, neqb→neq}
 use Rattle.wasmi_arena.proofs.VecMemory.{VecRow}
 
 pub checked_pair_spec : {M : Type 1} → statement M

@@ -1,6 +1,5 @@
-use Rattle.std.proofs.Common.{arith}
+use Rattle.std.proofs.Common.{arith, sym}
 use Rattle.wasmi_arena.proofs.LaidOut.{bucket_there, slot_there, item_read}
-use Rattle.std.proofs.Common.{sym}
 use Rattle.std.proofs.lemmas.Option.{slice_get_past}
 use Rattle.wasmi_arena.proofs.stable_vec.StableVec.get.Goals as goal
 

@@ -39,7 +39,7 @@ use Rattle.wasmi_arena.proofs.stable_vec.StableVec.checked_pair.Met as Lends
 use Rattle.wasmi_arena.proofs.stable_vec.StableVec.get_disjoint_mut.Statement.{statement}
 use Rattle.wasmi_arena.proofs.stable_vec.StableVec.get_disjoint_mut.Code as code
 use Rattle.wasmi_arena.proofs.Frame.{let_go, gone}
-use Rattle.wasmi_arena.proofs.Refusals.{PairOr, pair_or_laws}
+use Rattle.wasmi_arena.proofs.PairResults.{PairOr, pair_or_laws}
 use Rattle.wasmi_arena.proofs.VecMemory.{VecRow}
 use denote.Array.{Array}
 use denote.Param.Laws.{param_laws, Laws, Told, array_told, array_laws, of_field}

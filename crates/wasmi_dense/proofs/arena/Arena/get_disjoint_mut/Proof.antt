@@ -40,7 +40,7 @@ use denote.Triple.Walked.{Stays, walk_of, stay_dropped, Goes-dropped, Goes-spent
 use Rattle.wasmi_arena.specs.Arena.{ArenaState}
 use Rattle.wasmi_arena.proofs.Answered.{asked-writes}
 use Rattle.wasmi_arena.proofs.Frame.{let_go, gone}
-use Rattle.wasmi_arena.proofs.Refusals.{PairOr}
+use Rattle.wasmi_arena.proofs.PairResults.{PairOr}
 use Rattle.wasmi_dense.specs.ArenaLoan.{written}
 use Rattle.wasmi_arena.specs.Pairs.{AreNumbers, names_if_ok, with_both}
 use Rattle.wasmi_dense.specs.contracts.arena.Arena.{the_row}
@@ -54,7 +54,7 @@ use Rattle.wasmi_dense.proofs.arena.pairs.checked_pair.Met as LendsTwo
 use Rattle.wasmi_dense.proofs.arena.Arena.get_disjoint_mut.Statement.{statement}
 use Rattle.wasmi_dense.proofs.arena.Arena.get_disjoint_mut.Code as code
 use Rattle.wasmi_dense.proofs.ArenaLoans.{written-two, written-same}
-use Rattle.wasmi_dense.proofs.PairLoans.{follows_through, good, Reads, Outside, Alike, Errors, Told, ReadsKeys, OutsideKeys, AlikeKeys, told_keys}
+use Rattle.wasmi_dense.proofs.PairOrError.{follows_through, good, Reads, Outside, Alike, Errors, Told, ReadsKeys, OutsideKeys, AlikeKeys, told_keys}
 
 pub get_disjoint_mut_spec : {M : Type 1} → statement M
 get_disjoint_mut_spec 𝓤 𝓛 𝓜 𝓡 wired K X Y LK LX LY copy gk dk gc dc g d dd metk metc met md =

@@ -42,14 +42,14 @@ use Rattle.wasmi_arena.specs.contracts.error.ArenaError as Error
 use Rattle.wasmi_arena.specs.declared.error.ArenaError.{ArenaError}
 use Rattle.core.proofs.once.Made.{ok_of, err_of}
 use Rattle.wasmi_arena.proofs.Frame.{let_go, gone}
-use Rattle.wasmi_arena.proofs.Refusals.{error_val, place_of, error_made, pair_val, pair_told}
+use Rattle.wasmi_arena.proofs.PairResults.{error_val, place_of, error_made, pair_val, pair_told}
 use Rattle.wasmi_arena.specs.Pairs.{names_if_ok}
 use Rattle.wasmi_dense.specs.contracts.arena.pairs.checked_pair as F
 use Rattle.wasmi_dense.specs.contracts.slice_pair.pair_within as Two
 use Rattle.wasmi_dense.proofs.slice_pair.pair_within.Met as LendsTwo
 use Rattle.wasmi_dense.proofs.arena.pairs.checked_pair.Statement.{statement}
 use Rattle.wasmi_dense.proofs.arena.pairs.checked_pair.Code as code
-use Rattle.wasmi_dense.proofs.PairLoans.{Reads, Outside, Alike, Errors, Told, told_outside, told_alike, told_lent}
+use Rattle.wasmi_dense.proofs.PairOrError.{Reads, Outside, Alike, Errors, Told, told_outside, told_alike, told_lent}
 
 pub checked_pair_spec : {M : Type 1} → statement M
 unfolding both_if_by

@@ -2,4 +2,4 @@ use Rattle.wasmi_module.proofs.ReadLemmas.{reads-then}
 use Rattle.wasmi_module.proofs.items.GlobalItem.read.Goals as goal
 
 pub returns-clause-written : goal.returns-clause-written
-returns-clause-written g c = reads-then _ _ _ c.global_type.new.self _ c.in_ok-ty.ensures c.in_ok-init.ensures
+returns-clause-written g c = reads-then c.global_type.new.self c.in_ok-ty.ensures c.in_ok-init.ensures

@@ -7,36 +7,36 @@ pub returns-in_ok-number-in-65 : goal.returns-in_ok-number-in-65
 returns-in_ok-number-in-65 c =
     let n = c.in_ok-number-in-65.number in
     let e : to_z w32 (of_z w32 n) ≡ n = omega (arith, ints, c.in_ok-number-in-65.ensures.above, c.in_ok-number-in-65.ensures.below) in
-    rw e (reads-byte_then _ _ _ _ c.byte.new.self _ c.in-65.is c.in_ok-byte.ensures c.in_ok-number-in-65.ensures.number)
+    rw e (reads-byte_then c.byte.new.self c.in-65.is c.in_ok-byte.ensures c.in_ok-number-in-65.ensures.number)
 
 pub returns-in_ok-number-in-66 : goal.returns-in_ok-number-in-66
 returns-in_ok-number-in-66 c =
     let n = c.in_ok-number-in-66.number in
     let e : to_z w64 (of_z w64 n) ≡ n = omega (arith, ints, c.in_ok-number-in-66.ensures.above, c.in_ok-number-in-66.ensures.below) in
-    rw e (reads-byte_then _ _ _ _ c.byte.new.self _ c.in-66.is c.in_ok-byte.ensures c.in_ok-number-in-66.ensures.number)
+    rw e (reads-byte_then c.byte.new.self c.in-66.is c.in_ok-byte.ensures c.in_ok-number-in-66.ensures.number)
 
 pub returns-in_ok-bytes-in-67 : goal.returns-in_ok-bytes-in-67
 returns-in_ok-bytes-in-67 c =
     let bytes = reads-bytes 4 c.in_ok-bytes-in-67.bytes.now c.byte.new.self c.bytes.new.self c.in_ok-bytes-in-67.ensures.0 c.in_ok-bytes-in-67.ensures.1 in
-    reads-byte_then _ _ _ _ c.byte.new.self _ c.in-67.is c.in_ok-byte.ensures bytes
+    reads-byte_then c.byte.new.self c.in-67.is c.in_ok-byte.ensures bytes
 
 pub returns-in_ok-bytes-in-68 : goal.returns-in_ok-bytes-in-68
 returns-in_ok-bytes-in-68 c =
     let bytes = reads-bytes 8 c.in_ok-bytes-in-68.bytes.now c.byte.new.self c.bytes-in-68.new.self c.in_ok-bytes-in-68.ensures.0 c.in_ok-bytes-in-68.ensures.1 in
-    reads-byte_then _ _ _ _ c.byte.new.self _ c.in-68.is c.in_ok-byte.ensures bytes
+    reads-byte_then c.byte.new.self c.in-68.is c.in_ok-byte.ensures bytes
 
 pub returns-in_ok-bytes-in-253 : goal.returns-in_ok-bytes-in-253
 returns-in_ok-bytes-in-253 c =
-    reads-byte_then _ _ _ _ c.byte.new.self _ c.in-253.is c.in_ok-byte.ensures c.in_ok-bytes-in-253.ensures
+    reads-byte_then c.byte.new.self c.in-253.is c.in_ok-byte.ensures c.in_ok-bytes-in-253.ensures
 
 pub returns-in_ok-ty-in-208 : goal.returns-in_ok-ty-in-208
 returns-in_ok-ty-in-208 c =
-    reads-byte_then _ _ _ _ c.byte.new.self _ c.in-208.is c.in_ok-byte.ensures c.in_ok-ty-in-208.ensures
+    reads-byte_then c.byte.new.self c.in-208.is c.in_ok-byte.ensures c.in_ok-ty-in-208.ensures
 
 pub returns-in_ok-index-in-210 : goal.returns-in_ok-index-in-210
 returns-in_ok-index-in-210 c =
-    reads-byte_then _ _ _ _ c.byte.new.self _ c.in-210.is c.in_ok-byte.ensures c.in_ok-index-in-210.ensures
+    reads-byte_then c.byte.new.self c.in-210.is c.in_ok-byte.ensures c.in_ok-index-in-210.ensures
 
 pub returns-in_ok-index-in-35 : goal.returns-in_ok-index-in-35
 returns-in_ok-index-in-35 c =
-    reads-byte_then _ _ _ _ c.byte.new.self _ c.in-35.is c.in_ok-byte.ensures c.in_ok-index-in-35.ensures
+    reads-byte_then c.byte.new.self c.in-35.is c.in_ok-byte.ensures c.in_ok-index-in-35.ensures

@@ -14,12 +14,12 @@ use Rattle.wasmi_module.proofs.reader.Reader.module.Goals as goal
 
 pub returns-clause-written : goal.returns-clause-written
 returns-clause-written g c =
-    reads-then _ _ _ c.section.new.self _ (reads-next_map IsFuncType func_type_of c.in_ok-types.types.items 1 _ _ c.in_ok-types.ensures.written)
-    (reads-then _ _ _ c.section-2.new.self _ (reads-next_map IsImport import_of c.in_ok-imports.imports.items 2 _ _ c.in_ok-imports.ensures.written)
-    (reads-then _ _ _ c.section-3.new.self _ c.in_ok-functions.ensures.written
-    (reads-then _ _ _ c.section-4.new.self _ c.in_ok-tables.ensures.written
-    (reads-then _ _ _ c.section-5.new.self _ c.in_ok-memories.ensures.written
-    (reads-then _ _ _ c.section-6.new.self _ (reads-next_map IsGlobal global_of c.in_ok-globals.globals.items 6 _ _ c.in_ok-globals.ensures.written)
+    reads-then c.section.new.self (reads-next_map IsFuncType func_type_of c.in_ok-types.types.items 1 _ _ c.in_ok-types.ensures.written)
+    (reads-then c.section-2.new.self (reads-next_map IsImport import_of c.in_ok-imports.imports.items 2 _ _ c.in_ok-imports.ensures.written)
+    (reads-then c.section-3.new.self c.in_ok-functions.ensures.written
+    (reads-then c.section-4.new.self c.in_ok-tables.ensures.written
+    (reads-then c.section-5.new.self c.in_ok-memories.ensures.written
+    (reads-then c.section-6.new.self (reads-next_map IsGlobal global_of c.in_ok-globals.globals.items 6 _ _ c.in_ok-globals.ensures.written)
     (reads-next_map IsExport export_of c.in_ok-exports.exports.items 7 _ _ c.in_ok-exports.ensures.written))))))
 
 pub returns-clause-valid : goal.returns-clause-valid

@@ -4,5 +4,5 @@ use Rattle.wasmi_module.proofs.reader.Reader.skip.Goals as goal
 
 pub returns : goal.returns
 returns c =
-    reads-then _ _ _ c.customs.new.self _ c.in_ok-customs.ensures
+    reads-then c.customs.new.self c.in_ok-customs.ensures
     (reads-any c.in_ok-contents.field-0 c.args.number _ _ c.in_ok-contents.ensures.found c.in_ok-contents.ensures.none)

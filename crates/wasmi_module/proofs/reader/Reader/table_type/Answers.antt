@@ -2,4 +2,4 @@ use Rattle.wasmi_module.proofs.ReadLemmas.{reads-then}
 use Rattle.wasmi_module.proofs.reader.Reader.table_type.Goals as goal
 
 pub returns : goal.returns
-returns c = reads-then _ _ _ c.ref_type.new.self _ c.in_ok-element.ensures c.in_ok-limits.ensures
+returns c = reads-then c.ref_type.new.self c.in_ok-element.ensures c.in_ok-limits.ensures

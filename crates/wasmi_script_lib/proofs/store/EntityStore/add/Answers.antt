@@ -30,7 +30,7 @@ returns-in_err-name-clause-no_key g c =
 pub invariant_of-self-in_err-kind : goal.invariant_of-self-in_err-kind
 invariant_of-self-in_err-kind g c =
     let inside = c.self.inside in
-    sound_kept inside.names inside.kinds inside.properties inside.entities c.args.name.now c.args.kind.now c.self.invariant c.intern.new.names c.hand_in.new.self (inr c.in_ok-name.ensures.ok) (inl c.in_err-kind.ensures.err)
+    sound_kept inside.names inside.kinds inside.properties inside.entities c.args.name.now c.args.kind.now c.self.invariant c.intern.new.names c.number_for.new.self (inr c.in_ok-name.ensures.ok) (inl c.in_err-kind.ensures.err)
 
 pub returns-in_err-kind-clause-no_key : goal.returns-in_err-kind-clause-no_key
 returns-in_err-kind-clause-no_key g c =
@@ -42,19 +42,19 @@ returns-in_err-kind-clause-no_key g c =
 pub returns-in_err-kind-clause-err : goal.returns-in_err-kind-clause-err
 returns-in_err-kind-clause-err g c =
     let inside = c.self.inside in
-    let kept = shown_kept inside.names inside.kinds inside.properties inside.entities c.args.name.now c.args.kind.now c.self.invariant c.intern.new.names c.hand_in.new.self (inr c.in_ok-name.ensures.ok) (inl c.in_err-kind.ensures.err) in
+    let kept = shown_kept inside.names inside.kinds inside.properties inside.entities c.args.name.now c.args.kind.now c.self.invariant c.intern.new.names c.number_for.new.self (inr c.in_ok-name.ensures.ok) (inl c.in_err-kind.ensures.err) in
     rw (← c.self.view_is) (OnErr-of c.from_residual-in_err-kind.result kept)
 
 pub invariant_of-self-2 : goal.invariant_of-self-2
 invariant_of-self-2 g c =
     let inside = c.self.inside in
-    sound_pushed inside.names inside.kinds inside.properties inside.entities c.args.name.now c.args.kind.now c.self.invariant c.intern.new.names c.hand_in.new.self c.in_ok-name.ensures.ok c.in_ok-kind.ensures.ok (record { name = c.in_ok-name.name; kind = c.in_ok-kind.kind }) c.in_ok-name.ensures.reads c.in_ok-kind.ensures.reads c.alloc.result c.alloc.new.self c.alloc.ensures.ok c.alloc.ensures.err
+    sound_pushed inside.names inside.kinds inside.properties inside.entities c.args.name.now c.args.kind.now c.self.invariant c.intern.new.names c.number_for.new.self c.in_ok-name.ensures.ok c.in_ok-kind.ensures.ok (record { name = c.in_ok-name.name; kind = c.in_ok-kind.kind }) c.in_ok-name.ensures.reads c.in_ok-kind.ensures.reads c.alloc.result c.alloc.new.self c.alloc.ensures.ok c.alloc.ensures.err
 
 pub returns-clause-ok : goal.returns-clause-ok
 returns-clause-ok g c =
     let inside = c.self.inside in
-    let added = shown_added inside.names inside.kinds inside.properties inside.entities c.args.name.now c.args.kind.now c.self.invariant c.intern.new.names c.hand_in.new.self c.in_ok-name.ensures.ok c.in_ok-kind.ensures.ok (record { name = c.in_ok-name.name; kind = c.in_ok-kind.kind }) c.in_ok-name.ensures.reads c.in_ok-kind.ensures.reads in
-    on_ok_weaker c.alloc.result (λ pushed. ap (λ (entities : List Named). store_of c.intern.new.names c.hand_in.new.self inside.properties entities) pushed ∙ (added ∙ ap (λ (store : Store). with_entity store c.args.name.now c.args.kind.now) c.self.view_is)) c.alloc.ensures.ok
+    let added = shown_added inside.names inside.kinds inside.properties inside.entities c.args.name.now c.args.kind.now c.self.invariant c.intern.new.names c.number_for.new.self c.in_ok-name.ensures.ok c.in_ok-kind.ensures.ok (record { name = c.in_ok-name.name; kind = c.in_ok-kind.kind }) c.in_ok-name.ensures.reads c.in_ok-kind.ensures.reads in
+    on_ok_weaker c.alloc.result (λ pushed. ap (λ (entities : List Named). store_of c.intern.new.names c.number_for.new.self inside.properties entities) pushed ∙ (added ∙ ap (λ (store : Store). with_entity store c.args.name.now c.args.kind.now) c.self.view_is)) c.alloc.ensures.ok
 
 pub returns-clause-no_key : goal.returns-clause-no_key
 returns-clause-no_key g c =
@@ -65,8 +65,8 @@ returns-clause-no_key g c =
 pub returns-clause-err : goal.returns-clause-err
 returns-clause-err g c =
     let inside = c.self.inside in
-    let kept = shown_kept inside.names inside.kinds inside.properties inside.entities c.args.name.now c.args.kind.now c.self.invariant c.intern.new.names c.hand_in.new.self (inr c.in_ok-name.ensures.ok) (inr c.in_ok-kind.ensures.ok) in
-    rw (← c.self.view_is) (on_err_weaker c.alloc.result (λ stays. subst (λ (entities : List Named). KeepsEntities (store_of inside.names inside.kinds inside.properties inside.entities) c.args.name.now c.args.kind.now (store_of c.intern.new.names c.hand_in.new.self inside.properties entities)) (sym stays) kept) c.alloc.ensures.err)
+    let kept = shown_kept inside.names inside.kinds inside.properties inside.entities c.args.name.now c.args.kind.now c.self.invariant c.intern.new.names c.number_for.new.self (inr c.in_ok-name.ensures.ok) (inr c.in_ok-kind.ensures.ok) in
+    rw (← c.self.view_is) (on_err_weaker c.alloc.result (λ stays. subst (λ (entities : List Named). KeepsEntities (store_of inside.names inside.kinds inside.properties inside.entities) c.args.name.now c.args.kind.now (store_of c.intern.new.names c.number_for.new.self inside.properties entities)) (sym stays) kept) c.alloc.ensures.err)
 
 pub returns-clause-key : goal.returns-clause-key
 returns-clause-key g c =

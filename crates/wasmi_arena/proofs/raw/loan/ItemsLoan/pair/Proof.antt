@@ -40,15 +40,15 @@ use Rattle.wasmi_arena.specs.Geometry.{IsPlace, max_len}
 use Rattle.wasmi_arena.specs.Table.{items_of, items_in, write, HasBuckets}
 use Rattle.wasmi_arena.specs.contracts.raw.loan.ItemsLoan.pair as F
 use Rattle.wasmi_arena.specs.contracts.raw.loan.ItemsLoan.pair_slots as Slots
-use Rattle.wasmi_arena.specs.contracts.geometry.places as Places
+use Rattle.wasmi_arena.specs.contracts.geometry.two_places as Places
 use Rattle.wasmi_arena.proofs.raw.loan.ItemsLoan.pair_slots.Met as LendsSlots
-use Rattle.wasmi_arena.proofs.geometry.places.Met as Placed
+use Rattle.wasmi_arena.proofs.geometry.two_places.Met as Placed
 use Rattle.wasmi_arena.proofs.raw.loan.ItemsLoan.pair.Statement.{statement}
 use Rattle.wasmi_arena.proofs.raw.loan.ItemsLoan.pair.Code as code
 use Rattle.wasmi_arena.proofs.Frame.{let_go, gone, says_two}
 use Rattle.wasmi_arena.proofs.LoanMemory.{LoanRow, loan_val, loan_tells, loan_good}
 use Rattle.wasmi_arena.proofs.PairPlaces.{below_max, filled, reads, slots_apart, ends}
-use Rattle.wasmi_arena.proofs.Refusals.{Pair, pair_told}
+use Rattle.wasmi_arena.proofs.PairResults.{Pair, pair_told}
 
 pub pair_spec : {M : Type 1} → statement M
 pair_spec 𝓤 𝓛 𝓜 𝓡 wired X Y LX LY g d dd met md =
@@ -85,7 +85,7 @@ pair_spec 𝓤 𝓛 𝓜 𝓡 wired X Y LX LY g d dd met md =
     nothing ! $ owned ! usize _ (uint_Makes 𝓛 w64) j _ (refl, are.1.1.0.1) $ join ! $ owned ! usize _ (uint_Makes 𝓛 w64) i _ (refl, are.1.0.1) $ join ! $ nothing ! $ join ! $
     use0 𝓛 (raw (fact 𝓤 (j < max_len))) (fact_i 𝓤 _ (emp 𝓤) high) $ use0 𝓛 (raw (fact 𝓤 (i < max_len))) (fact_i 𝓤 _ (emp 𝓤) low) $ join ! $
     move ! (1 ∷ 0 ∷ []) $ use2 𝓛 (raw (G₁.pre z₁)) (id⊢ 𝓤 _) $
-    calls_at ! (framed 𝓤 𝓛.H 𝓜 𝓣) G₁ (Placed.met 𝓤 𝓛 𝓜 𝓡 (code.calls-wasmi_arena::geometry::places 𝓡.env wired)) z₁
+    calls_at ! (framed 𝓤 𝓛.H 𝓜 𝓣) G₁ (Placed.met 𝓤 𝓛 𝓜 𝓡 (code.calls-wasmi_arena::geometry::two_places 𝓡.env wired)) z₁
     (and_then ! (get ! refl) (and_then ! (get ! refl) (no_more !))) (λ v₁.
     use1 𝓛 (later (some (λ (n : Four.Denot). (‵ ftrue ⊛ ‵ (Four.own_val n (v₁ ∷ []))) ⊛
     some (λ (ws : Unit {0} × (Unit {0} × Unit {0})). ‵ (lasts Places.ended tt (i, (j, tt)) ws) ⊛ raw (fact 𝓤 (IsPlace i n.0 n.1)) ⊛ raw (fact 𝓤 (IsPlace j n.2 n.3)))))) (id⊢ 𝓤 _) $

@@ -48,7 +48,7 @@ use Rattle.wasmi_arena.proofs.LoanMemory.{LoanRow, loan_val, loan_tells, loan_go
 use Rattle.wasmi_arena.proofs.PairLoans.{both_follow}
 use Rattle.wasmi_arena.proofs.PairMemory.{Where, Pointer, ItemIn, Closing, Two, pair_out}
 use Rattle.wasmi_arena.proofs.Refilled.{refilled-own}
-use Rattle.wasmi_arena.proofs.Refusals.{Pair, pair_val, pair_made}
+use Rattle.wasmi_arena.proofs.PairResults.{Pair, pair_val, pair_made}
 use Rattle.wasmi_arena.proofs.Rewritten.{filled_inside, item_in_slot, refilled-write}
 use Rattle.wasmi_arena.proofs.SomeMemory.{behind_tag}
 use Rattle.wasmi_arena.proofs.TableMemory.{MaybeBucket}

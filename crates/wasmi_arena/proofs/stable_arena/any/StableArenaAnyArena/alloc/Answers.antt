@@ -1,4 +1,4 @@
-use Rattle.wasmi_arena.proofs.Arena.{alloc_steps, alloc_refused}
+use Rattle.wasmi_arena.proofs.ArenaSteps.{alloc_steps, alloc_refused}
 use Rattle.wasmi_arena.proofs.stable_arena.any.StableArenaAnyArena.alloc.Goals as goal
 
 pub returns-clause-ok : goal.returns-clause-ok

@@ -1,4 +1,4 @@
-use Rattle.wasmi_arena.proofs.Arena.{swap_steps}
+use Rattle.wasmi_arena.proofs.ArenaSteps.{swap_steps}
 use Rattle.wasmi_arena.proofs.stable_arena.any.StableArenaAnyArena.swap.Goals as goal
 
 pub returns-clause-ok : goal.returns-clause-ok

@@ -7,14 +7,14 @@ use std::io::{ErrorKind, Write};
 
 /// What was written of a line. That memory ran out shows where the line is taken out.
 #[derive(Drop)]
-pub struct Line {
+pub struct AnswerLine {
     text: String,
     is_cut: bool,
 }
 
-impl Line {
+impl AnswerLine {
     pub fn new(alloc: Global) -> Self {
-        Line {
+        AnswerLine {
             text: String::new(alloc),
             is_cut: false,
         }

@@ -4,7 +4,7 @@ use Rattle.std.proofs.lemmas.List.{length-map}
 use Rattle.std.proofs.lemmas.Result.{IfOk-weaker}
 use Rattle.wasmi_collections.specs.Dedup.{DedupState}
 use Rattle.wasmi_script_lib.proofs.StoreLemmas.{with_new-reads}
-use Rattle.wasmi_script_lib.proofs.kinds.Kinds.hand_in.Goals as goal
+use Rattle.wasmi_script_lib.proofs.kinds.Kinds.number_for.Goals as goal
 
 abbrev texts_of : {A : Type 0} → DedupState (String A) → List (List ℕ)
 texts_of kinds = map string_bytes kinds.handed

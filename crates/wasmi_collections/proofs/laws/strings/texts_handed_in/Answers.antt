@@ -1,5 +1,5 @@
 use Rattle.wasmi_collections.proofs.DedupTexts.{distinct_bytes, texts_allocated, texts_replaced}
-use Rattle.wasmi_collections.proofs.laws.appended.texts_handed_in.Goals as goal
+use Rattle.wasmi_collections.proofs.laws.strings.texts_handed_in.Goals as goal
 
 pub returns-clause-allocated : goal.returns-clause-allocated
 returns-clause-allocated g c old new value key absent given = texts_allocated g.Key.ArenaKey.keys old new value key absent given

@@ -6,15 +6,15 @@ use std::io::{BufRead, BufReader, Read};
 
 /// A reader, and the line that it came to.
 #[derive(Drop)]
-pub struct Lines<R: Read + Drop> {
+pub struct InputLines<R: Read + Drop> {
     reader: BufReader<R>,
     line: Vec<u8>,
 }
 
-impl<R: Read + Drop> Lines<R> {
+impl<R: Read + Drop> InputLines<R> {
     /// The lines of a reader, before the first one.
     pub fn new(alloc: Global, reader: R) -> io::Result<Self> {
-        Ok(Lines {
+        Ok(InputLines {
             reader: BufReader::new(alloc, reader)?,
             line: Vec::new(alloc),
         })

@@ -1,4 +1,5 @@
 -- Two items that are lent together, or an error in their place. Assumes `Logic`.
+-- for src/arena/pairs.rt
 --     follows_through      what follows a part follows the two that the part is cut into, where it is cut
 --     good      what is owned of the result is a machine value of its type
 --     Told      what the result says of the list and of two positions.        told_outside, told_alike, told_lent      of each result
@@ -33,7 +34,7 @@ use Rattle.wasmi_arena.specs.declared.error.ArenaError.{ArenaError}
 use Rattle.wasmi_arena.specs.Keys.{Keys}
 use Rattle.wasmi_arena.specs.Pairs.{AreNumbers}
 use Rattle.wasmi_arena.proofs.PairLoans.{follows_both_then}
-use Rattle.wasmi_arena.proofs.Refusals.{Pair, PairOr, place_of}
+use Rattle.wasmi_arena.proofs.PairResults.{Pair, PairOr, place_of}
 
 module _ {M : Type 1} {𝓤 : Ura M} (𝓛 : Logic 𝓤) (R S T U : RattleType) (F : S.Denot → R.Denot) (G : T.Denot → U.Denot → S.Denot) (γ γ' : GName) where
   pub follows_through : (m : maybe.Option (GName × GName)) (v : S.Denot)
