@@ -1,5 +1,5 @@
 //! Tables by key: two that keep the first value of a key, and two that count.
-ghost use Rattle.std.specs.Prelude.{◌≡◌, [], true, false, not, length, is_some, IfOk, OnErr, IfSome, IfNone, Some};
+ghost use Rattle.std.specs.Prelude.{◌≡◌, ◌^◌, ◌-◌, [], true, false, not, length, is_some, IfOk, OnErr, IfSome, IfNone, Some, min, sum_by};
 ghost use Rattle.std.specs.Map.{keys_of, set_value};
 ghost use Rattle.std.specs.Ordering.{eq_by_cmp};
 ghost use Rattle.wasmi_map_specs.specs.Maps.{value_at, ChangesAt};
@@ -82,7 +82,8 @@ pub fn reset_all<K: Hash + Ord, A: Allocator>(counts: &mut Map<K, u64, A>) -> us
 pub fn settle<K: Eq + Hash + Drop, S: BuildHasher, A: Allocator>(
     counts: &mut hashed::Map<K, u64, S, A>,
 ) -> u64
-    ensures { counts.new ≡ record { entries = []; hasher = counts.old.hasher } }
+    ensures sum { result ≡ min (sum_by (λ entry. entry.1) counts.old.entries) (2 ^ 64 - 1) }
+    ensures empty { counts.new ≡ record { entries = []; hasher = counts.old.hasher } }
 {
     let mut sum: u64 = 0;
     for (_, count) in counts.drain() {
