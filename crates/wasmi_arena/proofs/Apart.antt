@@ -5,7 +5,7 @@ use Rattle.std.proofs.lemmas.List.{get_or-set_other, length-set}
 use Rattle.std.proofs.lemmas.Option.{same_Some}
 use Rattle.wasmi_arena.specs.Bucket.{Bucket, bucket}
 use Rattle.wasmi_arena.specs.Geometry.{size, start, max_len, IsPlace, IsFewest, fewest, room}
-use Rattle.wasmi_arena.specs.Table.{items_of, bucket_filled, IsLaidOut}
+use Rattle.wasmi_arena.specs.inner.Table.{items_of, bucket_filled, IsLaidOut}
 use Rattle.wasmi_arena.specs.inner.Apart.{AreOpenApart}
 use Rattle.wasmi_arena.proofs.Doubling.{size_pos, start_mono, start_below, fewest_is, fewest_is_least, fewest_of_place, place-next}
 use Rattle.wasmi_arena.proofs.LaidOut.{place-full, items_of-open_next_with, IsLaidOut-open_next_with}

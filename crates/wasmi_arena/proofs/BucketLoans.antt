@@ -33,7 +33,7 @@ use Rattle.core.specs.declared.option.Option.TheVariants.{None}
 use Rattle.std.specs.Mem.{type_size}
 use Rattle.wasmi_arena.specs.Bucket.{Bucket}
 use Rattle.wasmi_arena.specs.inner.Loan.{SameBuckets}
-use Rattle.wasmi_arena.specs.Table.{items_of, refilled, with_items, write_all}
+use Rattle.wasmi_arena.specs.inner.Table.{items_of, refilled, with_items, write_all}
 use Rattle.wasmi_arena.proofs.Refilled.{refilled-own}
 use Rattle.wasmi_arena.proofs.Rewritten.{refilled-write_all}
 use Rattle.wasmi_arena.proofs.TableMemory.{MaybeBucket}

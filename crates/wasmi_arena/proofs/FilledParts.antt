@@ -8,7 +8,7 @@ use Rattle.wasmi_arena.specs.Geometry.{size, start, max_len, fewest}
 use Rattle.wasmi_arena.specs.Bucket.{Bucket}
 use Rattle.wasmi_arena.specs.StableVec.{filled_part, filled_parts}
 use Rattle.wasmi_arena.specs.inner.Ahead.{joined, AreSome, HasAhead}
-use Rattle.wasmi_arena.specs.Table.{items_of, items_in, IsTable, AreFilled, IsLaidOut, HasBuckets}
+use Rattle.wasmi_arena.specs.inner.Table.{items_of, items_in, IsTable, AreFilled, IsLaidOut, HasBuckets}
 use Rattle.wasmi_arena.proofs.Doubling.{size-suc, fewest_is_least}
 use Rattle.wasmi_arena.proofs.Table.{items_of-IsTable}
 use Rattle.wasmi_arena.proofs.LaidOut.{IsTable-open, AreFilled-open, open-le_27}

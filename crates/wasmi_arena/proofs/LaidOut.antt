@@ -11,7 +11,7 @@ use Rattle.std.specs.List.{swap}
 use Rattle.wasmi_arena.specs.Geometry.{size, start, max_len, IsPlace, IsFewest, fewest}
 use Rattle.wasmi_arena.specs.Bucket.{Bucket}
 use Rattle.wasmi_arena.specs.StableVec.{bucket_at}
-use Rattle.wasmi_arena.specs.Table.{items_of, items_in, bucket_filled, bucket_with, bucket_cut, with_item, write, bucket_from, IsTable, AreFilled, IsLaidOut}
+use Rattle.wasmi_arena.specs.inner.Table.{items_of, items_in, bucket_filled, bucket_with, bucket_cut, with_item, write, bucket_from, IsTable, AreFilled, IsLaidOut}
 use Rattle.wasmi_arena.specs.inner.Ahead.{IsAhead}
 use Rattle.wasmi_arena.proofs.Doubling.{start-size, size-suc, size_pos, start_mono, start_below, fewest_is, fewest_is_least, fewest_of_none, fewest_of_place, below_of_start, place-next, place-last}
 use Rattle.wasmi_arena.proofs.Table.{items_in-bucket_from, get_or-IsTable, items_of-IsTable, IsTable-set, IsTable-write, IsTable-cut, IsTable-take, AreFilled-take, IsTable-none}

@@ -40,7 +40,7 @@ use Rattle.core.specs.declared.option.Option.{Option}
 use Rattle.wasmi_arena.specs.Bucket.{Bucket}
 use Rattle.std.specs.Mem.{type_size}
 use Rattle.wasmi_arena.specs.inner.Loan.{SameBuckets, loan_owns}
-use Rattle.wasmi_arena.specs.Table.{items_of, refilled}
+use Rattle.wasmi_arena.specs.inner.Table.{items_of, refilled}
 use Rattle.wasmi_arena.specs.contracts.raw.loan.ItemsLoan as Loan
 use Rattle.wasmi_arena.proofs.Refilled.{length-refilled, refilled-own, refilled-append}
 use Rattle.wasmi_arena.proofs.TableMemory.{MaybeBucket}

@@ -4,7 +4,7 @@ use Rattle.std.proofs.lemmas.List.{map-append}
 use Rattle.wasmi_arena.specs.Bucket.{Bucket}
 use Rattle.wasmi_arena.specs.IterMut.{left}
 use Rattle.wasmi_arena.specs.inner.LoanParts.{IsCut, IsLent, parts_of}
-use Rattle.wasmi_arena.specs.Table.{items_of, items_in, AreFilled}
+use Rattle.wasmi_arena.specs.inner.Table.{items_of, items_in, AreFilled}
 use Rattle.wasmi_arena.specs.declared.raw.loan.ItemsLoan.{ItemsLoan}
 
 module _ {T : Type 0} where

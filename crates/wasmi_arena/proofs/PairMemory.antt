@@ -20,7 +20,7 @@ use Rattle.core.proofs.ptr.Rows.{times_below}
 use Rattle.std_alloc.proofs.RcSteps.{word}
 use Rattle.std.specs.Mem.{type_size}
 use Rattle.wasmi_arena.specs.Bucket.{Bucket, bucket}
-use Rattle.wasmi_arena.specs.Table.{items_in, with_item, write}
+use Rattle.wasmi_arena.specs.inner.Table.{items_in, with_item, write}
 use Rattle.wasmi_arena.proofs.BucketMemory.{Block, Cell, Alike, Shut, Open, bucket_out, bucket_back, pointer_at}
 use Rattle.wasmi_arena.proofs.Frame.{PtrRow}
 use Rattle.wasmi_arena.proofs.Rewritten.{filled_inside, write-apart}

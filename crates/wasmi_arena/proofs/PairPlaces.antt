@@ -4,7 +4,7 @@ use Rattle.std.proofs.lemmas.List.{length-set}
 use Rattle.std.specs.List.{refill}
 use Rattle.wasmi_arena.specs.Bucket.{Bucket}
 use Rattle.wasmi_arena.specs.Geometry.{start, max_len, fewest, IsPlace}
-use Rattle.wasmi_arena.specs.Table.{items_of, items_in, write, IsLaidOut, HasBuckets}
+use Rattle.wasmi_arena.specs.inner.Table.{items_of, items_in, write, IsLaidOut, HasBuckets}
 use Rattle.wasmi_arena.proofs.FilledParts.{HasBuckets-laid, HasBuckets-items}
 use Rattle.wasmi_arena.proofs.LaidOut.{index-lt_max, items_of-written, IsLaidOut-written, slot_filled, slice_get-slot}
 use Rattle.wasmi_arena.proofs.Refilled.{refill-whole}

@@ -3,7 +3,7 @@ use Rattle.std.proofs.Common.{◌≡◌, ℕ, zero, suc, ◌*◌, List, [], ◌�
 use Rattle.std.proofs.lemmas.List.{take_all}
 use Rattle.std.specs.List.{refill}
 use Rattle.wasmi_arena.specs.Bucket.{Bucket}
-use Rattle.wasmi_arena.specs.Table.{items_of, items_in, with_items, refilled, bucket_from, IsTable, IsLaidOut}
+use Rattle.wasmi_arena.specs.inner.Table.{items_of, items_in, with_items, refilled, bucket_from, IsTable, IsLaidOut}
 use Rattle.wasmi_arena.proofs.Table.{items_in-bucket_from}
 
 module _ {T : Type 0} where

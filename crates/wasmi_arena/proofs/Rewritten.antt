@@ -2,7 +2,7 @@
 use Rattle.std.proofs.Common.{◌≡◌, ◌≢◌, ℕ, zero, suc, ◌<◌, List, [], ◌∷◌, ◌++◌, length, get_or, set, Option, Some, None, refl, sym, ◌∙◌, ap, arith, IsSome}
 use Rattle.std.proofs.lemmas.List.{length-set, get_or-set_other}
 use Rattle.wasmi_arena.specs.Bucket.{Bucket}
-use Rattle.wasmi_arena.specs.Table.{items_of, items_in, with_item, with_items, write, write_all, refilled}
+use Rattle.wasmi_arena.specs.inner.Table.{items_of, items_in, with_item, with_items, write, write_all, refilled}
 use Rattle.wasmi_arena.proofs.Refilled.{refill-over, length-refill, over-whole, drop-whole, items_of-first}
 
 module _ {T : Type 0} where

@@ -10,7 +10,7 @@ use Rattle.std.specs.Borrow.{Bor}
 use Rattle.std.specs.Slice.Iter.{iter_rest, iter_steps_back}
 use Rattle.std.specs.declared.slice.Iter.{Iter}
 use Rattle.wasmi_arena.specs.Bucket.{Bucket}
-use Rattle.wasmi_arena.specs.Table.{items_of, items_in, bucket_filled, bucket_cut, with_item, write, bucket_from, IsTable, AreFilled}
+use Rattle.wasmi_arena.specs.inner.Table.{items_of, items_in, bucket_filled, bucket_cut, with_item, write, bucket_from, IsTable, AreFilled}
 use Rattle.wasmi_arena.specs.inner.Ahead.{IsAhead}
 
 -- twice the width before is the width after

@@ -6,7 +6,7 @@ use Rattle.std.specs.Array.Iter.{array_into_iter_items, array_steps_back}
 use Rattle.core.specs.declared.array.slots.IntoIter.{IntoIter}
 use Rattle.std.specs.Iterator.{YieldsFirst, YieldsLast}
 use Rattle.wasmi_arena.specs.Bucket.{Bucket}
-use Rattle.wasmi_arena.specs.Table.{items_of}
+use Rattle.wasmi_arena.specs.inner.Table.{items_of}
 use Rattle.wasmi_arena.specs.inner.Ahead.{IsAhead}
 use Rattle.wasmi_arena.proofs.Table.{first_filled, first_items, first_ahead, last_filled, last_items, last_counted, last_ahead}
 

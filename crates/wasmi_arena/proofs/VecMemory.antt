@@ -27,7 +27,7 @@ use Rattle.core.proofs.mem.Param.{El, R}
 use Rattle.core.proofs.slots.Leases.{P}
 use Rattle.core.specs.List.{refill}
 use Rattle.wasmi_arena.specs.inner.Loan.{SameBuckets}
-use Rattle.wasmi_arena.specs.Table.{refilled}
+use Rattle.wasmi_arena.specs.inner.Table.{refilled}
 use Rattle.wasmi_arena.specs.contracts.stable_vec.StableVec as Vec
 use Rattle.wasmi_arena.specs.contracts.stable_vec.StableVec.TheInside as VecInside
 use Rattle.wasmi_arena.specs.contracts.bucket_table.BucketTable as Table

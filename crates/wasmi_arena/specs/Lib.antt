@@ -5,7 +5,6 @@ pub mod Geometry
 pub mod Bucket
 pub mod StableVec
 pub mod VecLend
-pub mod Table
 pub mod IterMut
 pub mod Arena
 pub mod ArenaLend

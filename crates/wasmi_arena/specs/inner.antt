@@ -1,3 +1,4 @@
+pub mod Table
 pub mod Block
 pub mod OptionLend
 pub mod Slots

@@ -1,14 +1,12 @@
 //! A vector whose items stay in the slots that they were pushed into.
-ghost use Rattle.std.specs.Prelude.{◌≡◌, ◌+◌, ◌*◌, ◌<◌, ◌≤◌, ◌==◌, ◌↔◌, [], ◌∷◌, ◌++◌, length, IfOk, IfErr, OnOk, OnErr, IsOk, IsSome, IsOkUnless, IsErrOf, IsTrue, ◌⊎◌, option_copied, slice_get, slice_index_or, slice_set, Some, None};
+ghost use Rattle.std.specs.Prelude.{◌≡◌, ◌+◌, ◌*◌, ◌<◌, ◌≤◌, ◌==◌, ◌↔◌, [], ◌∷◌, ◌++◌, length, IfOk, IfErr, OnOk, OnErr, IsOk, IsErrOf, IsTrue, ◌⊎◌, option_copied, slice_get, Some, None};
 ghost use Rattle.std.specs.Borrow.{sem};
 ghost use Rattle.std.specs.Mem.{type_size};
-ghost use Rattle.std.specs.Option.{ForSome, option_copied_mut};
-ghost use Rattle.wasmi_arena.specs.Geometry.{size, start, max_len, IsPlace, IsFewest, fewest, slots, room, bucket_of, slot_of};
+ghost use Rattle.std.specs.Option.{option_copied_mut};
+ghost use Rattle.wasmi_arena.specs.Geometry.{size, max_len, IsPlace, fewest, slots, room, bucket_of, slot_of};
 ghost use Rattle.wasmi_arena.specs.IterMut.{left, loan_of, KeepsLength};
-ghost use Rattle.wasmi_arena.specs.inner.TableLend.{lends_slot};
 ghost use Rattle.wasmi_arena.specs.VecLend.{lends_items};
 ghost use Rattle.wasmi_arena.specs.StableVec.{bucket_at, filled_parts};
-ghost use Rattle.wasmi_arena.specs.Table.{items_in, bucket_with};
 
 mod clone;
 mod compared;
@@ -58,7 +56,7 @@ impl<T, A: Allocator> Model for StableVec<T, A> {
 
     ghost Value = { List T };
 
-    ghost use Rattle.wasmi_arena.specs.Table.{items_of, IsLaidOut};
+    ghost use Rattle.wasmi_arena.specs.inner.Table.{items_of, IsLaidOut};
 
     ghost view = { λ vec. items_of vec.table.buckets };
 

@@ -1,5 +1,5 @@
 //! The hash of a text.
-ghost use Rattle.std.specs.Prelude.{◌≡◌, ◌<◌, ◌^◌};
+ghost use Rattle.std.specs.Prelude.{◌≡◌};
 ghost use Rattle.wasmi_interner.specs.inner.Hash.{hash_of};
 
 use std::hash::{FoldHasher, Hasher};

@@ -1,5 +1,5 @@
 //! The index of an interner.
-ghost use Rattle.std.specs.Prelude.{◌≡◌, ℕ, ◌+◌, ◌<◌, ◌≤◌, ◌^◌, List, [], ◌++◌, length, IfErr, IfOk, IfSome, IsOkUnless, IsTrue, None, OnOk, Some, replicate, slice_get};
+ghost use Rattle.std.specs.Prelude.{◌≡◌, ℕ, ◌+◌, ◌<◌, ◌≤◌, ◌^◌, List, [], ◌++◌, length, IfErr, IfOk, IfSome, IsOkUnless, None, OnOk, Some, replicate, slice_get};
 ghost use Rattle.wasmi_interner.specs.BinaryDigits.{digits};
 ghost use Rattle.wasmi_interner.specs.inner.Index.{BelongsAt, Carries, Inserts, IsEntryOf, IsIndexOf, IsReady, IsRestOf, orders_with, text_at};
 ghost use Rattle.wasmi_interner.specs.Interner.{symbol_of};

@@ -1,10 +1,8 @@
 //! A text that is sought.
-ghost use Rattle.std.specs.Prelude.{◌≡◌, ℕ, ◌+◌, ◌<◌, ◌≤◌, ◌^◌, ◌↔◌, List, [], length, IfSome, IsTrue, Some, slice_get};
-ghost use Rattle.std.specs.List.{All};
+ghost use Rattle.std.specs.Prelude.{◌≡◌, ◌+◌, ◌<◌, ◌≤◌, ◌^◌, ◌↔◌, length, IfSome, IsTrue, Some, slice_get};
 ghost use Rattle.wasmi_interner.specs.BinaryDigits.{digits};
 ghost use Rattle.wasmi_interner.specs.inner.Hash.{hash_of};
 ghost use Rattle.wasmi_interner.specs.inner.Index.{orders_with, order_with, AreSymbolsOf};
-ghost use Rattle.wasmi_interner.specs.LenOrder.{len_cmp};
 ghost use Rattle.wasmi_interner.specs.Search.{IsFound, IsSearchable};
 
 use crate::entry::Entry;

@@ -1,5 +1,5 @@
 //! A script at work: what it keeps, and the reply to each line.
-ghost use Rattle.std.specs.Prelude.{◌≡◌, ◌++◌, [], IfOk, OnOk, IsOkUnless, string_bytes, codes, decimal};
+ghost use Rattle.std.specs.Prelude.{◌≡◌, [], IfOk, OnOk, IsOkUnless, string_bytes};
 ghost use Rattle.wasmi_script_lib.specs.Outputs.{line_reply, output_of, state_after_line};
 ghost use Rattle.wasmi_script_lib.specs.Requests.{request_of};
 ghost use Rattle.wasmi_script_lib.specs.inner.Sessions.{state_of, AddsReply};

@@ -1,5 +1,5 @@
 //! A store of entities, on top of the containers.
-ghost use Rattle.std.specs.Prelude.{◌≡◌, ◌≢◌, ◌<◌, ◌≤◌, ◌↔◌, ◌⊎◌, ◌^◌, [], length, IfOk, IfErr, IfNone, IfSome, OnOk, OnErr, IsErrOf, IsOk, IsOkUnless, IsSome, IsTrue, IsFalse, None, Some, option_map, slice_get};
+ghost use Rattle.std.specs.Prelude.{◌≡◌, ◌<◌, ◌≤◌, ◌↔◌, ◌⊎◌, ◌^◌, [], length, IfOk, IfErr, IfNone, IfSome, OnOk, OnErr, IsErrOf, IsOk, IsOkUnless, IsSome, IsTrue, IsFalse, None, Some, option_map, slice_get};
 ghost use Rattle.std.specs.List.{AllByRecursion};
 ghost use Rattle.wasmi_arena.specs.Geometry.{max_len};
 ghost use Rattle.wasmi_collections.specs.Interner.{symbol_of, AreDistinctTexts};

@@ -1,5 +1,5 @@
 //! A compiler's table of constants, in which equal constants share a slot.
-ghost use Rattle.std.specs.Prelude.{ℕ, ◌≡◌, ◌≢◌, ◌==◌, length, map, position, nat_eq, string_bytes, IfOk, IfSome, OnErr, Some};
+ghost use Rattle.std.specs.Prelude.{ℕ, ◌≡◌, ◌≢◌, ◌==◌, map, position, nat_eq, string_bytes, IfOk, IfSome, Some};
 ghost use Rattle.wasmi_collections.specs.Interner.{symbol_of};
 
 use std::alloc::Global;

@@ -4,7 +4,7 @@ use Rattle.std.specs.Prelude.{◌≡◌, ℕ, ◌+◌, ◌<◌, ◌≤◌, List,
 use Rattle.std.specs.List.{flat_map}
 use Rattle.wasmi_arena.specs.Geometry.{max_len}
 use Rattle.wasmi_arena.specs.Bucket.{Bucket}
-use Rattle.wasmi_arena.specs.Table.{items_of, AreFilled}
+use Rattle.wasmi_arena.specs.inner.Table.{items_of, AreFilled}
 
 module _ {T : Type 0} where
   -- the items of the parts, one part after another

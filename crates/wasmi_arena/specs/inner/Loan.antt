@@ -11,7 +11,7 @@ use denote.RawPtr.{Ptr, block_ptr, null_ptr}
 use Rattle.std.specs.declared.alloc.Allocator.{Ghosts}
 use Rattle.core.specs.contracts.option.Option as Opt
 use Rattle.wasmi_arena.specs.Bucket.{Bucket}
-use Rattle.wasmi_arena.specs.Table.{items_of, refilled}
+use Rattle.wasmi_arena.specs.inner.Table.{items_of, refilled}
 use Rattle.wasmi_arena.specs.contracts.bucket.Bucket.{the_row as bucket_row}
 
 module _ (R A : RattleType) (alloc : Ghosts A.Denot) where

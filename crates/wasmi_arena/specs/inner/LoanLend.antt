@@ -1,7 +1,7 @@
 -- What the items of a loan are once what it lent on has ended. No public clause cites this module.
 use Rattle.std.specs.Prelude.{ℕ, List, slice_set}
 use Rattle.std.specs.Borrow.{Fml, RattleType, MutBor, Array, follows, follows_both}
-use Rattle.wasmi_arena.specs.Table.{items_of, write, write_all}
+use Rattle.wasmi_arena.specs.inner.Table.{items_of, write, write_all}
 use Rattle.wasmi_arena.specs.declared.raw.loan.ItemsLoan.{ItemsLoan}
 
 module _ (R A : RattleType) (loan : ItemsLoan R.Denot A.Denot) where

@@ -1,7 +1,7 @@
 -- A loan of items by its buckets: cut in two, and lent bucket by bucket. No public clause cites this module.
 use Rattle.std.specs.Prelude.{◌≡◌, ℕ, List, [], ◌++◌, map, length, Option, Some, None}
 use base.Fml.{GName}
-use Rattle.wasmi_arena.specs.Table.{items_in, AreFilled}
+use Rattle.wasmi_arena.specs.inner.Table.{items_in, AreFilled}
 use Rattle.wasmi_arena.specs.declared.raw.loan.ItemsLoan.{ItemsLoan}
 
 module _ {T A : Type 0} where

@@ -4,7 +4,7 @@ use Rattle.std.specs.Borrow.{Fml, RattleType, MutBor, Array, Lends}
 use Rattle.std.specs.declared.alloc.Allocator.{Ghosts}
 use Rattle.core.specs.contracts.option.Option as Opt
 use Rattle.wasmi_arena.specs.Bucket.{Bucket}
-use Rattle.wasmi_arena.specs.Table.{with_item, with_items}
+use Rattle.wasmi_arena.specs.inner.Table.{with_item, with_items}
 use Rattle.wasmi_arena.specs.contracts.bucket.Bucket.{the_row as bucket_row}
 use Rattle.wasmi_arena.specs.contracts.bucket_table.BucketTable.{the_row}
 

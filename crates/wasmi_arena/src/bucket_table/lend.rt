@@ -1,7 +1,7 @@
 //! Items of an open bucket are lent.
 ghost use Rattle.std.specs.Prelude.{◌≡◌, ◌<◌, length, slice_get, IsSome, Some};
 ghost use Rattle.std.specs.Borrow.{sem};
-ghost use Rattle.wasmi_arena.specs.Table.{items_in};
+ghost use Rattle.wasmi_arena.specs.inner.Table.{items_in};
 ghost use Rattle.wasmi_arena.specs.inner.TableLend.{lends_slot, lends_filled};
 
 use crate::Bucket;

@@ -1,6 +1,6 @@
 //! Items and buckets are taken out of a table.
 ghost use Rattle.std.specs.Prelude.{◌≡◌, ◌+◌, ◌<◌, length, slice_get, slice_index_or, slice_set, IsSome, Some, None};
-ghost use Rattle.wasmi_arena.specs.Table.{items_in, bucket_cut};
+ghost use Rattle.wasmi_arena.specs.inner.Table.{items_in, bucket_cut};
 
 use crate::Bucket;
 use crate::raw::option::unwrap_mut;

@@ -2,7 +2,7 @@
 //! doesn't hand on what a field lends.
 ghost use Rattle.std.specs.Prelude.{◌≡◌};
 ghost use Rattle.std.specs.Borrow.{sem};
-ghost use Rattle.wasmi_arena.specs.Table.{HasBuckets};
+ghost use Rattle.wasmi_arena.specs.inner.Table.{HasBuckets};
 
 use crate::raw::loan::ItemsLoan;
 use crate::{ArenaKey, Bucket, StableArena, StableVec};

@@ -1,6 +1,6 @@
 //! Two items of a table change places.
 ghost use Rattle.std.specs.Prelude.{◌≡◌, ◌≢◌, ◌<◌, length, slice_get, slice_index_or, Some, None};
-ghost use Rattle.wasmi_arena.specs.Table.{items_in, write};
+ghost use Rattle.wasmi_arena.specs.inner.Table.{items_in, write};
 
 use crate::{Bucket, BucketTable};
 use std::alloc::Allocator;

@@ -1,6 +1,5 @@
 //! Calls that add several items to a stable arena, or make one of them.
 ghost use Rattle.std.specs.Prelude.{◌≡◌, ◌+◌, ◌<◌, ◌≤◌, ◌↔◌, ◌⊎◌, List, [], length, IfSome, IsOk, IfOk, OnOk, IfErr, OnErr, IsErrOf, IsOkUnless};
-ghost use Rattle.std.specs.List.{All, AllZip};
 ghost use Rattle.std.specs.Mem.{type_size};
 ghost use Rattle.std.specs.Iterator.{IsFinite, IsFiniteIterable, UpTo, size as count};
 ghost use Rattle.wasmi_arena.specs.Geometry.{max_len, room};

@@ -1,12 +1,9 @@
 //! Adding many default values to a stable vector, all or none.
-ghost use Rattle.std.specs.Prelude.{◌≡◌, ◌+◌, ◌<◌, ◌≤◌, ℕ, min, length, slice_index_or, slice_set, IsOk, IsSome, OnOk, OnErr, IsOkUnless, Some, None};
-ghost use Rattle.std.specs.List.{All};
+ghost use Rattle.std.specs.Prelude.{◌≡◌, ◌+◌, ◌<◌, ◌≤◌, min, length, IsOk, OnOk, OnErr, IsOkUnless, None};
 ghost use Rattle.std.specs.Mem.{type_size};
-ghost use Rattle.std.specs.Option.{ForSome};
-ghost use Rattle.wasmi_arena.specs.Geometry.{size, max_len, fewest, room};
+ghost use Rattle.wasmi_arena.specs.Geometry.{max_len, fewest, room};
 ghost use Rattle.wasmi_arena.specs.Growth.{AppendsMany};
 ghost use Rattle.wasmi_arena.specs.inner.Apart.{AreOpenApart};
-ghost use Rattle.wasmi_arena.specs.Table.{items_in, FillsBucket};
 
 use crate::bucket_table::fill::{fill_bucket, open_apart};
 use crate::bucket_table::take::take_bucket;

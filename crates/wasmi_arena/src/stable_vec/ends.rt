@@ -1,7 +1,5 @@
 //! The first and the last item of a stable vector: read, taken off, and all let go.
-ghost use Rattle.std.specs.Prelude.{◌≡◌, ◌↔◌, ◌+◌, ◌-◌, ◌<◌, [], ◌++◌, length, take, option_copied, option_to_list, slice_get, slice_index_or, slice_set, IsSome, Some, None};
-ghost use Rattle.wasmi_arena.specs.Geometry.{IsPlace, fewest};
-ghost use Rattle.wasmi_arena.specs.Table.{items_in, bucket_cut};
+ghost use Rattle.std.specs.Prelude.{◌≡◌, ◌↔◌, ◌+◌, ◌-◌, ◌<◌, [], ◌++◌, length, take, option_copied, option_to_list, slice_get, IsSome, Some, None};
 
 use crate::bucket_table::take::pop_from;
 use crate::geometry::{buckets_before, place, start_of};

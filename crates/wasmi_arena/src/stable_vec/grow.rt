@@ -1,12 +1,9 @@
 //! Calls that add several items to a stable vector, or make one of them.
-ghost use Rattle.std.specs.Prelude.{◌≡◌, ◌+◌, ◌<◌, ◌≤◌, List, [], ◌++◌, length, slice_index_or, IsSome, None, IfSome, IsOk, IfOk, OnOk, IfErr, IsOkUnless};
-ghost use Rattle.std.specs.List.{All, AllZip};
+ghost use Rattle.std.specs.Prelude.{◌≡◌, ◌+◌, ◌<◌, ◌≤◌, List, [], ◌++◌, length, None, IfSome, IfOk, OnOk, IfErr, IsOkUnless};
 ghost use Rattle.std.specs.Mem.{type_size};
 ghost use Rattle.std.specs.Iterator.{IsFinite, IsFiniteIterable, UpTo, size as count};
-ghost use Rattle.std.specs.Option.{ForSome};
 ghost use Rattle.wasmi_arena.specs.Geometry.{size, max_len, fewest, slots, room};
-ghost use Rattle.wasmi_arena.specs.Growth.{Came, RefusesOneMore, TakesAll, TakesSome, TakesUntilRefused};
-ghost use Rattle.wasmi_arena.specs.Table.{items_in, FillsBucket};
+ghost use Rattle.wasmi_arena.specs.Growth.{RefusesOneMore, TakesAll, TakesSome, TakesUntilRefused};
 
 use crate::bucket_table::fill::fill_bucket_from;
 use crate::geometry::{place_in_last, start_of};

@@ -32,7 +32,7 @@ impl<T, A: Allocator> Model for StableVecIntoIter<T, A> {
 
     ghost Value = { List T };
 
-    ghost use Rattle.wasmi_arena.specs.Table.{items_of};
+    ghost use Rattle.wasmi_arena.specs.inner.Table.{items_of};
     ghost use Rattle.wasmi_arena.specs.inner.Ahead.{IsAhead, in_hand};
 
     ghost view = { λ it. in_hand it.front ++ items_of (array_into_iter_items it.buckets) ++ in_hand it.back };

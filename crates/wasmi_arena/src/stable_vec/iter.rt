@@ -28,7 +28,7 @@ impl<'a, T, A: Allocator> Model for StableVecIter<'a, T, A> {
 
     ghost Value = { List T };
 
-    ghost use Rattle.wasmi_arena.specs.Table.{items_of};
+    ghost use Rattle.wasmi_arena.specs.inner.Table.{items_of};
     ghost use Rattle.wasmi_arena.specs.inner.Ahead.{IsAhead};
 
     ghost view = { λ it. iter_rest it.front ++ items_of (iter_rest it.buckets) ++ iter_rest it.back };

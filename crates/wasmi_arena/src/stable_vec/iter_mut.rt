@@ -3,7 +3,7 @@ ghost use Rattle.std.specs.Prelude.{◌≡◌, length};
 ghost use Rattle.std.specs.Iterator.{YieldsFirstMut, YieldsLastMut, item_count};
 ghost use Rattle.wasmi_arena.specs.Geometry.{fewest};
 ghost use Rattle.wasmi_arena.specs.IterMut.{left, loan_of};
-ghost use Rattle.wasmi_arena.specs.Table.{items_of, HasBuckets};
+ghost use Rattle.wasmi_arena.specs.inner.Table.{items_of, HasBuckets};
 
 use super::StableVecSlicesMut;
 use crate::ItemsLoan;

@@ -1,5 +1,5 @@
 //! Two items of a stable vector at once.
-ghost use Rattle.std.specs.Prelude.{◌≡◌, ◌≢◌, ◌<◌, ◌≤◌, ◌↔◌, ◌⊎◌, ℕ, [], ◌∷◌, length, IfOk, IfErr, OnOk, OnErr, IsOk, IsErrOf, slice_get, Some};
+ghost use Rattle.std.specs.Prelude.{◌≡◌, ◌≢◌, ◌<◌, ◌≤◌, ◌↔◌, ◌⊎◌, ℕ, [], ◌∷◌, length, IfOk, IfErr, OnOk, OnErr, IsErrOf, slice_get, Some};
 ghost use Rattle.std.specs.Borrow.{sem};
 ghost use Rattle.wasmi_arena.specs.Pairs.{PairAnswer, AreNumbers};
 ghost use Rattle.std.specs.List.{swap};

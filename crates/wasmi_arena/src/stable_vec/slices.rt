@@ -23,7 +23,7 @@ impl<'a, T, A: Allocator> Model for StableVecSlices<'a, T, A> {
 
     ghost Value = { List (List T) };
 
-    ghost use Rattle.wasmi_arena.specs.Table.{items_in, AreFilled};
+    ghost use Rattle.wasmi_arena.specs.inner.Table.{items_in, AreFilled};
 
     ghost view = { λ it. map items_in (iter_rest it.buckets) };
 

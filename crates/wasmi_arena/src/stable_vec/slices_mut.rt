@@ -4,7 +4,7 @@ ghost use Rattle.std.specs.Iterator.{YieldsFirstMut, YieldsLastMut, item_count};
 ghost use Rattle.wasmi_arena.specs.Geometry.{fewest};
 ghost use Rattle.wasmi_arena.specs.IterMut.{left, loan_of};
 ghost use Rattle.wasmi_arena.specs.StableVec.{filled_parts};
-ghost use Rattle.wasmi_arena.specs.Table.{items_of, HasBuckets};
+ghost use Rattle.wasmi_arena.specs.inner.Table.{items_of, HasBuckets};
 
 use crate::ItemsLoan;
 use std::alloc::{Allocator, Global};

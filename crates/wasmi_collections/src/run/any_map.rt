@@ -1,5 +1,5 @@
 //! What all maps have in common.
-ghost use Rattle.std.specs.Prelude.{◌≡◌, Bool, List, [], length, IfOk, IfErr, None, is_some};
+ghost use Rattle.std.specs.Prelude.{◌≡◌, Bool, List, [], length, IfOk, IfErr, is_some};
 ghost use Rattle.wasmi_map_specs.specs.Maps.{value_at};
 ghost use Rattle.wasmi_collections.specs.MapCalls.{PutsValue, TakesValue, AddsValue, RefusesKey};
 

@@ -1,6 +1,5 @@
 //! Calls that add several items to an arena in one vector, or make one of them.
-ghost use Rattle.std.specs.Prelude.{◌≡◌, ℕ, ◌+◌, ◌<◌, ◌≤◌, ◌↔◌, ◌⊎◌, List, [], ◌∷◌, ◌++◌, length, IsOk, IfOk, OnOk, IfErr, OnErr, IsErrOf, IsOkUnless};
-ghost use Rattle.std.specs.List.{All, AllZip};
+ghost use Rattle.std.specs.Prelude.{◌≡◌, ◌+◌, ◌<◌, ◌≤◌, ◌↔◌, ◌⊎◌, List, [], ◌∷◌, ◌++◌, length, IsOk, IfOk, OnOk, IfErr, OnErr, IsErrOf};
 ghost use Rattle.std.specs.Iterator.{IsFiniteIterable};
 ghost use Rattle.wasmi_arena.specs.Growth.{TakesAll, TakesUntilRefused, AppendsMany};
 ghost use Rattle.wasmi_dense.specs.Arena.{state_of};

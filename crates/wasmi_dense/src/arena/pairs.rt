@@ -1,5 +1,5 @@
 //! Two items of an arena in one vector at once.
-ghost use Rattle.std.specs.Prelude.{◌≡◌, ◌≢◌, ◌<◌, ◌≤◌, ◌↔◌, ◌⊎◌, [], ◌∷◌, length, IfOk, IfErr, IsErrOf, slice_get, slice_set, Some};
+ghost use Rattle.std.specs.Prelude.{◌≡◌, ◌<◌, ◌≤◌, ◌↔◌, ◌⊎◌, [], ◌∷◌, length, IfOk, IfErr, IsErrOf, slice_get, slice_set, Some};
 ghost use Rattle.std.specs.Borrow.{sem, Array};
 ghost use Rattle.wasmi_arena.specs.Pairs.{AreNumbers, LendsBothIfOk};
 ghost use Rattle.wasmi_dense.specs.ArenaLend.{lends_all};

@@ -1,9 +1,8 @@
 //! Two items of a loan at once.
-ghost use Rattle.std.specs.Prelude.{◌≡◌, ◌≢◌, ◌<◌, ◌≤◌, length, slice_get, slice_index_or, Some, None};
+ghost use Rattle.std.specs.Prelude.{◌≡◌, ◌≢◌, ◌<◌, length, slice_get, slice_index_or, Some, None};
 ghost use Rattle.std.specs.Borrow.{sem};
-ghost use Rattle.wasmi_arena.specs.Geometry.{IsPlace, max_len};
 ghost use Rattle.wasmi_arena.specs.inner.LoanLend.{lends_slots, lends_pair};
-ghost use Rattle.wasmi_arena.specs.Table.{items_in, items_of, HasBuckets};
+ghost use Rattle.wasmi_arena.specs.inner.Table.{items_in, items_of, HasBuckets};
 
 use super::ItemsLoan;
 use crate::Bucket;

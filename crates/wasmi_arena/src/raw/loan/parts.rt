@@ -3,8 +3,7 @@ ghost use Rattle.std.specs.Prelude.{◌≡◌, ◌≤◌, length, slice_index_or
 ghost use Rattle.std.specs.Borrow.{sem};
 ghost use Rattle.wasmi_arena.specs.inner.LoanLend.{lends_bucket};
 ghost use Rattle.wasmi_arena.specs.inner.LoanParts.{IsCut};
-ghost use Rattle.wasmi_arena.specs.Table.{items_in, items_of, AreFilled};
-ghost use Rattle.wasmi_arena.specs.inner.TableLend.{lends_filled};
+ghost use Rattle.wasmi_arena.specs.inner.Table.{items_in, items_of, AreFilled};
 
 use super::ItemsLoan;
 use crate::Bucket;

@@ -35,7 +35,7 @@ use Rattle.core.proofs.ptr.Rows.{el_out, el_in}
 use Rattle.core.proofs.slots.Leases.{uncapped}
 use Rattle.std_alloc.proofs.VecSteps.Shapes.{after as rest_of}
 use Rattle.std.specs.Mem.{type_size}
-use Rattle.wasmi_arena.specs.Table.{items_in, write}
+use Rattle.wasmi_arena.specs.inner.Table.{items_in, write}
 use Rattle.wasmi_arena.specs.contracts.bucket_table.BucketTable.swap as F
 use Rattle.wasmi_arena.proofs.bucket_table.BucketTable.swap.Statement.{statement}
 use Rattle.wasmi_arena.proofs.bucket_table.BucketTable.swap.Code as code

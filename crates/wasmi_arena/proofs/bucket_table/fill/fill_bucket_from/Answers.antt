@@ -1,6 +1,6 @@
 use Rattle.std.proofs.Common.{◌≡◌, ◌++◌, Some, None, length, get_or, ◌∙◌, ap, arith, slice_set, length-append}
 use Rattle.wasmi_arena.specs.Bucket.{bucket}
-use Rattle.wasmi_arena.specs.Table.{bucket_filled}
+use Rattle.wasmi_arena.specs.inner.Table.{bucket_filled}
 use Rattle.wasmi_arena.specs.Geometry.{size}
 use Rattle.wasmi_arena.proofs.Table.{read_there}
 use Rattle.wasmi_arena.proofs.bucket_table.fill.fill_bucket_from.Goals as goal

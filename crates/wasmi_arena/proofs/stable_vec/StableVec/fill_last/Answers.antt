@@ -1,6 +1,6 @@
 use Rattle.std.proofs.Common.{arith, ◌<◌, ◌++◌, ◌∙◌, ap}
 use Rattle.std.proofs.Math.Nat.{lt_of_lt_of_le}
-use Rattle.wasmi_arena.specs.Table.{items_of}
+use Rattle.wasmi_arena.specs.inner.Table.{items_of}
 use Rattle.wasmi_arena.proofs.LaidOut.{first_free, open_size, place-open, len-le_slots, slots-le_max, fits-last, items_of-fill, IsLaidOut-fill}
 use Rattle.wasmi_arena.proofs.stable_vec.StableVec.fill_last.Goals as goal
 

@@ -2,7 +2,7 @@ use Rattle.std.proofs.Common.{arith, ◌≡◌, ◌<◌, ◌++◌, length, ◌�
 use Rattle.std.proofs.Math.Nat.{lt_of_lt_of_le}
 use Rattle.std.proofs.Math.Numerals.{lt_of_le_of_ne}
 use Rattle.wasmi_arena.specs.Geometry.{start}
-use Rattle.wasmi_arena.specs.Table.{items_of}
+use Rattle.wasmi_arena.specs.inner.Table.{items_of}
 use Rattle.wasmi_arena.proofs.Apart.{len_is, open_is}
 use Rattle.wasmi_arena.proofs.LaidOut.{first_free, open_size, place-open, len-le_slots, slots-le_max, free-last, items_of-fill, IsLaidOut-fill}
 use Rattle.wasmi_arena.proofs.Doubling.{place_fits}

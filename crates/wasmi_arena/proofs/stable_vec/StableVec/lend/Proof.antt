@@ -34,7 +34,7 @@ use Rattle.core.specs.declared.option.Option.{Option}
 use Rattle.wasmi_arena.specs.Bucket.{Bucket}
 use Rattle.wasmi_arena.specs.Geometry.{max_len}
 use Rattle.wasmi_arena.specs.inner.Loan.{SameBuckets}
-use Rattle.wasmi_arena.specs.Table.{items_of, IsTable}
+use Rattle.wasmi_arena.specs.inner.Table.{items_of, IsTable}
 use Rattle.wasmi_arena.specs.contracts.stable_vec.StableVec.lend as F
 use Rattle.wasmi_arena.proofs.stable_vec.StableVec.lend.Statement.{statement}
 use Rattle.wasmi_arena.proofs.stable_vec.StableVec.lend.Code as code

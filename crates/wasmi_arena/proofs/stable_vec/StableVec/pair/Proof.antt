@@ -33,7 +33,7 @@ use denote.Triple.Table.{framed}
 use denote.Triple.Walked.{Stays, walk_of, stay_dropped, Goes-spent_ref, Goes-dropped, ends_at}
 use Rattle.core.proofs.alloc.Calls.{Al}
 use Rattle.core.proofs.mem.Param.{El, R}
-use Rattle.wasmi_arena.specs.Table.{items_of, HasBuckets}
+use Rattle.wasmi_arena.specs.inner.Table.{items_of, HasBuckets}
 use Rattle.wasmi_arena.specs.contracts.stable_vec.StableVec.pair as F
 use Rattle.wasmi_arena.specs.contracts.stable_vec.StableVec.lend as All
 use Rattle.wasmi_arena.specs.contracts.raw.loan.ItemsLoan.pair as Both

@@ -41,7 +41,7 @@ use Rattle.core.proofs.mem.Param.{El, R}
 use Rattle.core.proofs.slots.Leases.{uncapped, P}
 use Rattle.std_alloc.proofs.VecSteps.Shapes.{after as rest_of}
 use Rattle.wasmi_arena.specs.inner.Loan.{SameBuckets, loan_owns}
-use Rattle.wasmi_arena.specs.Table.{items_of, items_in, with_items, write_all}
+use Rattle.wasmi_arena.specs.inner.Table.{items_of, items_in, with_items, write_all}
 use Rattle.wasmi_arena.specs.contracts.raw.loan.ItemsLoan.bucket as F
 use Rattle.wasmi_arena.specs.contracts.bucket_table.lend.items_mut as Call
 use Rattle.wasmi_arena.proofs.bucket_table.lend.items_mut.Met as Lends

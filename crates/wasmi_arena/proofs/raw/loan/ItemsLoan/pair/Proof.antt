@@ -37,7 +37,7 @@ use denote.Triple.Walked.{Stays, walk_of, stay_dropped, Goes-dropped, ends_at}
 use Rattle.core.proofs.alloc.Calls.{Al, Goes-blank}
 use Rattle.core.proofs.mem.Param.{El, R}
 use Rattle.wasmi_arena.specs.Geometry.{IsPlace, max_len}
-use Rattle.wasmi_arena.specs.Table.{items_of, items_in, write, HasBuckets}
+use Rattle.wasmi_arena.specs.inner.Table.{items_of, items_in, write, HasBuckets}
 use Rattle.wasmi_arena.specs.contracts.raw.loan.ItemsLoan.pair as F
 use Rattle.wasmi_arena.specs.contracts.raw.loan.ItemsLoan.pair_slots as Slots
 use Rattle.wasmi_arena.specs.contracts.geometry.two_places as Places

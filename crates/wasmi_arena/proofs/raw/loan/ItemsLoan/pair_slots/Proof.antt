@@ -38,7 +38,7 @@ use Rattle.core.proofs.slots.Leases.{uncapped, P}
 use Rattle.std_alloc.proofs.VecSteps.Shapes.{after as rest_of}
 use Rattle.std.specs.Mem.{type_size}
 use Rattle.wasmi_arena.specs.inner.Loan.{SameBuckets, loan_owns}
-use Rattle.wasmi_arena.specs.Table.{items_in, items_of, write}
+use Rattle.wasmi_arena.specs.inner.Table.{items_in, items_of, write}
 use Rattle.wasmi_arena.specs.contracts.raw.loan.ItemsLoan.pair_slots as F
 use Rattle.wasmi_arena.proofs.raw.loan.ItemsLoan.pair_slots.Statement.{statement}
 use Rattle.wasmi_arena.proofs.raw.loan.ItemsLoan.pair_slots.Code as code

@@ -1,6 +1,6 @@
 use Rattle.std.proofs.Common.{◌∙◌, [], ◌∷◌, ◌++◌, sym, ap, subst}
 use Rattle.std.specs.Array.Iter.{array_into_iter_items}
-use Rattle.wasmi_arena.specs.Table.{AreFilled}
+use Rattle.wasmi_arena.specs.inner.Table.{AreFilled}
 use Rattle.wasmi_arena.proofs.Table.{filled_last_open}
 use Rattle.wasmi_arena.proofs.Taken.{all_left, last_taken, last_taken_counted, last_taken_ahead, taken_before, taken_before_ahead}
 use Rattle.wasmi_arena.proofs.Ahead.{progress_last}

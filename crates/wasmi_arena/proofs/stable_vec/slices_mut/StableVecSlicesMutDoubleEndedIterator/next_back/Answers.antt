@@ -1,6 +1,6 @@
 use Rattle.std.proofs.Common.{rules, ◌∷◌, [], ◌++◌, List, refl, sym, ap, ◌∙◌, map}
 use Rattle.wasmi_arena.specs.IterMut.{left}
-use Rattle.wasmi_arena.specs.Table.{items_in}
+use Rattle.wasmi_arena.specs.inner.Table.{items_in}
 use Rattle.wasmi_arena.proofs.Loans.{back_filled, front_left, back_last}
 use Rattle.wasmi_arena.proofs.stable_vec.slices_mut.StableVecSlicesMutDoubleEndedIterator.next_back.Goals as goal
 

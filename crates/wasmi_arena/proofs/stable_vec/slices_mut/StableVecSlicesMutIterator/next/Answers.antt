@@ -1,6 +1,6 @@
 use Rattle.std.proofs.Common.{◌∷◌, List, refl, sym, ap, ◌∙◌, map}
 use Rattle.wasmi_arena.specs.IterMut.{left}
-use Rattle.wasmi_arena.specs.Table.{items_in}
+use Rattle.wasmi_arena.specs.inner.Table.{items_in}
 use Rattle.wasmi_arena.proofs.Loans.{front_filled, back_left, front_first}
 use Rattle.wasmi_arena.proofs.stable_vec.slices_mut.StableVecSlicesMutIterator.next.Goals as goal
 
