@@ -3,8 +3,8 @@ ghost use Rattle.std.specs.Prelude.{◌≡◌, false};
 
 use wasmi_arena::StableArena;
 
-/// Adds one item to another, and leaves 0 in its place. Returns `false` where the keys are one or one
-/// of them reads nothing, and then nothing changes. Constant time.
+/// Adds one item to another, modulo 2^64, and leaves 0 in its place. Returns `false` where the keys are
+/// one or one of them reads nothing, and then nothing changes. Constant time.
 pub fn transfer(arena: &mut StableArena<u32, u64>, from: u32, to: u32) -> bool
     ensures refused { result ≡ false → arena.new ≡ arena.old }
 {

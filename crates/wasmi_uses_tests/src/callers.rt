@@ -19,7 +19,7 @@ use wasmi_uses::properties::set_once;
 use wasmi_uses::reserve::put_both;
 use wasmi_uses::search::{position_of, push_and_find};
 use wasmi_uses::spawn::spawn;
-use wasmi_uses::store::FuncStore;
+use wasmi_uses::store::{FuncId, FuncStore};
 use wasmi_uses::symbols::{Symbols, intern_both};
 use wasmi_uses::tables::{add_once, add_once_hashed, reset, reset_all, settle};
 use wasmi_uses::transfer::transfer;
@@ -46,23 +46,47 @@ fn symbols_of_three_names(rt: HostRuntime) {
     assert_equal!(rt; intern_both(&mut symbols, rt.alloc(), "", "start").expect(&rt, ""), (2, 3));
 }
 
+// Numbers without order, the greatest there is among them.
+fn number(place: u64) -> u64 {
+    if place == 9 {
+        u64::MAX
+    } else {
+        place.wrapping_mul(37) % 64
+    }
+}
+
 #[test]
 fn look_ups_by_the_keys_of_a_walk(rt: HostRuntime) {
-    let mut one: StableArena<u32, u64> = StableArena::new(rt.alloc());
-    for i in 0..40u64 {
-        one.alloc(i * 2).expect(&rt, "");
+    for len in 0..70u64 {
+        let made = StableArena::from_iter(rt.alloc(), (0..len).map(number));
+        let one: StableArena<u32, u64> = made.expect(&rt, "");
+        for limit in (0..66).chain([u64::MAX - 1, u64::MAX]) {
+            let mut want = None;
+            for place in 0..len {
+                if want.is_none() && number(place) > limit {
+                    want = Some((place as u32, number(place)));
+                }
+            }
+            assert_equal!(rt; first_above(&one, limit), want, "{limit} of {len}");
+        }
+        // The other one has an item more, which doesn't count.
+        for place in 0..=len as u32 {
+            let mut other = one.clone().expect(&rt, "");
+            other.alloc(0).expect(&rt, "");
+            other.put(place, 64).expect(&rt, "");
+            if one.len() <= other.len() {
+                assert_equal!(rt; any_differs(&one, &other), (place as u64) < len, "{place} of {len}");
+            }
+        }
     }
-    let mut other = one.clone().expect(&rt, "");
-    if one.len() <= other.len() {
-        assert!(rt; !any_differs(&one, &other));
-    }
-    other.put(35, 1).expect(&rt, "");
-    if one.len() <= other.len() {
-        assert!(rt; any_differs(&one, &other));
-    }
-    assert_equal!(rt; (first_above(&one, 65), first_above(&one, 78)), (Some((33, 66)), None));
-    assert_equal!(rt; read(&one, 39).ok(), Some(78));
-    let text = match read(&one, 40) {
+}
+
+#[test]
+fn a_key_that_fails_is_named(rt: HostRuntime) {
+    let made = StableArena::from_iter(rt.alloc(), 0..40u64);
+    let arena: StableArena<u32, u64> = made.expect(&rt, "");
+    assert_equal!(rt; (read(&arena, 0).ok(), read(&arena, 39).ok()), (Some(0), Some(39)));
+    let text = match read(&arena, 40) {
         Ok(_) => String::new(rt.alloc()),
         Err(error) => format!(in rt.alloc(); "{error:#}").expect(&rt, ""),
     };
@@ -124,8 +148,13 @@ fn a_table_of_counts(rt: HostRuntime) {
     }
     assert_equal!(rt; (reset(&mut counts, &7), reset(&mut counts, &9)), (Some(3), None));
     assert_equal!(rt; (counts.get(&7), counts.get(&8)), (Some(&0), Some(&4)));
-    assert_equal!(rt; reset_all(&mut counts), 2);
-    assert_equal!(rt; (counts.get(&7), counts.get(&8)), (Some(&0), Some(&0)));
+    for key in 0..200u32 {
+        counts.insert(key, u64::MAX >> (key % 64)).expect(&rt, "");
+    }
+    assert_equal!(rt; reset_all(&mut counts), 200);
+    for key in 0..200u32 {
+        assert_equal!(rt; counts.get(&key), Some(&0), "of {key}");
+    }
 }
 
 #[test]
@@ -219,6 +248,8 @@ fn a_constant_has_one_slot(rt: HostRuntime) {
     assert_equal!(rt; (share_a_slot(&mut table, 7, 8), share_a_slot(&mut table, 8, 8)), (Ok(false), Ok(true)));
     assert_equal!(rt; slot_again(&mut table, 8, 9), Ok((1, 1)));
     assert_equal!(rt; (in_its_slot(&mut table, 9), table.len()), (Ok(9), 3));
+    table.put(2, 4).expect(&rt, "");
+    assert_equal!(rt; (in_its_slot(&mut table, 9), in_its_slot(&mut table, 4)), (Ok(4), Ok(4)));
 }
 
 #[test]
@@ -229,6 +260,7 @@ fn a_folded_constant_has_one_slot(rt: HostRuntime) {
     for (slot, folded, want) in [(0, 43, 0), (1, 42, 2), (2, 42, 2)] {
         assert_equal!(rt; fold(&mut table, slot, folded).expect(&rt, ""), want, "{folded} at {slot}");
     }
+    assert_equal!(rt; (table.get(0), table.get(1)), (Ok(&43), Ok(&2)));
     assert!(rt; fold(&mut table, 3, 1).is_err());
     for (slot, item) in [43, 2, 42, 40].iter().enumerate() {
         assert_equal!(rt; table.alloc(*item).expect(&rt, ""), slot as u32);
@@ -241,7 +273,9 @@ fn tables_of_a_module(rt: HostRuntime) {
     let (first, symbol) = tables.declare("start", 7).expect(&rt, "");
     let (second, other) = tables.declare("stop", 9).expect(&rt, "");
     assert!(rt; first != second && symbol != other);
+    assert_equal!(rt; tables.name_and_line(first), Some((symbol, Some(7))));
     assert_equal!(rt; tables.name_and_line(second), Some((other, Some(9))));
+    assert_equal!(rt; tables.name_and_line(FuncId::from_u32(2)), None);
     for (constant, slot) in [(40, 0), (2, 1), (40, 0)] {
         assert_equal!(rt; tables.constant(constant).expect(&rt, ""), slot);
     }
@@ -271,19 +305,22 @@ fn an_entity_has_a_property_at_once(rt: HostRuntime) {
     assert_equal!(rt; store.get(key), Ok(("ann", "cat", Some(7))));
 }
 
+// From each to each of four, and past them.
 #[test]
 fn two_items_are_written_at_once(rt: HostRuntime) {
-    let mut arena: StableArena<u32, u64> = StableArena::new(rt.alloc());
-    for i in 0..40u64 {
-        arena.alloc(i).expect(&rt, "");
-    }
-    for (from, to, done, source, target) in [
-        (39, 3, true, Some(0), Some(42)),
-        (3, 4, true, Some(0), Some(46)),
-        (5, 5, false, Some(5), Some(5)),
-        (5, 40, false, Some(5), None),
-    ] {
-        assert_equal!(rt; transfer(&mut arena, from, to), done);
-        assert_equal!(rt; (arena.get(from).ok(), arena.get(to).ok()), (source.as_ref(), target.as_ref()));
+    let items = [1, u64::MAX, 5 << 40, 1 << 63];
+    for from in 0..6u32 {
+        for to in 0..6u32 {
+            let made = StableArena::from_iter(rt.alloc(), items);
+            let mut arena: StableArena<u32, u64> = made.expect(&rt, "");
+            let mut want = items;
+            let is_done = from != to && from < 4 && to < 4;
+            if is_done {
+                want[to as usize] = want[to as usize].wrapping_add(want[from as usize]);
+                want[from as usize] = 0;
+            }
+            assert_equal!(rt; transfer(&mut arena, from, to), is_done, "{from} to {to}");
+            assert!(rt; arena.values().copied().eq(want), "{from} to {to}");
+        }
     }
 }
