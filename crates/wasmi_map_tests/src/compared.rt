@@ -11,8 +11,9 @@ use wasmi_vectors::noted::{Noted, Notes};
 fn compares_as_a_read<'a>(
     map: &mut Map<Noted<'a>, u32>,
     set: &mut Set<Noted<'a>>,
+    same: &mut Set<Noted<'a>>,
     notes: &Notes,
-    key: (Noted<'a>, Noted<'a>),
+    key: (Noted<'a>, Noted<'a>, Noted<'a>),
 ) -> Result<bool, ArenaError> {
     let _there = map.contains_key(&key.0);
     let read = notes.compared();
@@ -22,7 +23,9 @@ fn compares_as_a_read<'a>(
     let found = notes.compared();
     set.replace(key.1)?;
     let replaced = notes.compared();
-    Ok(inserted == read && (replaced == found || !there && replaced == found.wrapping_mul(2)))
+    same.insert(key.2)?;
+    let is_one = inserted == read && notes.compared() == found;
+    Ok(is_one && (replaced == found || !there && replaced == found.wrapping_mul(2)))
 }
 
 #[test]
@@ -30,11 +33,16 @@ fn a_call_compares_as_a_read_does(rt: HostRuntime) {
     let notes = Notes::new();
     let mut map: Map<Noted<'_>, u32> = Map::new(rt.alloc());
     let mut set: Set<Noted<'_>> = Set::new(rt.alloc());
+    let mut same: Set<Noted<'_>> = Set::new(rt.alloc());
     for number in 0..80u32 {
         let key = number / 2;
-        let keys = (Noted::new(key, &notes), Noted::new(key, &notes));
+        let keys = (
+            Noted::new(key, &notes),
+            Noted::new(key, &notes),
+            Noted::new(key, &notes),
+        );
         assert!(rt;
-            compares_as_a_read(&mut map, &mut set, &notes, keys).expect(&rt, ""),
+            compares_as_a_read(&mut map, &mut set, &mut same, &notes, keys).expect(&rt, ""),
             "of {number}"
         );
     }
@@ -175,6 +183,69 @@ fn a_call_searches_once(rt: HostRuntime) {
     }
 }
 
+// Whether one of nine calls finds a key.
+macro_rules! finds {
+    ($map:ident, $set:ident, $call:ident, $key:ident) => {
+        match $call {
+            0 => $map.get($key).is_some(),
+            1 => $map.get_mut($key).is_some(),
+            2 => $map.get_key_value($key).is_some(),
+            3 => $map.remove($key).is_some(),
+            4 => $map.remove_entry($key).is_some(),
+            5 => $set.contains($key),
+            6 => $set.get($key).is_some(),
+            7 => $set.remove($key),
+            _ => $set.take($key).is_some(),
+        }
+    };
+}
+
+fn finds_hashed<'a>(
+    map: &mut hashed::Map<Noted<'a>, u32>,
+    set: &mut hashed::Set<Noted<'a>>,
+    call: u32,
+    key: &Noted<'a>,
+) -> bool {
+    finds!(map, set, call, key)
+}
+
+fn finds_ordered<'a>(
+    map: &mut Map<Noted<'a>, u32>,
+    set: &mut Set<Noted<'a>>,
+    call: u32,
+    key: &Noted<'a>,
+) -> bool {
+    finds!(map, set, call, key)
+}
+
+#[test]
+fn a_look_hashes_or_searches_once(rt: HostRuntime) {
+    let notes = Notes::new();
+    for call in 0..9 {
+        for number in [0, 57, 99, 100] {
+            let mut map: Map<Noted<'_>, u32> = Map::new(rt.alloc());
+            let mut hashed_map: hashed::Map<Noted<'_>, u32> = hashed::Map::new(rt.alloc());
+            for key in 0..100u32 {
+                map.insert(Noted::new(key, &notes), key).expect(&rt, "");
+                hashed_map
+                    .insert(Noted::new(key, &notes), key)
+                    .expect(&rt, "");
+            }
+            let mut set = elements(rt.alloc(), 0, 100, &notes).expect(&rt, "");
+            let mut hashed_set = hashed_elements(rt.alloc(), 0, 100, &notes).expect(&rt, "");
+            let key = Noted::new(number, &notes);
+            notes.hashed();
+            let is_there = finds_hashed(&mut hashed_map, &mut hashed_set, call, &key);
+            assert_equal!(rt; (is_there, notes.hashed()), (number < 100, 1), "{call} of {number}");
+            notes.compared();
+            map.contains_key(&key);
+            let read = notes.compared();
+            let is_there = finds_ordered(&mut map, &mut set, call, &key);
+            assert_equal!(rt; (is_there, notes.compared()), (number < 100, read), "{call} of {number}");
+        }
+    }
+}
+
 // A read, an index and a `try_insert` of a hashed map, of a key that is there or isn't; `replace` of an element that is.
 #[test]
 fn a_call_hashes_once(rt: HostRuntime) {
@@ -229,6 +300,16 @@ fn maps_are_gone_over_once(rt: HostRuntime) {
     (notes.compared(), notes.hashed());
     assert_equal!(rt; (one == copy, notes.compared()), (true, 100));
     assert_equal!(rt; (hashed_one == hashed_copy, notes.hashed()), (true, 100));
+    let (set, other) = (
+        elements(rt.alloc(), 0, 100, &notes),
+        elements(rt.alloc(), 0, 100, &notes),
+    );
+    notes.compared();
+    assert_equal!(rt; (set == other, notes.compared()), (true, 100));
+    let set = hashed_elements(rt.alloc(), 0, 100, &notes);
+    let other = hashed_elements(rt.alloc(), 0, 100, &notes);
+    notes.hashed();
+    assert_equal!(rt; (set == other, notes.hashed()), (true, 100));
 }
 
 // The hashed set of the elements from one number on, so many of them.

@@ -81,6 +81,12 @@ fn reserved_room_needs_no_memory(rt: HostRuntime) {
                 go_in(&mut map, &mut set, held, more),
                 "{more} after {held}"
             );
+            let left = (
+                map.capacity().saturating_sub(map.len()),
+                set.capacity().saturating_sub(set.len()),
+            );
+            let reserved = (map.reserve(left.0), set.reserve(left.1));
+            assert_equal!(rt; reserved, (Ok(()), Ok(())), "{left:?} of {held}");
         }
     }
 }
