@@ -10,6 +10,8 @@ mod head_vec;
 #[cfg(test)]
 mod interner_runs;
 #[cfg(test)]
+mod large_runs;
+#[cfg(test)]
 mod places;
 #[cfg(test)]
 mod printed;

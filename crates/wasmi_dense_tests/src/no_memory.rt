@@ -69,6 +69,9 @@ fn room_that_was_made_suffices(rt: HostRuntime) {
         let last = held.wrapping_add(more).wrapping_sub(1);
         let set = (components.set(last, 7), components.unset(last));
         assert_equal!(rt; (arena.reserve(more), set), (Ok(()), (Ok(None), Some(7))));
+        // A block that grows is twice as large at most, or as large as it must be.
+        let most = more.wrapping_add(held.wrapping_mul(4)).wrapping_add(8);
+        assert_equal!(rt; arena.room() <= most, true, "{held} {more}");
         let handle = Observed::new(rt.alloc(), &log);
         let mut of_capacity: Arena<usize, u64, Observed<'_>> = Arena::with_capacity(
             handle, more,

@@ -76,3 +76,25 @@ fn small_modules_ask_for_little_memory(rt: HostRuntime) {
         log.bytes()
     );
 }
+
+// Of twice as many modules, which import as they go, twice as many bytes and some.
+#[test]
+fn memory_is_linear_in_the_report(rt: HostRuntime) {
+    let mut bytes = [0, 0];
+    for (turn, count) in [200, 400].into_iter().enumerate() {
+        let mut files = Vec::new(rt.alloc());
+        for _ in 0..count {
+            files
+                .push(File {
+                    path: "m.wasm",
+                    bytes: SELF,
+                })
+                .or_abort(&rt);
+        }
+        let log = Log::new();
+        let outcome = link(Logged::new(rt.alloc(), &log), &files).or_abort(&rt);
+        assert!(rt; outcome.text.len() > count);
+        bytes[turn] = log.bytes();
+    }
+    assert!(rt; bytes[1] < bytes[0].saturating_mul(3), "{bytes:?}");
+}

@@ -1,4 +1,4 @@
-//! Long names, many items, a large section that is stepped over, and a count of items that aren't there.
+//! Long names, none, many items, a large section that is stepped over, and a count of items that aren't there.
 use crate::or_abort::OrAbort;
 use std::alloc::{AllocError, Global};
 use wasmi_module::{DecodeError, Expected, decode};
@@ -74,4 +74,31 @@ fn numbers_at_their_ends(rt: HostRuntime) {
     let module = decode(rt.alloc(), bytes).or_abort(&rt);
     let text = format!(in rt.alloc(); "{:?} {:?}", module.memories, module.globals).or_abort(&rt);
     assert!(rt; text.as_str().contains("max: Some(65536)") && text.as_str().contains("I32(-1)"));
+}
+
+// A module of a memory that is exported under no name, 38 names of a byte, and one more.
+fn exports(alloc: Global, last: u8) -> Result<Vec<u8>, AllocError> {
+    let mut bytes = Vec::new(alloc);
+    bytes.extend_from_slice(b"\0asm\x01\0\0\0\x05\x03\x01\0\x02\x07\xa0\x01\x28\0\x02\0")?;
+    for name in b' '..b'F' {
+        bytes.extend_from_slice(&[1, name, 2, 0])?;
+    }
+    bytes.extend_from_slice(&[1, last, 2, 0])?;
+    Ok(bytes)
+}
+
+#[test]
+fn many_exports_have_names_of_their_own(rt: HostRuntime) {
+    let bytes = exports(rt.alloc(), b'~').or_abort(&rt);
+    let module = decode(rt.alloc(), bytes.as_slice()).or_abort(&rt);
+    let mut names = module.exports.iter().map(|export| export.name);
+    assert_equal!(rt; (names.next(), names.next(), names.next_back(), names.len()), (Some(""), Some(" "), Some("~"), 37));
+    for last in [b' ', b'E'] {
+        let bytes = exports(rt.alloc(), last).or_abort(&rt);
+        let error = DecodeError::Malformed {
+            offset: bytes.len(),
+            expected: Expected::FreshName,
+        };
+        assert_equal!(rt; decode(rt.alloc(), bytes.as_slice()).err(), Some(error));
+    }
 }

@@ -14,4 +14,6 @@ mod matching;
 #[cfg(test)]
 mod memory;
 #[cfg(test)]
+mod numbers;
+#[cfg(test)]
 mod or_abort;
