@@ -324,3 +324,20 @@ fn two_items_are_written_at_once(rt: HostRuntime) {
         }
     }
 }
+
+#[test]
+fn an_item_goes_into_another_bucket(rt: HostRuntime) {
+    let mut arena: StableArena<u32, u64> = StableArena::new(rt.alloc());
+    for i in 0..40u64 {
+        arena.alloc(i).expect(&rt, "");
+    }
+    for (from, to, done, source, target) in [
+        (39, 3, true, Some(0), Some(42)),
+        (3, 4, true, Some(0), Some(46)),
+        (5, 5, false, Some(5), Some(5)),
+        (5, 40, false, Some(5), None),
+    ] {
+        assert_equal!(rt; transfer(&mut arena, from, to), done);
+        assert_equal!(rt; (arena.get(from).ok(), arena.get(to).ok()), (source.as_ref(), target.as_ref()));
+    }
+}
