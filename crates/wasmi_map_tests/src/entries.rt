@@ -1,4 +1,4 @@
-//! What entries and refused calls of both backings drop, and how often they search.
+//! What entries and refused calls of both backings drop.
 use std::cell::Cell;
 use std::rc::Rc;
 use std::test::Fail;
@@ -96,44 +96,4 @@ macro_rules! removed {
 fn an_entry_that_is_removed_drops_its_key(rt: HostRuntime) {
     removed!(rt, ordered);
     removed!(rt, hashed);
-}
-
-#[test]
-fn an_ordered_entry_compares_as_a_read_does(rt: HostRuntime) {
-    let notes = Notes::new();
-    let mut map: ordered::Map<Noted<'_>, u32> = ordered::Map::new(rt.alloc());
-    for number in 0..100 {
-        for kept in [false, true] {
-            let key = Noted::new(number, &notes);
-            assert_equal!(rt; map.contains_key(&key), kept);
-            let read = notes.compared();
-            map.entry(key)
-                .expect(&rt, "")
-                .or_insert(number)
-                .expect(&rt, "");
-            assert_equal!(rt; notes.compared(), read, "at {number}");
-        }
-    }
-}
-
-#[test]
-fn a_hashed_call_hashes_its_key_once(rt: HostRuntime) {
-    let notes = Notes::new();
-    let mut map: hashed::Map<Noted<'_>, u32> = hashed::Map::new(rt.alloc());
-    let mut set: HashSet<Noted<'_>> = HashSet::new(rt.alloc());
-    // Each key comes new and once more, by either call.
-    for number in 0..200u32 {
-        let key = Noted::new(number / 2, &notes);
-        if number % 4 == 0 || number % 4 == 3 {
-            map.entry(key)
-                .expect(&rt, "")
-                .or_insert(number)
-                .expect(&rt, "");
-        } else {
-            map.insert(key, number).expect(&rt, "");
-        }
-        assert_equal!(rt; notes.hashed(), 1, "at {number}");
-        set.insert(Noted::new(number / 2, &notes)).expect(&rt, "");
-        assert_equal!(rt; notes.hashed(), 1, "at {number}");
-    }
 }

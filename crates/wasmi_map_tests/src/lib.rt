@@ -6,17 +6,11 @@ mod compared;
 #[cfg(test)]
 mod entries;
 #[cfg(test)]
-mod hashes;
-#[cfg(test)]
 mod kept;
 #[cfg(test)]
 mod large;
 #[cfg(test)]
-mod parts;
-#[cfg(test)]
 mod refused;
-#[cfg(test)]
-mod room;
 #[cfg(test)]
 mod rows;
 #[cfg(test)]

@@ -1,11 +1,14 @@
 //! What `drain` takes out, and the room that `reserve` makes.
-use crate::table::{Hash, HashOfSet};
 use wasmi_hashed::hash::FixedState;
 use wasmi_hashed::{Map, Set};
 use wasmi_vectors::assert_equal;
 use wasmi_vectors::logged::Logged;
 use wasmi_vectors::noted::{Noted, Notes};
 use wasmi_vectors::observed::{Log, Observed};
+
+type Hash<'l> = Map<u32, u32, FixedState, Observed<'l>>;
+
+type HashOfSet<'l> = Set<u32, FixedState, Observed<'l>>;
 
 #[test]
 fn all_is_drained_once(rt: HostRuntime) {

@@ -1,0 +1,9 @@
+//! Tests of maps and sets that find by a hash.
+#![tactic(auto)]
+
+#[cfg(test)]
+mod hashed;
+#[cfg(test)]
+mod room;
+#[cfg(test)]
+mod states;
