@@ -1,5 +1,5 @@
 -- What a report on files says.
-use Rattle.std.specs.Prelude.{◌≡◌, ◌≢◌, ◌<◌, ◌⊎◌, ℕ, List, length, take}
+use Rattle.std.specs.Prelude.{◌≡◌, ◌≢◌, ◌⊎◌, ℕ, List, take, slice_get, IsSomeAnd}
 use Rattle.std.specs.List.{AllZip}
 use Rattle.wasmi_module.specs.Sections.{IsWritten}
 use Rattle.wasmi_module.specs.Valid.{IsValid}
@@ -19,6 +19,10 @@ pub record IsIn (file : File) (named : Named) : Type 0 where
   pub written : IsWritten named.body file.bytes.now
   pub valid : IsValid named.body
 
+-- no module, of whatever name, is in the file
+abbrev pub IsNoModule : File → Type 0
+IsNoModule file = (named : Named) → ¬ (IsIn file named)
+
 -- the text and the status are those of linking the modules in the files
 pub record Tells (files : List File) (text : List ℕ) (status : ℕ) : Type 0 where
   pub modules : List Named
@@ -35,10 +39,10 @@ abbrev pub IsShortage : Linked → LinkError → Type 0
 IsShortage found (NotAModule place error) = ⊥
 IsShortage found (Refused error) = (error ≡ OutOfSystemMemory) ⊎ ((error ≡ NotEnoughKeys) × IsPastKeys found)
 
--- the file at a place is refused, and those before it are modules; there is no memory; or the files are writings of
+-- the file at a place is no module, and those before it are modules; there is no memory; or the files are writings of
 -- modules, and what linking these finds out is past the keys
 abbrev pub IsRefusal : List File → LinkError → Type 0
-IsRefusal files (NotAModule place error) = (place < length files) × (error ≢ NoMemory) × (before : List Named) × AllZip IsIn (take place files) before
+IsRefusal files (NotAModule place error) = IsSomeAnd (slice_get files place) IsNoModule × (error ≢ NoMemory) × (before : List Named) × AllZip IsIn (take place files) before
 IsRefusal files (Refused error) =
     (error ≡ OutOfSystemMemory)
     ⊎ ((error ≡ NotEnoughKeys) × (modules : List Named) × AllZip IsIn files modules × IsPastKeys (linked modules))

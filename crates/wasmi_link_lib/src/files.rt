@@ -1,7 +1,7 @@
 //! From the files of modules to a report.
-ghost use Rattle.std.specs.Prelude.{◌≡◌, map, IfErr, IfOk, string_bytes};
+ghost use Rattle.std.specs.Prelude.{◌≡◌, ◌≢◌, map, IfErr, IfOk, string_bytes};
 ghost use Rattle.std.specs.List.{AllZip};
-ghost use Rattle.wasmi_link_lib.specs.Files.{IsIn, IsRefusal, IsShortage, IsWantOfMemory, Tells};
+ghost use Rattle.wasmi_link_lib.specs.Files.{IsIn, IsNoModule, IsRefusal, IsShortage, IsWantOfMemory, Tells};
 ghost use Rattle.wasmi_link_lib.specs.Linking.{AreValid, linked, named_of};
 ghost use Rattle.wasmi_link_lib.specs.Report.{report_text, status_of};
 
@@ -119,7 +119,8 @@ fn decode_file<'a, A: Allocator + Copy>(
     alloc: A,
     file: &'a File<'a>,
 ) -> Result<NamedModule<'a, A>, DecodeError>
-    ensures { IfOk result (λ named. IsIn file.now (named_of named)) }
+    ensures module { IfOk result (λ named. IsIn file.now (named_of named)) }
+    ensures none { IfErr result (λ error. error ≢ DecodeError.NoMemory → IsNoModule file.now) }
 {
     let module = decode(alloc, file.bytes)?;
     Ok(NamedModule {

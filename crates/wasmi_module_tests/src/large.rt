@@ -1,4 +1,4 @@
-//! Long names, none, many items, a large section that is stepped over, and a count of items that aren't there.
+//! Long names and empty ones, many items, a large section that is stepped over, and a count of items that aren't there.
 use crate::or_abort::OrAbort;
 use std::alloc::{AllocError, Global};
 use wasmi_module::{DecodeError, Expected, decode};

@@ -186,3 +186,46 @@ fn an_ordered_entry_compares_as_a_read_does(rt: HostRuntime) {
         }
     }
 }
+
+// Whether one of the calls by a slice finds a key.
+fn finds_slice<'a>(
+    map: &mut Map<Vec<Noted<'a>>, u32>,
+    set: &mut Set<Vec<Noted<'a>>>,
+    call: u32,
+    key: &[Noted<'a>],
+) -> bool {
+    match call {
+        0 => map.get_slice(key).is_some(),
+        1 => map.get_mut_slice(key).is_some(),
+        2 => map.get_key_value_slice(key).is_some(),
+        3 => map.contains_key_slice(key),
+        4 => map.remove_slice(key).is_some(),
+        5 => map.remove_entry_slice(key).is_some(),
+        6 => set.contains_slice(key),
+        7 => set.get_slice(key).is_some(),
+        8 => set.remove_slice(key),
+        _ => set.take_slice(key).is_some(),
+    }
+}
+
+#[test]
+fn a_slice_is_searched_as_its_vector(rt: HostRuntime) {
+    let notes = Notes::new();
+    let vector = |number| Vec::from_array(rt.alloc(), [Noted::new(number, &notes)]);
+    for call in 0..10 {
+        for number in [0, 57, 99, 100] {
+            let mut map: Map<Vec<Noted<'_>>, u32> = Map::new(rt.alloc());
+            let mut set: Set<Vec<Noted<'_>>> = Set::new(rt.alloc());
+            for key in 0..100u32 {
+                map.insert(vector(key).expect(&rt, ""), key).expect(&rt, "");
+                set.insert(vector(key).expect(&rt, "")).expect(&rt, "");
+            }
+            let key = vector(number).expect(&rt, "");
+            notes.compared();
+            map.contains_key(&key);
+            let read = notes.compared();
+            let is_there = finds_slice(&mut map, &mut set, call, key.as_slice());
+            assert_equal!(rt; (is_there, notes.compared()), (number < 100, read), "{call} of {number}");
+        }
+    }
+}

@@ -175,3 +175,32 @@ fn the_ends_take_no_walk(rt: HostRuntime) {
     }
     assert_equal!(rt; turns, 131_072);
 }
+
+// The greatest first, so a walk would take minutes.
+#[test]
+fn a_text_takes_no_walk(rt: HostRuntime) {
+    let mut map: Map<String, u32> = Map::new(rt.alloc());
+    let mut set: Set<String> = Set::new(rt.alloc());
+    for number in 0..20_000u32 {
+        let text = || format!(in rt.alloc(); "{number:05}");
+        map.insert(text().expect(&rt, ""), number).expect(&rt, "");
+        set.insert(text().expect(&rt, "")).expect(&rt, "");
+    }
+    let mut turns = 0u32;
+    for number in (0..20_000u32).rev() {
+        let text = format!(in rt.alloc(); "{number:05}").expect(&rt, "");
+        let text = text.as_str();
+        let read = map.get_str(text) == Some(&number) && map.contains_key_str(text);
+        let there = map.get_mut_str(text).is_some() && map.get_key_value_str(text).is_some();
+        let in_set = set.contains_str(text) && set.get_str(text).is_some();
+        let taken = if number % 2 == 0 {
+            map.remove_str(text) == Some(number) && set.remove_str(text)
+        } else {
+            map.remove_entry_str(text).is_some() && set.take_str(text).is_some()
+        };
+        if read && there && in_set && taken {
+            turns = turns.wrapping_add(1);
+        }
+    }
+    assert_equal!(rt; (turns, map.len(), set.len()), (20_000, 0, 0));
+}

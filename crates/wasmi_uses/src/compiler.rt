@@ -1,5 +1,5 @@
 //! A compiler's tables: names and constants, each once, and functions with their names and lines.
-ghost use Rattle.std.specs.Prelude.{ℕ, List, ◌≡◌, ◌<◌, ◌==◌, length, position, IfOk, OnErr, IfSome, Ok, Some, slice_get};
+ghost use Rattle.std.specs.Prelude.{ℕ, List, ◌≡◌, ◌<◌, ◌≤◌, ◌==◌, length, position, IfOk, OnErr, IfSome, IfNone, Ok, Some, slice_get};
 ghost use Rattle.wasmi_collections.specs.Interner.{symbol_of};
 ghost use Rattle.wasmi_dense.specs.Components.{component_at};
 
@@ -52,7 +52,9 @@ impl Tables {
 
     /// The name and the line of a function, if it was declared.
     pub fn name_and_line(&self, func: FuncId) -> Option<(Sym, Option<u32>)>
-        ensures { IfSome result (λ there. slice_get self.now.funcs.items func ≡ Some there.0) }
+        ensures symbol { IfSome result (λ there. slice_get self.now.funcs.items func ≡ Some there.0) }
+        ensures line { IfSome result (λ there. there.1 ≡ component_at self.now.lines func) }
+        ensures absent { IfNone result (length self.now.funcs.items ≤ func) }
     {
         match self.funcs.get(func) {
             Ok(symbol) => Some((*symbol, self.lines.get(func).copied())),

@@ -1,5 +1,5 @@
 //! A compiler's table of constants, in which equal constants share a slot.
-ghost use Rattle.std.specs.Prelude.{ℕ, ◌≡◌, ◌≢◌, ◌==◌, map, position, nat_eq, string_bytes, IfOk, IfSome, Some};
+ghost use Rattle.std.specs.Prelude.{ℕ, ◌≡◌, ◌≢◌, ◌==◌, map, position, nat_eq, string_bytes, IfOk, IfSome, Some, slice_get};
 ghost use Rattle.wasmi_collections.specs.Interner.{symbol_of};
 
 use std::alloc::Global;
@@ -38,7 +38,10 @@ pub fn slot_again(
 }
 
 /// What is in the slot of a constant. It is the constant, where nothing was written there.
-pub fn in_its_slot(table: &mut DedupArena<u32, u64>, constant: u64) -> Result<u64, ArenaError> {
+pub fn in_its_slot(table: &mut DedupArena<u32, u64>, constant: u64) -> Result<u64, ArenaError>
+    ensures { IfOk result (λ item. (slot : ℕ) → position (λ other. constant == other) table.new.handed ≡ Some slot
+        → slice_get table.new.items slot ≡ Some item) }
+{
     let slot = table.alloc(constant)?;
     Ok(table[slot])
 }

@@ -1,5 +1,5 @@
 //! Look-ups by the keys that a walk over an arena gives.
-ghost use Rattle.std.specs.Prelude.{◌≡◌, ◌≤◌, length, slice_get, IfSome, Some};
+ghost use Rattle.std.specs.Prelude.{◌≡◌, ◌<◌, ◌≤◌, length, slice_get, IfOk, IfSome, OnErr, Some};
 
 use anyhow::{Context, Result};
 use std::fmt;
@@ -27,7 +27,8 @@ pub fn any_differs<Key: ArenaKey>(
 
 /// The key of the first item above a limit, with what it reads, if there is one. Linear.
 pub fn first_above<Key: ArenaKey>(arena: &StableArena<Key, u64>, limit: u64) -> Option<(Key, u64)>
-    ensures { IfSome result (λ found. slice_get arena.now (Key.keys.number found.0) ≡ Some found.1) }
+    ensures found { IfSome result (λ found. slice_get arena.now (Key.keys.number found.0) ≡ Some found.1) }
+    ensures above { IfSome result (λ found. limit < found.1) }
 {
     // proof: as above.
     arena.len();
@@ -52,7 +53,10 @@ impl fmt::Display for Lookup {
 }
 
 /// The item under a key, or an error that says which key it was. Constant time.
-pub fn read(arena: &StableArena<u32, u64>, key: u32) -> Result<u64> {
+pub fn read(arena: &StableArena<u32, u64>, key: u32) -> Result<u64>
+    ensures ok { IfOk result (λ item. slice_get arena.now key ≡ Some item) }
+    ensures err { OnErr result (length arena.now ≤ key) }
+{
     let len = arena.len();
     let item = arena.get(key).context(Lookup { key, len })?;
     Ok(*item)
