@@ -108,12 +108,13 @@ each_all W xs i known {mid} {after} len h =
 
 -- A vector is a count and its items.
 pub vector_only : {X : Type 0} (W : X → List ℕ → Type 0) (count : ℕ) (known : List X) {before : List ℕ} (mid : List ℕ) {after : List ℕ} → Reads (IsU32 count) before mid
-    → ((xs : List X) (rest : List ℕ) → length xs ≡ count → Reads (Each W xs) mid rest → (xs ≡ known) × (rest ≡ after)) → Only (IsVector W) known before after
+    → Only (With (Each W) (λ xs. length xs ≡ count)) known mid after → Only (IsVector W) known before after
 vector_only W count known {before} mid {after} read only = record {
   same = λ xs rest h.
       let s = split h in
       let same = reads_once IsU32 u32_once read s.first in
-      only xs rest (sym same.0) (subst (λ (t : List ℕ). Reads (Each W xs) t rest) (sym same.1) s.second);
+      let items = subst (λ (t : List ℕ). Reads (Each W xs) t rest) (sym same.1) s.second in
+      only.same xs rest (record { text = items.text; is_text = record { written = items.is_text; holds = sym same.0 }; parts = items.parts });
 }
 
 pub vector_none : {X : Type 0} (W : X → List ℕ → Type 0) (V : X → Type 0) {before : List ℕ} → Lacks IsU32 before → Lacks (With (IsVector W) (All V)) before

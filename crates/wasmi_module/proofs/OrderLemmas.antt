@@ -10,7 +10,7 @@ use Rattle.wasmi_module.specs.Texts.{Is, ◌⋅◌, Each, Reads, Lacks, With, On
 use Rattle.wasmi_module.specs.Numbers.{IsU32}
 use Rattle.wasmi_module.specs.Format.{IsVector}
 use Rattle.wasmi_module.specs.Sections.{IsSection, AreCustoms}
-use Rattle.wasmi_module.specs.Order.{AreSections, unless_custom, others, and_part, present, HasSections, NoSections, HasFirst, Contents}
+use Rattle.wasmi_module.specs.Order.{AreSections, unless_custom, others, and_part, present, HasSections, NoSections, HasFirst, Contents, OnlySection, LacksSection, Behind}
 use Rattle.wasmi_module.proofs.OnceLemmas.{u32_once, rest_same}
 use Rattle.wasmi_module.proofs.OnceSections.{IsPair, is_number, pair_once, not_empty, front_empty}
 use Rattle.wasmi_module.proofs.LacksLemmas.{split, reads_once, not_first, not_after_byte, not_long}
@@ -138,33 +138,46 @@ has_present (suc n) (Some c) parts contents {after = after} first customs read =
 
 -- ---- its items
 
-pub left_out : {X : Type 0} (W : X → List ℕ → Type 0) (number : ℕ) (o : Option (List ℕ)) (xs : List X) (parts : List (ℕ × Option (List ℕ))) {before mid after : List ℕ} → HasFirst number o parts before → Reads AreCustoms before mid → slice_get mid 0 ≢ Some 0 → slice_get mid 0 ≢ Some number
-    → after ≡ mid → Contents W xs o → (xs ≡ []) × HasSections parts after
-left_out W number o xs parts first read custom other same is =
-    let r = has_absent number o parts first read custom other in
-    (subst (Contents W xs) r.0 is, subst (HasSections parts) (sym same) r.1)
+-- No items, where it is left out.
+pub left_out : {X : Type 0} (W : X → List ℕ → Type 0) (number : ℕ) {before mid after : List ℕ} → Reads AreCustoms before mid → slice_get mid 0 ≢ Some 0 → slice_get mid 0 ≢ Some number → after ≡ mid → OnlySection number W [] before after
+left_out W number customs custom other same = record {
+  same = λ o xs parts first is.
+      let r = has_absent number o parts first customs custom other in
+      (subst (Contents W xs) r.0 is, subst (HasSections parts) (sym same) r.1);
+}
 
 whole : {X : Type 0} (W : X → List ℕ → Type 0) (xs : List X) (contents : List ℕ) → IsVector W xs contents → Reads (IsVector W xs) contents []
 whole W xs contents h = record { text = contents; is_text = h; parts = sym (append-nil contents) }
 
-pub there : {X : Type 0} (W : X → List ℕ → Type 0) (number : ℕ) (o : Option (List ℕ)) (xs known : List X) (parts : List (ℕ × Option (List ℕ))) (contents : List ℕ) {before mid after rest : List ℕ} → HasFirst number o parts before → Reads AreCustoms before mid → Reads (IsSection number contents) mid after
-    → Only (IsVector W) known contents rest → Contents W xs o → (xs ≡ known) × HasSections parts after
-there W number o xs known parts contents first customs read only is =
-    let r = has_present number o parts contents first customs read in
-    ((only.same xs [] (whole W xs contents (subst (Contents W xs) r.0 is))).0, r.1)
+pub there : {X : Type 0} (W : X → List ℕ → Type 0) (number : ℕ) (known : List X) (contents : List ℕ) {before mid after rest : List ℕ} → Reads AreCustoms before mid → Reads (IsSection number contents) mid after
+    → Only (IsVector W) known contents rest → OnlySection number W known before after
+there W number known contents customs read only = record {
+  same = λ o xs parts first is.
+      let r = has_present number o parts contents first customs read in
+      ((only.same xs [] (whole W xs contents (subst (Contents W xs) r.0 is))).0, r.1);
+}
 
-pub there_lacks : {X : Type 0} (W : X → List ℕ → Type 0) (V : X → Type 0) (number : ℕ) (o : Option (List ℕ)) (xs : List X) (parts : List (ℕ × Option (List ℕ))) (contents : List ℕ) {before mid after : List ℕ} → HasFirst number o parts before → Reads AreCustoms before mid → Reads (IsSection number contents) mid after
-    → Lacks (With (IsVector W) (All V)) contents → Contents W xs o → All V xs → ⊥
-there_lacks W V number o xs parts contents first customs read lacks is valid =
-    let r = has_present number o parts contents first customs read in
-    let h = whole W xs contents (subst (Contents W xs) r.0 is) in
-    lacks.none xs [] (record { text = h.text; is_text = record { written = h.is_text; holds = valid }; parts = h.parts })
+-- Its contents are no vector of such items.
+pub there_lacks : {X : Type 0} (W : X → List ℕ → Type 0) (V : List X → Type 0) (number : ℕ) (contents : List ℕ) {before mid after : List ℕ} → Reads AreCustoms before mid → Reads (IsSection number contents) mid after
+    → Lacks (With (IsVector W) V) contents → LacksSection number W V before
+there_lacks W V number contents customs read lacks = record {
+  none = λ o xs parts first is valid.
+      let r = has_present number o parts contents first customs read in
+      let h = whole W xs contents (subst (Contents W xs) r.0 is) in
+      lacks.none xs [] (record { text = h.text; is_text = record { written = h.is_text; holds = valid }; parts = h.parts });
+}
 
-pub there_more : {X : Type 0} (W : X → List ℕ → Type 0) (number : ℕ) (o : Option (List ℕ)) (xs known : List X) (parts : List (ℕ × Option (List ℕ))) (contents : List ℕ) {before mid after rest : List ℕ} → HasFirst number o parts before → Reads AreCustoms before mid → Reads (IsSection number contents) mid after
-    → Only (IsVector W) known contents rest → rest ≢ [] → Contents W xs o → ⊥
-there_more W number o xs known parts contents first customs read only more is =
-    let r = has_present number o parts contents first customs read in
-    more (sym (only.same xs [] (whole W xs contents (subst (Contents W xs) r.0 is))).1)
+-- More bytes are behind its items.
+pub there_more : {X : Type 0} (W : X → List ℕ → Type 0) (V : List X → Type 0) (number : ℕ) (known : List X) (contents : List ℕ) {before mid after rest : List ℕ} → Reads AreCustoms before mid → Reads (IsSection number contents) mid after
+    → Only (IsVector W) known contents rest → rest ≢ [] → LacksSection number W V before
+there_more W V number known contents customs read only more = record {
+  none = λ o xs parts first is valid.
+      let r = has_present number o parts contents first customs read in
+      more (sym (only.same xs [] (whole W xs contents (subst (Contents W xs) r.0 is))).1);
+}
+
+pub none_lacks : {X : Type 0} (W : X → List ℕ → Type 0) (V : List X → Type 0) (number : ℕ) {before : List ℕ} → NoSections before → LacksSection number W V before
+none_lacks W V number refused = record { none = λ o xs parts first is valid. refused.none first.all.sections first.all.written }
 
 -- ---- what is stepped over
 
@@ -172,10 +185,14 @@ pub no_customs : (found : Option (List ℕ)) (mid after : List ℕ) → false �
 no_customs None mid after is absent same = λ e. absent (ap (λ (t : List ℕ). slice_get t 0) (sym same) ∙ e)
 no_customs (Some c) mid after is absent same = absurd cc
 
-pub has_rest : (found : Option (List ℕ)) (number : ℕ) (o : Option (List ℕ)) (parts : List (ℕ × Option (List ℕ))) {before mid after : List ℕ} → HasFirst number o parts before → Reads AreCustoms before mid → slice_get mid 0 ≢ Some 0
+rest_of : (found : Option (List ℕ)) (number : ℕ) (o : Option (List ℕ)) (parts : List (ℕ × Option (List ℕ))) {before mid after : List ℕ} → HasFirst number o parts before → Reads AreCustoms before mid → slice_get mid 0 ≢ Some 0
     → IfSome found (λ contents. Reads (IsSection number contents) mid after) → IfNone found (slice_get mid 0 ≢ Some number) → IfNone found (after ≡ mid) → HasSections parts after
-has_rest None number o parts first read custom one absent same = subst (HasSections parts) (sym same) (has_absent number o parts first read custom absent).1
-has_rest (Some contents) number o parts first read custom one absent same = (has_present number o parts contents first read one).1
+rest_of None number o parts first customs custom one absent same = subst (HasSections parts) (sym same) (has_absent number o parts first customs custom absent).1
+rest_of (Some contents) number o parts first customs custom one absent same = (has_present number o parts contents first customs one).1
+
+pub behind_section : (found : Option (List ℕ)) (number : ℕ) (before mid after : List ℕ) → Reads AreCustoms before mid → slice_get mid 0 ≢ Some 0
+    → IfSome found (λ contents. Reads (IsSection number contents) mid after) → IfNone found (slice_get mid 0 ≢ Some number) → IfNone found (after ≡ mid) → Behind number before after
+behind_section found number before mid after customs custom one absent same = record { rest = λ o parts first. rest_of found number o parts first customs custom one absent same }
 
 custom : (k : ℕ) (c : List ℕ) (ss : List (ℕ × List ℕ)) → unless_custom k c ss ≡ [] → k ≡ 0
 custom zero c ss e = refl
@@ -219,5 +236,5 @@ has_first number {o} {parts} {bytes} e lt all = record { positive = lt; once = f
 
 -- what is left behind a section
 pub has_next : (number : ℕ) {o : Option (List ℕ)} {parts : List (ℕ × Option (List ℕ))} {before after : List ℕ} → is_free number parts ≡ true → 0 < number
-    → ((contents : Option (List ℕ)) (parts : List (ℕ × Option (List ℕ))) → HasFirst number contents parts before → HasSections parts after) → HasSections ((number, o) ∷ parts) before → HasSections parts after
-has_next number {o} {parts} e lt rest all = rest o parts (has_first number e lt all)
+    → Behind number before after → HasSections ((number, o) ∷ parts) before → HasSections parts after
+has_next number {o} {parts} e lt behind all = behind.rest o parts (has_first number e lt all)

@@ -48,6 +48,18 @@ abbrev pub Contents : {X : Type 0} → (X → List ℕ → Type 0) → List X �
 Contents Writes xs None = xs ≡ []
 Contents Writes xs (Some contents) = IsVector Writes xs contents
 
+-- The section of this number has these items and no others, and the others are those after it.
+pub record OnlySection {X : Type 0} (number : ℕ) (Writes : X → List ℕ → Type 0) (xs : List X) (before after : List ℕ) : Type 0 where
+  pub same : (contents : Option (List ℕ)) (ys : List X) (parts : List (ℕ × Option (List ℕ))) → HasFirst number contents parts before → Contents Writes ys contents → (ys ≡ xs) × HasSections parts after
+
+-- No section of this number comes first that has items of which this holds.
+pub record LacksSection {X : Type 0} (number : ℕ) (Writes : X → List ℕ → Type 0) (Holds : List X → Type 0) (bytes : List ℕ) : Type 0 where
+  pub none : (contents : Option (List ℕ)) (xs : List X) (parts : List (ℕ × Option (List ℕ))) → HasFirst number contents parts bytes → Contents Writes xs contents → ¬ (Holds xs)
+
+-- What is behind the section of this number, whatever is in it.
+pub record Behind (number : ℕ) (before after : List ℕ) : Type 0 where
+  pub rest : (contents : Option (List ℕ)) (parts : List (ℕ × Option (List ℕ))) → HasFirst number contents parts before → HasSections parts after
+
 -- the sections that are stepped over, those that are there
 pub record HasSkipped (bytes : List ℕ) : Type 0 where
   pub start : Option (List ℕ)

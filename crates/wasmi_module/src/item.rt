@@ -58,8 +58,8 @@ impl<'a> Reader<'a> {
         ensures len { IfOk result (λ items. length items.items ≡ count) }
         ensures each { IfOk result (λ items. Reads (Each T.writes (map T.plain items.items)) self.old self.new) }
         ensures valid { IfOk result (λ items. All (T.valid counts.now) (map T.plain items.items)) }
-        ensures only { IfOk result (λ items. (xs : List T.Plain) (rest : List ℕ) → length xs ≡ count → Reads (Each T.writes xs) self.old rest → (xs ≡ map T.plain items.items) × (rest ≡ self.new)) }
-        ensures lacks { IfErr result (λ error. error ≢ NoMemory → Lacks (With (Each T.writes) (λ items. (length items ≡ count) × All (T.valid counts.now) items)) self.old) }
+        ensures only { IfOk result (λ items. Only (With (Each T.writes) (λ xs. length xs ≡ count)) (map T.plain items.items) self.old self.new) }
+        ensures lacks { IfErr result (λ error. error ≢ NoMemory → Lacks (With (Each T.writes) (λ xs. (length xs ≡ count) × All (T.valid counts.now) xs)) self.old) }
     {
         // Each item takes a byte at least.
         let room = (count as usize).min(self.left());

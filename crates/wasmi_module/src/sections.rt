@@ -1,8 +1,8 @@
 //! Sections.
-ghost use Rattle.std.specs.Prelude.{◌≡◌, ◌≢◌, ℕ, ◌<◌, ◌++◌, List, [], Option, All, IfOk, IfErr, IfSome, IfNone, OnOk, OnErr, MatchOption, length, map, slice_get};
+ghost use Rattle.std.specs.Prelude.{◌≡◌, ◌≢◌, ◌<◌, ◌++◌, [], All, IfOk, IfErr, IfSome, IfNone, OnOk, OnErr, MatchOption, length, map, slice_get};
 ghost use Rattle.wasmi_module.specs.Texts.{Reads};
 ghost use Rattle.wasmi_module.specs.Sections.{IsSection, AreCustoms, IsNext, IsSkipped, AreSkipped};
-ghost use Rattle.wasmi_module.specs.Order.{HasSections, NoSections, HasFirst, HasSkipped, Contents};
+ghost use Rattle.wasmi_module.specs.Order.{NoSections, OnlySection, LacksSection, Behind, HasSkipped};
 ghost use Rattle.wasmi_module.specs.declared.error.DecodeError.TheVariants.{NoMemory};
 
 use crate::counts::Counts;
@@ -22,11 +22,8 @@ impl<'a> Reader<'a> {
     ) -> Result<Vec<T, A>, DecodeError>
         ensures written { IfOk result (λ items. Reads (IsNext number T.writes (map T.plain items.items)) self.old self.new) }
         ensures valid { IfOk result (λ items. All (T.valid counts.now) (map T.plain items.items)) }
-        // What a text has in sections is this section's items and what is left.
-        ensures only { IfOk result (λ items. (contents : Option (List ℕ)) (xs : List T.Plain) (parts : List (ℕ × Option (List ℕ))) → HasFirst number contents parts self.old
-            → Contents T.writes xs contents → (xs ≡ map T.plain items.items) × HasSections parts self.new) }
-        ensures refused { IfErr result (λ error. error ≢ NoMemory → (contents : Option (List ℕ)) (xs : List T.Plain) (parts : List (ℕ × Option (List ℕ))) → HasFirst number contents parts self.old
-            → Contents T.writes xs contents → ¬ (All (T.valid counts.now) xs)) }
+        ensures only { IfOk result (λ items. OnlySection number T.writes (map T.plain items.items) self.old self.new) }
+        ensures lacks { IfErr result (λ error. error ≢ NoMemory → LacksSection number T.writes (All (T.valid counts.now)) self.old) }
     {
         self.customs()?;
         let Some(mut contents) = self.contents(number)? else {
@@ -55,7 +52,7 @@ impl<'a> Reader<'a> {
     // Steps over custom sections, and then over the section of this number if there is one.
     fn skip(&mut self, number: u8) -> Result<(), DecodeError>
         ensures written { OnOk result (Reads (IsSkipped number) self.old self.new) }
-        ensures rest { OnOk result ((contents : Option (List ℕ)) (parts : List (ℕ × Option (List ℕ))) → HasFirst number contents parts self.old → HasSections parts self.new) }
+        ensures rest { OnOk result (Behind number self.old self.new) }
         ensures refused { OnErr result (NoSections self.old) }
     {
         self.customs()?;

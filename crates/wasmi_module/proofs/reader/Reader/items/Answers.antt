@@ -1,6 +1,7 @@
-use Rattle.std.proofs.Common.{map, arith, length-append}
+use Rattle.std.proofs.Common.{◌≡◌, length, map, arith, length-append}
 use Rattle.std.proofs.lemmas.List.{map_push}
 use Rattle.std.proofs.lemmas.List.Elements.{All-push}
+use Rattle.wasmi_module.specs.Texts.{Reads, Each}
 use Rattle.wasmi_module.proofs.ReadLemmas.{reads-each_push}
 use Rattle.wasmi_module.proofs.LacksLemmas.{passed}
 use Rattle.wasmi_module.proofs.LacksItems.{each_step, each_all, each_lacks}
@@ -26,5 +27,9 @@ returns-in_err-read-clause-lacks g c =
     c.loop.invariant.only (c.in_err-read.ensures.lacks other))
 
 pub returns-clause-only : goal.returns-clause-only
-returns-clause-only g c = λ xs rest len h.
-    each_all g.T.Item.writes xs c.loop.counter (map g.T.Item.plain c.loop.items.items) (omega arith) (c.loop.invariant.only xs rest (omega arith) h)
+returns-clause-only g c = record {
+  same = λ xs rest h.
+      let len : length xs ≡ c.args.count = h.is_text.holds in
+      let read : Reads (Each g.T.Item.writes xs) c.args.self.now rest = record { text = h.text; is_text = h.is_text.written; parts = h.parts } in
+      each_all g.T.Item.writes xs c.loop.counter (map g.T.Item.plain c.loop.items.items) (omega arith) (c.loop.invariant.only xs rest (omega arith) read);
+}
