@@ -1,9 +1,15 @@
 pub mod DistinctLemmas
+pub mod LacksConstants
+pub mod LacksItems
+pub mod LacksLemmas
+pub mod LacksModule
+pub mod LacksTypes
 pub mod LawLemmas
 pub mod ModuleLemmas
 pub mod NumberLemmas
 pub mod OnceItems
 pub mod OnceLemmas
 pub mod OnceSections
+pub mod OrderLemmas
 pub mod ReadLemmas
 pub mod SectionLemmas

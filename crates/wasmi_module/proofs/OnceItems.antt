@@ -1,5 +1,5 @@
 -- No writing of an item of a module begins that of another.
--- for src/laws.rt
+-- for src/laws.rt, src/constants.rt, src/items.rt, src/values.rt
 use Rattle.std.proofs.Common.{◌≡◌, ℕ, List, [], ◌∷◌, ◌++◌, Option, Some, None, Bool, true, false, refl, ap, ◌∙◌, arith}
 use Rattle.std.specs.Prelude.{◌^◌, ◌==◌, if◌then◌else◌}
 use Rattle.wasmi_module.specs.Texts.{Is, ◌⋅◌}
@@ -38,7 +38,7 @@ val_type_back val.V128 = refl
 val_type_back val.FuncRef = refl
 val_type_back val.ExternRef = refl
 
-val_type_once : Once IsValType
+pub val_type_once : Once IsValType
 val_type_once = once_by val_type_code val_type_from (λ n. Is (n ∷ [])) val_type_back byte_once
 
 ref_type_from : ℕ → RefType
@@ -49,7 +49,7 @@ unfolding ref_type_from
 ref_type_back ref.FuncRef = refl
 ref_type_back ref.ExternRef = refl
 
-ref_type_once : Once IsRefType
+pub ref_type_once : Once IsRefType
 ref_type_once = once_by ref_type_code ref_type_from (λ n. Is (n ∷ [])) ref_type_back byte_once
 
 kind_from : ℕ → Kind
@@ -62,7 +62,7 @@ kind_back kind.Table = refl
 kind_back kind.Memory = refl
 kind_back kind.Global = refl
 
-kind_once : Once (λ k. Byte (kind_code k))
+pub kind_once : Once (λ k. Byte (kind_code k))
 kind_once = once_by kind_code kind_from (λ n. Is (n ∷ [])) kind_back byte_once
 
 flag_back : (b : Bool) → ((if b then 1 else 0) == 1) ≡ b
@@ -89,7 +89,7 @@ bounds_once m n None (Some y) a b u v p q e = absurd (omega (arith, tags_same 0 
 bounds_once m n (Some x) None a b u v p q e = absurd (omega (arith, tags_same 1 0 (IsU32 m ⋅ IsU32 x) (IsU32 n) a b u v p q e))
 bounds_once m n (Some x) (Some y) a b u v p q e = let s = both_once (m, x) (n, y) a b u v p q e in (ap (λ z. z.0) s.0, ap (λ z. Some z.1) s.0, s.1)
 
-limits_once : Once IsLimits
+pub limits_once : Once IsLimits
 limits_once x y a b u v p q e =
     let r = bounds_once x.min y.min x.max y.max a b u v p.written q.written e in
     let made : ℕ → Option ℕ → Limits = λ min max. record { min = min; max = max } in
@@ -106,24 +106,24 @@ memory_type_once x y a b u v p q e =
     let made : Limits → MemoryType = λ l. record { limits = l } in
     (ap made r.0, r.1)
 
-global_type_once : Once IsGlobalType
+pub global_type_once : Once IsGlobalType
 global_type_once =
     once_by (λ t. (t.value, t.mutable)) (λ p. record { value = p.0; mutable = p.1 }) (λ (p : ValType × Bool). IsValType p.0 ⋅ Byte (if p.1 then 1 else 0)) (λ t. refl)
     (once_then IsValType (λ b. Byte (if b then 1 else 0)) val_type_once flag_once)
 
-abbrev import_tag : ImportType → ℕ
+abbrev pub import_tag : ImportType → ℕ
 import_tag (import.Func x) = 0
 import_tag (import.Table x) = 1
 import_tag (import.Memory x) = 2
 import_tag (import.Global x) = 3
 
-abbrev import_rest : ImportType → List ℕ → Type 0
+abbrev pub import_rest : ImportType → List ℕ → Type 0
 import_rest (import.Func x) = IsU32 x
 import_rest (import.Table x) = IsTableType x
 import_rest (import.Memory x) = IsMemoryType x
 import_rest (import.Global x) = IsGlobalType x
 
-import_type_once : Once IsImportType
+pub import_type_once : Once IsImportType
 import_type_once (import.Func x) (import.Func y) a b u v p q e = let r = after_byte_once 0 (IsU32) (u32_once) x y a b u v p q e in (ap import.Func r.0, r.1)
 import_type_once (import.Table x) (import.Table y) a b u v p q e = let r = after_byte_once 1 (IsTableType) (table_type_once) x y a b u v p q e in (ap import.Table r.0, r.1)
 import_type_once (import.Memory x) (import.Memory y) a b u v p q e = let r = after_byte_once 2 (IsMemoryType) (memory_type_once) x y a b u v p q e in (ap import.Memory r.0, r.1)
@@ -148,12 +148,12 @@ i32_once m n a b u v p q e = let r = signed_once (2 ^ 31) m n a b u v p q e in (
 i64_once : Once IsI64
 i64_once m n a b u v p q e = let r = signed_once (2 ^ 63) m n a b u v p q e in (r.1, r.0)
 
-v128_once : Once (λ bytes. IsU32 12 ⋅ IsBytes 16 bytes)
+pub v128_once : Once (λ bytes. IsU32 12 ⋅ IsBytes 16 bytes)
 v128_once x y a b u v p q e =
     let r = once_then IsU32 (IsBytes 16) u32_once (bytes_once 16) (12, x) (12, y) a b u v p q e in
     (ap (λ z. z.1) r.0, r.1)
 
-abbrev constant_tag : Init → ℕ
+abbrev pub constant_tag : Init → ℕ
 constant_tag (plain.I32 x) = 65
 constant_tag (plain.I64 x) = 66
 constant_tag (plain.F32 x) = 67
@@ -163,7 +163,7 @@ constant_tag (plain.RefNull x) = 208
 constant_tag (plain.RefFunc x) = 210
 constant_tag (plain.GlobalGet x) = 35
 
-abbrev constant_rest : Init → List ℕ → Type 0
+abbrev pub constant_rest : Init → List ℕ → Type 0
 constant_rest (plain.I32 x) = IsI32 x
 constant_rest (plain.I64 x) = IsI64 x
 constant_rest (plain.F32 x) = IsBytes 4 x
@@ -173,7 +173,7 @@ constant_rest (plain.RefNull x) = IsRefType x
 constant_rest (plain.RefFunc x) = IsU32 x
 constant_rest (plain.GlobalGet x) = IsU32 x
 
-constant_once : Once IsConstant
+pub constant_once : Once IsConstant
 constant_once (plain.I32 x) (plain.I32 y) a b u v p q e = let r = after_byte_once 65 (IsI32) (i32_once) x y a b u v p q e in (ap plain.I32 r.0, r.1)
 constant_once (plain.I64 x) (plain.I64 y) a b u v p q e = let r = after_byte_once 66 (IsI64) (i64_once) x y a b u v p q e in (ap plain.I64 r.0, r.1)
 constant_once (plain.F32 x) (plain.F32 y) a b u v p q e = let r = after_byte_once 67 (IsBytes 4) (bytes_once 4) x y a b u v p q e in (ap plain.F32 r.0, r.1)

@@ -1,5 +1,5 @@
 -- No writing of a thing begins that of another: where two texts go on alike, they stand for one thing.
--- for src/laws.rt
+-- for src/decoder.rt, src/items.rt, src/laws.rt, src/sections.rt, src/values.rt
 use Rattle.std.proofs.Common.{◌≡◌, ℕ, length, List, [], ◌∷◌, ◌++◌, refl, sym, ap, ◌∙◌, append_assoc, arith}
 use Rattle.std.specs.Prelude.{◌^◌}
 use Rattle.wasmi_module.specs.Texts.{Is, ◌⋅◌, Each}
@@ -19,7 +19,7 @@ append_cancel (x ∷ a) u v e = append_cancel a u v (tail_same x x (a ++ u) (a +
 pub rest_same : (a b u v : List ℕ) → a ++ u ≡ b ++ v → a ≡ b → u ≡ v
 rest_same a b u v e same = append_cancel a u v (e ∙ ap (λ (t : List ℕ). t ++ v) (sym same))
 
-same_front : (a b u v : List ℕ) → length a ≡ length b → a ++ u ≡ b ++ v → a ≡ b
+pub same_front : (a b u v : List ℕ) → length a ≡ length b → a ++ u ≡ b ++ v → a ≡ b
 same_front [] [] u v len e = refl
 same_front [] (y ∷ b) u v len e = absurd (omega arith)
 same_front (x ∷ a) [] u v len e = absurd (omega arith)

@@ -1,32 +1,30 @@
 -- Bytes are a writing of one module at most: their sections are found, each by its number.
--- for src/laws.rt
+-- for src/decoder.rt, src/laws.rt, src/sections.rt
 use Rattle.std.proofs.Common.{◌≡◌, ℕ, zero, suc, length, List, [], ◌∷◌, ◌++◌, Option, Some, None, Bool, true, false, cond, map, refl, sym, ap, subst, ◌∙◌, append_assoc, inl, inr}
 use Rattle.std.proofs.lemmas.List.{append-nil}
 use Rattle.wasmi_module.specs.Texts.{Is, ◌⋅◌, Each}
 use Rattle.wasmi_module.specs.Numbers.{IsU32}
 use Rattle.wasmi_module.specs.Modules.{Module}
-use Rattle.wasmi_module.specs.Format.{IsVector, IsFuncType, IsImport, IsTableType, IsMemoryType, IsGlobal, IsExport}
+use Rattle.wasmi_module.specs.Format.{IsFuncType, IsImport, IsTableType, IsMemoryType, IsGlobal, IsExport}
 use Rattle.wasmi_module.specs.Sections.{IsSection, AreCustoms, IsNext, IsSkipped, AreRead, AreSkipped, IsWritten}
+use Rattle.wasmi_module.specs.Order.{AreSections, unless_custom, others, and_part, present, Contents}
 use Rattle.wasmi_module.proofs.OnceLemmas.{Once, once_then, byte_once, sized_once, vector_once, u32_once, rest_same}
 use Rattle.wasmi_module.proofs.OnceItems.{func_type_once, import_once, table_type_once, memory_type_once, global_once, export_once}
 
 -- a section: its number and its contents
-abbrev IsPair : ℕ × List ℕ → List ℕ → Type 0
+abbrev pub IsPair : ℕ × List ℕ → List ℕ → Type 0
 IsPair s = IsSection s.0 s.1
 
-pair_once : Once IsPair
+pub pair_once : Once IsPair
 pair_once = once_then (λ n. Is (n ∷ [])) (λ bytes. IsU32 (length bytes) ⋅ Is bytes) byte_once sized_once
 
-abbrev AreSections : List (ℕ × List ℕ) → List ℕ → Type 0
-AreSections = Each IsPair
-
 -- no section is empty
-not_empty : (s : ℕ × List ℕ) (text : List ℕ) → IsPair s text → text ≡ [] → ⊥
+pub not_empty : (s : ℕ × List ℕ) (text : List ℕ) → IsPair s text → text ≡ [] → ⊥
 not_empty s text p e =
     let begins : text ≡ s.0 ∷ p.back = p.parts ∙ ap (λ (t : List ℕ). t ++ p.back) p.first in
     absurd (cc)
 
-front_empty : (a b : List ℕ) → a ++ b ≡ [] → a ≡ []
+pub front_empty : (a b : List ℕ) → a ++ b ≡ [] → a ≡ []
 front_empty [] b e = refl
 front_empty (x ∷ a) b e = absurd cc
 
@@ -56,7 +54,7 @@ sections_append (s ∷ ss) ts a b p q = record {
 
 -- ---- the contents of the first section of a number
 
-abbrev is_number : ℕ → ℕ → Bool
+abbrev pub is_number : ℕ → ℕ → Bool
 is_number zero zero = true
 is_number zero (suc k) = false
 is_number (suc n) zero = false
@@ -87,6 +85,7 @@ record Has (number : ℕ) (contents : Option (List ℕ)) (text : List ℕ) : Typ
   pub sections : List (ℕ × List ℕ)
   pub written : AreSections sections text
   pub found : (k : ℕ) → find (suc k) sections ≡ cond (is_number number (suc k)) contents None
+  pub order : others sections ≡ and_part number contents []
 
 -- what is found of a number, in the order of these parts
 abbrev found_in : List (ℕ × Option (List ℕ)) → ℕ → Option (List ℕ)
@@ -94,16 +93,30 @@ found_in [] k = None
 found_in (p ∷ ps) k = or_else (cond (is_number p.0 k) p.1 None) (found_in ps k)
 
 -- the same of several
-record HasAll (parts : List (ℕ × Option (List ℕ))) (text : List ℕ) : Type 0 where
+pub record HasAll (parts : List (ℕ × Option (List ℕ))) (text : List ℕ) : Type 0 where
   pub sections : List (ℕ × List ℕ)
   pub written : AreSections sections text
   pub found : (k : ℕ) → find (suc k) sections ≡ found_in parts (suc k)
+  pub order : others sections ≡ present parts
+
+and_more : (number : ℕ) (contents : List ℕ) (ss ts : List (ℕ × List ℕ)) → unless_custom number contents (ss ++ ts) ≡ unless_custom number contents ss ++ ts
+and_more zero contents ss ts = refl
+and_more (suc n) contents ss ts = refl
+
+others_append : (ss ts : List (ℕ × List ℕ)) → others (ss ++ ts) ≡ others ss ++ others ts
+others_append [] ts = refl
+others_append (s ∷ ss) ts = ap (unless_custom s.0 s.1) (others_append ss ts) ∙ and_more s.0 s.1 (others ss) (others ts)
+
+part_append : (number : ℕ) (o : Option (List ℕ)) (ss : List (ℕ × List ℕ)) → and_part number o [] ++ ss ≡ and_part number o ss
+part_append number None ss = refl
+part_append number (Some c) ss = sym (and_more number c [] ss)
 
 has_more : (number : ℕ) (o : Option (List ℕ)) (ps : List (ℕ × Option (List ℕ))) (a b : List ℕ) → Has number o a → HasAll ps b → HasAll ((number, o) ∷ ps) (a ++ b)
 has_more number o ps a b one rest = record {
   sections = one.sections ++ rest.sections;
   written = sections_append one.sections rest.sections a b one.written rest.written;
   found = λ k. find_append (suc k) one.sections rest.sections ∙ ap (λ x. or_else x (find (suc k) rest.sections)) (one.found k) ∙ ap (or_else (cond (is_number number (suc k)) o None)) (rest.found k);
+  order = others_append one.sections rest.sections ∙ ap (λ ss. ss ++ others rest.sections) one.order ∙ ap (λ ss. and_part number o [] ++ ss) rest.order ∙ part_append number o (present ps);
 }
 
 -- ---- custom sections
@@ -119,6 +132,10 @@ customs_none : (contents : List (List ℕ)) (k : ℕ) → find (suc k) (customs_
 customs_none [] k = refl
 customs_none (c ∷ cs) k = customs_none cs k
 
+customs_others : (contents : List (List ℕ)) → others (customs_of contents) ≡ []
+customs_others [] = refl
+customs_others (c ∷ cs) = customs_others cs
+
 -- custom sections, and then the section of this number if it is there
 has_there : (number : ℕ) (customs contents : List ℕ) (a : List ℕ) → AreCustoms customs → IsSection number contents a → Has number (Some contents) (customs ++ a)
 has_there number customs contents a before it =
@@ -127,6 +144,7 @@ has_there number customs contents a before it =
       sections = customs_of before.customs ++ (number, contents) ∷ [];
       written = sections_append (customs_of before.customs) ((number, contents) ∷ []) customs a (customs_written before.customs customs before.written) one;
       found = λ k. find_append (suc k) (customs_of before.customs) ((number, contents) ∷ []) ∙ ap (λ x. or_else x (find (suc k) ((number, contents) ∷ []))) (customs_none before.customs k) ∙ or_else_none (cond (is_number number (suc k)) (Some contents) None);
+      order = others_append (customs_of before.customs) ((number, contents) ∷ []) ∙ ap (λ ss. ss ++ others ((number, contents) ∷ [])) (customs_others before.customs);
     }
 
 abbrev no_contents : Option (List ℕ)
@@ -141,14 +159,10 @@ has_not number customs before = record {
   sections = customs_of before.customs;
   written = customs_written before.customs customs before.written;
   found = λ k. customs_none before.customs k ∙ sym (cond_none (is_number number (suc k)));
+  order = customs_others before.customs;
 }
 
 -- ---- a module's sections
-
--- The contents of a section of these items, which may be left out where there are none.
-abbrev Contents : {X : Type 0} → (X → List ℕ → Type 0) → List X → Option (List ℕ) → Type 0
-Contents W xs None = xs ≡ []
-Contents W xs (Some c) = IsVector W xs c
 
 record Part {X : Type 0} (number : ℕ) (W : X → List ℕ → Type 0) (xs : List X) (text : List ℕ) : Type 0 where
   pub contents : Option (List ℕ)
@@ -185,10 +199,10 @@ has_last : (number : ℕ) (o : Option (List ℕ)) (ps : List (ℕ × Option (Lis
 has_last number o ps text a b parts one rest = subst (HasAll ((number, o) ∷ ps)) (sym parts) (has_more number o ps a b one rest)
 
 customs_alone : (text : List ℕ) → AreCustoms text → HasAll [] text
-customs_alone text h = record { sections = customs_of h.customs; written = customs_written h.customs text h.written; found = λ k. customs_none h.customs k }
+customs_alone text h = record { sections = customs_of h.customs; written = customs_written h.customs text h.written; found = λ k. customs_none h.customs k; order = customs_others h.customs }
 
 -- what a module has in its sections
-record Found (m : Module) (text : List ℕ) : Type 0 where
+pub record Found (m : Module) (text : List ℕ) : Type 0 where
   pub types : Option (List ℕ)
   pub imports : Option (List ℕ)
   pub functions : Option (List ℕ)
@@ -207,7 +221,7 @@ record Found (m : Module) (text : List ℕ) : Type 0 where
   pub all : HasAll ((1, types) ∷ (2, imports) ∷ (3, functions) ∷ (4, tables) ∷ (5, memories) ∷ (6, globals) ∷ (7, exports)
       ∷ (8, skipped.0) ∷ (9, skipped.1) ∷ (12, skipped.2) ∷ (10, skipped.3) ∷ (11, skipped.4) ∷ []) text
 
-found_of : (m : Module) (text : List ℕ) → (AreRead m ⋅ AreSkipped) text → Found m text
+pub found_of : (m : Module) (text : List ℕ) → (AreRead m ⋅ AreSkipped) text → Found m text
 found_of m text h =
     let r1 = h.first in
     let r2 = r1.second in
@@ -265,7 +279,7 @@ found_of m text h =
 
 -- ---- one module
 
-same_items : {X : Type 0} (W : X → List ℕ → Type 0) → Once W → (xs ys : List X) (o : Option (List ℕ)) → Contents W xs o → Contents W ys o → xs ≡ ys
+pub same_items : {X : Type 0} (W : X → List ℕ → Type 0) → Once W → (xs ys : List X) (o : Option (List ℕ)) → Contents W xs o → Contents W ys o → xs ≡ ys
 same_items W once xs ys None p q = p ∙ sym q
 same_items W once xs ys (Some c) p q = (vector_once W once xs ys c c [] [] p q refl).0
 

@@ -1,5 +1,5 @@
 //! What is checked of a whole list.
-ghost use Rattle.std.specs.Prelude.{◌≡◌, ◌≤◌, IfOk, IsTrue, All, length, map};
+ghost use Rattle.std.specs.Prelude.{◌≡◌, ◌↔◌, ◌≤◌, IfOk, IsTrue, All, length, map};
 ghost use Rattle.std.specs.List.{count_by, list_any};
 ghost use Rattle.std.specs.Str.{bytes_eq};
 ghost use Rattle.wasmi_module.specs.Valid.{is_of, IsImportWithin, IsInitWithin, AreDistinct};
@@ -12,7 +12,7 @@ use std::collections::BTreeSet;
 
 // Whether an import has a type of the module.
 pub(crate) fn is_import_within(item: &ImportType, counts: &Counts) -> bool
-    ensures { IsTrue result → IsImportWithin counts.now item.now }
+    ensures { IsTrue result ↔ IsImportWithin counts.now item.now }
 {
     match item {
         ImportType::Func(index) => (*index as usize) < counts.types,
@@ -47,7 +47,7 @@ pub(crate) fn imported(imports: &[Import<'_>], kind: Kind) -> usize
 
 // Whether the first values of globals refer only to what there is.
 pub(crate) fn are_inits_within(globals: &[Global<'_>], counts: &Counts) -> bool
-    ensures { IsTrue result → All (λ global. IsInitWithin counts.now (init_of global.init)) globals.now }
+    ensures { IsTrue result ↔ All (λ global. IsInitWithin counts.now (init_of global.init)) globals.now }
 {
     globals
         .iter()
@@ -56,7 +56,7 @@ pub(crate) fn are_inits_within(globals: &[Global<'_>], counts: &Counts) -> bool
 
 // Whether a first value refers only to what there is.
 fn is_init_within(init: &Init<'_>, counts: &Counts) -> bool
-    ensures { IsTrue result → IsInitWithin counts.now (init_of init.now) }
+    ensures { IsTrue result ↔ IsInitWithin counts.now (init_of init.now) }
 {
     match init {
         Init::RefFunc(index) => (*index as usize) < counts.functions,
@@ -73,7 +73,7 @@ pub(crate) fn are_distinct<A: Allocator + Copy>(
     alloc: A,
     exports: &[Export<'_>],
 ) -> Result<bool, AllocError>
-    ensures { IfOk result (λ distinct. IsTrue distinct → AreDistinct (map (λ export. export.name.now) exports.now)) }
+    ensures { IfOk result (λ distinct. IsTrue distinct ↔ AreDistinct (map (λ export. export.name.now) exports.now)) }
 {
     if exports.len() <= FEW {
         return Ok(are_few_distinct(exports));
@@ -89,7 +89,7 @@ pub(crate) fn are_distinct<A: Allocator + Copy>(
 
 // The same of few exports, without memory.
 fn are_few_distinct(exports: &[Export<'_>]) -> bool
-    ensures { IsTrue result → AreDistinct (map (λ export. export.name.now) exports.now) }
+    ensures { IsTrue result ↔ AreDistinct (map (λ export. export.name.now) exports.now) }
 {
     for (place, export) in exports.iter().enumerate() {
         if is_among(&exports[..place], export.name) {

@@ -1,6 +1,6 @@
 //! The first value of a global.
-ghost use Rattle.std.specs.Prelude.{IfOk};
-ghost use Rattle.wasmi_module.specs.Texts.{Reads, ◌⋅◌};
+ghost use Rattle.std.specs.Prelude.{MatchResult};
+ghost use Rattle.wasmi_module.specs.Texts.{Reads, Lacks, ◌⋅◌};
 ghost use Rattle.wasmi_module.specs.Format.{Byte, IsBytes, IsConstant};
 ghost use Rattle.wasmi_module.specs.Numbers.{IsU32};
 ghost use Rattle.wasmi_module.specs.Views.{init_of};
@@ -12,7 +12,7 @@ use crate::reader::Reader;
 impl<'a> Reader<'a> {
     // A constant instruction, and the instruction `end`.
     pub(crate) fn init(&mut self) -> Result<Init<'a>, DecodeError>
-        ensures { IfOk result (λ init. Reads (IsConstant (init_of init) ⋅ Byte 11) self.old self.new) }
+        ensures { MatchResult result (λ init. Reads (IsConstant (init_of init) ⋅ Byte 11) self.old self.new) (λ _. Lacks (λ init. IsConstant init ⋅ Byte 11) self.old) }
     {
         let init = self.constant()?;
         let offset = self.offset();
@@ -24,7 +24,7 @@ impl<'a> Reader<'a> {
 
     // A constant instruction.
     fn constant(&mut self) -> Result<Init<'a>, DecodeError>
-        ensures { IfOk result (λ init. Reads (IsConstant (init_of init)) self.old self.new) }
+        ensures { MatchResult result (λ init. Reads (IsConstant (init_of init)) self.old self.new) (λ _. Lacks IsConstant self.old) }
     {
         let offset = self.offset();
         match self.byte()? {
@@ -66,7 +66,7 @@ impl<'a> Reader<'a> {
 
     // What follows the first byte of a constant vector.
     fn v128(&mut self) -> Result<&'a [u8], DecodeError>
-        ensures { IfOk result (λ bytes. Reads (IsU32 12 ⋅ IsBytes 16 bytes.now) self.old self.new) }
+        ensures { MatchResult result (λ bytes. Reads (IsU32 12 ⋅ IsBytes 16 bytes.now) self.old self.new) (λ _. Lacks (λ bytes. IsU32 12 ⋅ IsBytes 16 bytes) self.old) }
     {
         let offset = self.offset();
         if self.u32()? != 12 {

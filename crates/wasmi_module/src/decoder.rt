@@ -1,7 +1,10 @@
 //! From bytes to a module.
-ghost use Rattle.std.specs.Prelude.{◌≡◌, All, IfOk, OnOk};
-ghost use Rattle.wasmi_module.specs.Texts.{Is, Reads};
-ghost use Rattle.wasmi_module.specs.Sections.{header, IsWritten, AreRead};
+ghost use Rattle.std.specs.Prelude.{◌≡◌, ◌≢◌, ℕ, List, All, IfOk, IfErr, OnOk, MatchResult};
+ghost use Rattle.wasmi_module.specs.Texts.{Is, ◌⋅◌, Reads};
+ghost use Rattle.wasmi_module.specs.Modules as plain;
+ghost use Rattle.wasmi_module.specs.Sections.{header, IsWritten, AreRead, AreSkipped};
+ghost use Rattle.wasmi_module.specs.Order.{HasSkipped};
+ghost use Rattle.wasmi_module.specs.declared.error.DecodeError.TheVariants.{NoMemory};
 ghost use Rattle.wasmi_module.specs.Valid.{IsValid};
 ghost use Rattle.wasmi_module.specs.Views.{module_of};
 
@@ -19,6 +22,8 @@ pub fn decode<'a, A: Allocator + Copy>(
 ) -> Result<Module<'a, A>, DecodeError>
     ensures written { IfOk result (λ decoded. IsWritten (module_of decoded) bytes.now) }
     ensures valid { IfOk result (λ decoded. IsValid (module_of decoded)) }
+    // Only for want of memory is a writing of a valid module refused.
+    ensures refused { IfErr result (λ error. error ≢ NoMemory → (m : plain.Module) → IsWritten m bytes.now → ¬ (IsValid m)) }
 {
     let mut reader = Reader::new(bytes);
     reader.header()?;
@@ -31,7 +36,7 @@ pub fn decode<'a, A: Allocator + Copy>(
 impl<'a> Reader<'a> {
     // What stands before the first section.
     fn header(&mut self) -> Result<(), DecodeError>
-        ensures { OnOk result (Reads (Is header) self.old self.new) }
+        ensures { MatchResult result (λ _. Reads (Is header) self.old self.new) (λ _. (after : List ℕ) → ¬ (Reads (Is header) self.old after)) }
     {
         let offset = self.offset();
         if self.bytes(4)? != [0x00, 0x61, 0x73, 0x6d].as_slice() {
@@ -48,6 +53,8 @@ impl<'a> Reader<'a> {
     fn module<A: Allocator + Copy>(&mut self, alloc: A) -> Result<Module<'a, A>, DecodeError>
         ensures written { IfOk result (λ decoded. Reads (AreRead (module_of decoded)) self.old self.new) }
         ensures valid { IfOk result (λ decoded. IsValid (module_of decoded)) }
+        ensures rest { OnOk result ((m : plain.Module) → (AreRead m ⋅ AreSkipped) self.old → HasSkipped self.new) }
+        ensures refused { IfErr result (λ error. error ≢ NoMemory → (m : plain.Module) → (AreRead m ⋅ AreSkipped) self.old → ¬ (IsValid m)) }
     {
         let mut counts = Counts {
             types: 0,

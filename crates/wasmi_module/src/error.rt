@@ -1,4 +1,7 @@
 //! Why bytes aren't a module.
+ghost use Rattle.std.specs.Prelude.{◌≡◌};
+ghost use Rattle.wasmi_module.specs.declared.error.DecodeError.TheVariants.{NoMemory};
+
 use std::alloc::{AllocError, AllocFailed};
 use thiserror::Error;
 
@@ -100,12 +103,16 @@ pub enum DecodeError {
 }
 
 impl From<AllocError> for DecodeError {
+    ghost from_gives = { λ _ error. error ≡ NoMemory };
+
     fn from(_error: AllocError) -> DecodeError {
         DecodeError::NoMemory
     }
 }
 
 impl<T: Drop> From<AllocFailed<T>> for DecodeError {
+    ghost from_gives = { λ _ error. error ≡ NoMemory };
+
     fn from(_error: AllocFailed<T>) -> DecodeError {
         DecodeError::NoMemory
     }

@@ -1,9 +1,13 @@
 //! How each item is read.
-ghost use Rattle.std.specs.Prelude.{◌<◌};
+ghost use Rattle.std.specs.Prelude.{◌<◌, ℕ};
 ghost use Rattle.wasmi_module.specs.Format.{IsValType, IsFuncType, IsImport, IsTableType, IsMemoryType, IsGlobal, IsExport};
 ghost use Rattle.wasmi_module.specs.Numbers.{IsU32};
 ghost use Rattle.wasmi_module.specs.Valid.{IsAnything, IsTypeIndex, IsImportWithin, IsExportWithin};
 ghost use Rattle.wasmi_module.specs.Views.{func_type_of, import_of, global_of, export_of};
+ghost use Rattle.wasmi_module.specs.Modules.{FuncType, Import, Global, Export};
+ghost use Rattle.wasmi_module.specs.declared.module.ValType.{ValType};
+ghost use Rattle.wasmi_module.specs.declared.module.TableType.{TableType};
+ghost use Rattle.wasmi_module.specs.declared.module.MemoryType.{MemoryType};
 
 use crate::check::is_import_within;
 use crate::counts::Counts;
@@ -14,6 +18,10 @@ use crate::reader::Reader;
 use std::alloc::Allocator;
 
 impl<'a, A: Allocator> Item<'a, A> for ValType {
+    ghost Plain = { ValType };
+
+    ghost plain = { λ ty. ty };
+
     ghost writes = { IsValType };
 
     ghost valid = { IsAnything };
@@ -24,7 +32,11 @@ impl<'a, A: Allocator> Item<'a, A> for ValType {
 }
 
 impl<'a, A: Allocator + Copy> Item<'a, A> for FuncType<A> {
-    ghost writes = { λ ty. IsFuncType (func_type_of ty) };
+    ghost Plain = { FuncType };
+
+    ghost plain = { func_type_of };
+
+    ghost writes = { IsFuncType };
 
     ghost valid = { IsAnything };
 
@@ -40,7 +52,11 @@ impl<'a, A: Allocator + Copy> Item<'a, A> for FuncType<A> {
 }
 
 impl<'a, A: Allocator> Item<'a, A> for Import<'a> {
-    ghost writes = { λ import. IsImport (import_of import) };
+    ghost Plain = { Import };
+
+    ghost plain = { import_of };
+
+    ghost writes = { IsImport };
 
     ghost valid = { λ counts import. IsImportWithin counts import.item };
 
@@ -62,6 +78,10 @@ impl<'a, A: Allocator> Item<'a, A> for Import<'a> {
 
 /// The index of the type of a function.
 impl<'a, A: Allocator> Item<'a, A> for u32 {
+    ghost Plain = { ℕ };
+
+    ghost plain = { λ index. index };
+
     ghost writes = { IsU32 };
 
     ghost valid = { IsTypeIndex };
@@ -77,6 +97,10 @@ impl<'a, A: Allocator> Item<'a, A> for u32 {
 }
 
 impl<'a, A: Allocator> Item<'a, A> for TableType {
+    ghost Plain = { TableType };
+
+    ghost plain = { λ ty. ty };
+
     ghost writes = { IsTableType };
 
     ghost valid = { IsAnything };
@@ -87,6 +111,10 @@ impl<'a, A: Allocator> Item<'a, A> for TableType {
 }
 
 impl<'a, A: Allocator> Item<'a, A> for MemoryType {
+    ghost Plain = { MemoryType };
+
+    ghost plain = { λ ty. ty };
+
     ghost writes = { IsMemoryType };
 
     ghost valid = { IsAnything };
@@ -97,7 +125,11 @@ impl<'a, A: Allocator> Item<'a, A> for MemoryType {
 }
 
 impl<'a, A: Allocator> Item<'a, A> for Global<'a> {
-    ghost writes = { λ global. IsGlobal (global_of global) };
+    ghost Plain = { Global };
+
+    ghost plain = { global_of };
+
+    ghost writes = { IsGlobal };
 
     ghost valid = { IsAnything };
 
@@ -109,9 +141,13 @@ impl<'a, A: Allocator> Item<'a, A> for Global<'a> {
 }
 
 impl<'a, A: Allocator> Item<'a, A> for Export<'a> {
-    ghost writes = { λ export. IsExport (export_of export) };
+    ghost Plain = { Export };
 
-    ghost valid = { λ counts export. IsExportWithin counts (export_of export) };
+    ghost plain = { export_of };
+
+    ghost writes = { IsExport };
+
+    ghost valid = { IsExportWithin };
 
     fn read(reader: &mut Reader<'a>, _alloc: A, counts: &Counts) -> Result<Self, DecodeError> {
         let name = reader.name()?;

@@ -1,7 +1,7 @@
 //! Numbers in LEB128.
-ghost use Rattle.std.specs.Prelude.{◌≡◌, ◌+◌, ◌*◌, ◌/◌, ◌^◌, ◌<◌, ◌≤◌, IfOk, pos, ◌+ℤ◌, ◌<ℤ◌, ◌≤ℤ◌};
+ghost use Rattle.std.specs.Prelude.{◌≡◌, ◌+◌, ◌*◌, ◌/◌, ◌^◌, ◌<◌, ◌≤◌, IfOk, OnErr, MatchResult, pos, ◌+ℤ◌, ◌<ℤ◌, ◌≤ℤ◌};
 ghost use Rattle.wasmi_module.specs.Numbers.{IsUnsigned, IsU32, IsSigned, IsI32, IsI64};
-ghost use Rattle.wasmi_module.specs.Texts.{Reads};
+ghost use Rattle.wasmi_module.specs.Texts.{Reads, Lacks};
 
 use crate::error::{DecodeError, Expected};
 use crate::reader::Reader;
@@ -9,7 +9,7 @@ use crate::reader::Reader;
 impl Reader<'_> {
     // A number below 2^32.
     pub(crate) fn u32(&mut self) -> Result<u32, DecodeError>
-        ensures { IfOk result (λ n. Reads (IsU32 n) self.old self.new) }
+        ensures { MatchResult result (λ n. Reads (IsU32 n) self.old self.new) (λ _. Lacks IsU32 self.old) }
     {
         let number = self.unsigned(1 << 32)?;
         Ok(number as u32)
@@ -18,6 +18,7 @@ impl Reader<'_> {
     // A signed number of 32 bits.
     pub(crate) fn i32(&mut self) -> Result<i32, DecodeError>
         ensures number { IfOk result (λ n. Reads (IsI32 n) self.old self.new) }
+        ensures lacks { OnErr result (Lacks IsI32 self.old) }
         ensures above { IfOk result (λ n. pos 0 ≤ℤ (n +ℤ pos (2 ^ 31))) }
         ensures below { IfOk result (λ n. n <ℤ pos (2 ^ 31)) }
     {
@@ -28,6 +29,7 @@ impl Reader<'_> {
     // A signed number of 64 bits.
     pub(crate) fn i64(&mut self) -> Result<i64, DecodeError>
         ensures number { IfOk result (λ n. Reads (IsI64 n) self.old self.new) }
+        ensures lacks { OnErr result (Lacks IsI64 self.old) }
         ensures above { IfOk result (λ n. pos 0 ≤ℤ (n +ℤ pos (2 ^ 63))) }
         ensures below { IfOk result (λ n. n <ℤ pos (2 ^ 63)) }
     {
@@ -38,6 +40,7 @@ impl Reader<'_> {
     fn unsigned(&mut self, limit: u64) -> Result<u64, DecodeError>
         requires { limit ≤ 2 ^ 32 }
         ensures number { IfOk result (λ n. Reads (IsUnsigned limit n) self.old self.new) }
+        ensures lacks { OnErr result (Lacks (IsUnsigned limit) self.old) }
         ensures below { IfOk result (λ n. n < limit) }
     {
         let offset = self.offset();
@@ -56,6 +59,7 @@ impl Reader<'_> {
     fn signed(&mut self, half: u64) -> Result<i64, DecodeError>
         requires { half ≤ 2 ^ 63 }
         ensures number { IfOk result (λ n. Reads (IsSigned half n) self.old self.new) }
+        ensures lacks { OnErr result (Lacks (IsSigned half) self.old) }
         ensures above { IfOk result (λ n. pos 0 ≤ℤ (n +ℤ pos half)) }
         ensures below { IfOk result (λ n. n <ℤ pos half) }
     {

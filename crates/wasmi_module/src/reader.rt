@@ -1,5 +1,5 @@
 //! A reader of bytes from the front on.
-ghost use Rattle.std.specs.Prelude.{◌≡◌, ◌++◌, ◌≤◌, ◌∷◌, ◌<◌, [], length, drop, take, IfOk, OnOk, IsTrue, slice_get};
+ghost use Rattle.std.specs.Prelude.{◌≡◌, ◌≢◌, ◌↔◌, ◌++◌, ◌≤◌, ◌∷◌, ◌<◌, [], length, drop, take, MatchResult, IsTrue, slice_get};
 ghost use Rattle.wasmi_module.specs.Texts.{Is, Reads};
 
 use crate::error::{DecodeError, Expected};
@@ -47,7 +47,7 @@ impl<'a> Reader<'a> {
 
     // The next byte.
     pub(crate) fn byte(&mut self) -> Result<u8, DecodeError>
-        ensures { IfOk result (λ byte. self.old ≡ byte ∷ self.new) }
+        ensures { MatchResult result (λ byte. self.old ≡ byte ∷ self.new) (λ _. self.old ≡ []) }
     {
         match self.rest {
             [] => Err(Expected::Byte.at(self.offset())),
@@ -60,7 +60,7 @@ impl<'a> Reader<'a> {
 
     // The next so many bytes.
     pub(crate) fn bytes(&mut self, len: usize) -> Result<&'a [u8], DecodeError>
-        ensures { IfOk result (λ bytes. (self.old ≡ bytes.now ++ self.new) × (length bytes.now ≡ len)) }
+        ensures { MatchResult result (λ bytes. (self.old ≡ bytes.now ++ self.new) × (length bytes.now ≡ len)) (λ _. length self.old < len) }
     {
         if self.rest.len() < len {
             return Err(Expected::Bytes.at(self.offset()));
@@ -72,7 +72,7 @@ impl<'a> Reader<'a> {
 
     // A reader of the next so many bytes.
     pub(crate) fn part(&mut self, len: usize) -> Result<Reader<'a>, DecodeError>
-        ensures { IfOk result (λ part. (self.old ≡ part ++ self.new) × (length part ≡ len)) }
+        ensures { MatchResult result (λ part. (self.old ≡ part ++ self.new) × (length part ≡ len)) (λ _. length self.old < len) }
     {
         if self.rest.len() < len {
             return Err(Expected::Bytes.at(self.offset()));
@@ -87,21 +87,21 @@ impl<'a> Reader<'a> {
 
     // Whether this byte is next.
     pub(crate) fn is_next(&self, byte: u8) -> bool
-        ensures { IsTrue result → slice_get self.now 0 ≡ Some byte }
+        ensures { IsTrue result ↔ slice_get self.now 0 ≡ Some byte }
     {
         self.rest.first() == Some(&byte)
     }
 
     // Fails with this error unless all was read.
     pub(crate) fn end(&self, expected: Expected) -> Result<(), DecodeError>
-        ensures { OnOk result (self.now ≡ []) }
+        ensures { MatchResult result (λ _. self.now ≡ []) (λ _. self.now ≢ []) }
     {
         self.require(self.rest.is_empty(), expected)
     }
 
     // Fails with this error unless this holds.
     pub(crate) fn require(&self, holds: bool, expected: Expected) -> Result<(), DecodeError>
-        ensures { OnOk result (IsTrue holds) }
+        ensures { MatchResult result (λ _. IsTrue holds) (λ _. ¬ (IsTrue holds)) }
     {
         if holds {
             Ok(())

@@ -1,6 +1,9 @@
 //! Names and types.
-ghost use Rattle.std.specs.Prelude.{◌≡◌, IfOk, IfSome};
-ghost use Rattle.wasmi_module.specs.Texts.{Reads};
+ghost use Rattle.std.specs.Prelude.{◌≡◌, ◌≢◌, MatchOption, MatchResult};
+ghost use Rattle.wasmi_module.specs.Texts.{Reads, Lacks};
+ghost use Rattle.wasmi_module.specs.declared.module.ValType.{ValType};
+ghost use Rattle.wasmi_module.specs.declared.module.RefType.{RefType};
+ghost use Rattle.wasmi_module.specs.declared.module.Kind.{Kind};
 ghost use Rattle.wasmi_module.specs.Format.{Byte, IsName, IsValType, IsRefType, IsLimits, IsTableType, IsMemoryType, IsGlobalType, IsImportType, val_type_code, ref_type_code, kind_code};
 
 use crate::error::{DecodeError, Expected};
@@ -15,7 +18,7 @@ const MAX_PAGES: u32 = 65536;
 impl ValType {
     // The type of this code, if there is one.
     fn from_code(code: u8) -> Option<ValType>
-        ensures { IfSome result (λ ty. val_type_code ty ≡ code) }
+        ensures { MatchOption result ((ty : ValType) → val_type_code ty ≢ code) (λ ty. val_type_code ty ≡ code) }
     {
         match code {
             0x7f => Some(ValType::I32),
@@ -33,7 +36,7 @@ impl ValType {
 impl RefType {
     // The type of this code, if there is one.
     fn from_code(code: u8) -> Option<RefType>
-        ensures { IfSome result (λ ty. ref_type_code ty ≡ code) }
+        ensures { MatchOption result ((ty : RefType) → ref_type_code ty ≢ code) (λ ty. ref_type_code ty ≡ code) }
     {
         match code {
             0x70 => Some(RefType::FuncRef),
@@ -46,7 +49,7 @@ impl RefType {
 impl Kind {
     // The kind of this code, if there is one.
     fn from_code(code: u8) -> Option<Kind>
-        ensures { IfSome result (λ kind. kind_code kind ≡ code) }
+        ensures { MatchOption result ((kind : Kind) → kind_code kind ≢ code) (λ kind. kind_code kind ≡ code) }
     {
         match code {
             0x00 => Some(Kind::Func),
@@ -61,7 +64,7 @@ impl Kind {
 impl<'a> Reader<'a> {
     // A name.
     pub(crate) fn name(&mut self) -> Result<&'a str, DecodeError>
-        ensures { IfOk result (λ name. Reads (IsName name.now) self.old self.new) }
+        ensures { MatchResult result (λ name. Reads (IsName name.now) self.old self.new) (λ _. Lacks IsName self.old) }
     {
         let len = self.u32()?;
         let offset = self.offset();
@@ -74,7 +77,7 @@ impl<'a> Reader<'a> {
 
     // The type of a value.
     pub(crate) fn val_type(&mut self) -> Result<ValType, DecodeError>
-        ensures { IfOk result (λ ty. Reads (IsValType ty) self.old self.new) }
+        ensures { MatchResult result (λ ty. Reads (IsValType ty) self.old self.new) (λ _. Lacks IsValType self.old) }
     {
         let offset = self.offset();
         let code = self.byte()?;
@@ -86,7 +89,7 @@ impl<'a> Reader<'a> {
 
     // The type of a reference.
     pub(crate) fn ref_type(&mut self) -> Result<RefType, DecodeError>
-        ensures { IfOk result (λ ty. Reads (IsRefType ty) self.old self.new) }
+        ensures { MatchResult result (λ ty. Reads (IsRefType ty) self.old self.new) (λ _. Lacks IsRefType self.old) }
     {
         let offset = self.offset();
         let code = self.byte()?;
@@ -98,7 +101,7 @@ impl<'a> Reader<'a> {
 
     // What is imported or exported.
     pub(crate) fn kind(&mut self) -> Result<Kind, DecodeError>
-        ensures { IfOk result (λ kind. Reads (Byte (kind_code kind)) self.old self.new) }
+        ensures { MatchResult result (λ kind. Reads (Byte (kind_code kind)) self.old self.new) (λ _. Lacks (λ (kind : Kind). Byte (kind_code kind)) self.old) }
     {
         let offset = self.offset();
         let code = self.byte()?;
@@ -110,7 +113,7 @@ impl<'a> Reader<'a> {
 
     // The limits of a table or a memory.
     pub(crate) fn limits(&mut self) -> Result<Limits, DecodeError>
-        ensures { IfOk result (λ limits. Reads (IsLimits limits) self.old self.new) }
+        ensures { MatchResult result (λ limits. Reads (IsLimits limits) self.old self.new) (λ _. Lacks IsLimits self.old) }
     {
         let offset = self.offset();
         match self.byte()? {
@@ -136,7 +139,7 @@ impl<'a> Reader<'a> {
 
     // The type of a table.
     pub(crate) fn table_type(&mut self) -> Result<TableType, DecodeError>
-        ensures { IfOk result (λ ty. Reads (IsTableType ty) self.old self.new) }
+        ensures { MatchResult result (λ ty. Reads (IsTableType ty) self.old self.new) (λ _. Lacks IsTableType self.old) }
     {
         let element = self.ref_type()?;
         let limits = self.limits()?;
@@ -145,7 +148,7 @@ impl<'a> Reader<'a> {
 
     // The type of a memory.
     pub(crate) fn memory_type(&mut self) -> Result<MemoryType, DecodeError>
-        ensures { IfOk result (λ ty. Reads (IsMemoryType ty) self.old self.new) }
+        ensures { MatchResult result (λ ty. Reads (IsMemoryType ty) self.old self.new) (λ _. Lacks IsMemoryType self.old) }
     {
         let offset = self.offset();
         let limits = self.limits()?;
@@ -161,7 +164,7 @@ impl<'a> Reader<'a> {
 
     // The type of a global.
     pub(crate) fn global_type(&mut self) -> Result<GlobalType, DecodeError>
-        ensures { IfOk result (λ ty. Reads (IsGlobalType ty) self.old self.new) }
+        ensures { MatchResult result (λ ty. Reads (IsGlobalType ty) self.old self.new) (λ _. Lacks IsGlobalType self.old) }
     {
         let value = self.val_type()?;
         let offset = self.offset();
@@ -180,7 +183,7 @@ impl<'a> Reader<'a> {
 
     // What a module asks for.
     pub(crate) fn import_type(&mut self) -> Result<ImportType, DecodeError>
-        ensures { IfOk result (λ ty. Reads (IsImportType ty) self.old self.new) }
+        ensures { MatchResult result (λ ty. Reads (IsImportType ty) self.old self.new) (λ _. Lacks IsImportType self.old) }
     {
         match self.kind()? {
             Kind::Func => {
