@@ -1,7 +1,8 @@
 -- Where no constant instruction stands at the front of the bytes.
 -- for src/constants.rt
 use Rattle.std.proofs.Common.{◌≡◌, ◌≢◌, ℕ, ◌<◌, length, List, [], ◌∷◌, sym, ◌∙◌, arith}
-use Rattle.wasmi_module.specs.Texts.{◌⋅◌, Reads, Lacks}
+use Rattle.wasmi_module.specs.Texts.{◌⋅◌}
+use Rattle.wasmi_module.specs.inner.Reading.{Reads, Lacks}
 use Rattle.wasmi_module.specs.Numbers.{IsU32, IsI32, IsI64}
 use Rattle.wasmi_module.specs.Modules.{Init, I32, I64, F32, F64, V128, RefNull, RefFunc, GlobalGet}
 use Rattle.wasmi_module.specs.Format.{Byte, IsBytes, IsRefType, IsConstant}

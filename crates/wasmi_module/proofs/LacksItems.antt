@@ -7,7 +7,8 @@ use Rattle.std.proofs.lemmas.List.{take_more, take_all, drop_all, map-id}
 use Rattle.wasmi_module.specs.declared.counts.Counts.{Counts}
 use Rattle.wasmi_module.specs.declared.module.ValType.{ValType}
 use Rattle.wasmi_module.specs.declared.module.Kind.{Kind}
-use Rattle.wasmi_module.specs.Texts.{◌⋅◌, Each, Reads, Lacks, With, Only}
+use Rattle.wasmi_module.specs.Texts.{◌⋅◌, Each}
+use Rattle.wasmi_module.specs.inner.Reading.{Reads, Lacks, With, Only}
 use Rattle.wasmi_module.specs.Numbers.{IsU32}
 use Rattle.wasmi_module.specs.Valid.{IsAnything}
 use Rattle.wasmi_module.specs.Format.{Byte, IsVector, IsName, IsValType, IsFuncType, IsImportType, IsImport, IsGlobalType, IsConstant, IsGlobal, kind_code, IsExport}

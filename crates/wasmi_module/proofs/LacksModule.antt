@@ -12,9 +12,10 @@ use Rattle.wasmi_module.specs.declared.module.Global as rust_global
 use Rattle.wasmi_module.specs.declared.module.Export as rust_export
 use Rattle.wasmi_module.specs.Modules.{Import, Module}
 use Rattle.wasmi_module.specs.Views.{import_of, global_of, export_of, init_of}
-use Rattle.wasmi_module.specs.Texts.{Is, ◌⋅◌, Reads}
+use Rattle.wasmi_module.specs.Texts.{Is, ◌⋅◌}
+use Rattle.wasmi_module.specs.inner.Reading.{Reads}
 use Rattle.wasmi_module.specs.Sections.{header, AreRead, AreSkipped, IsWritten}
-use Rattle.wasmi_module.specs.Order.{HasSections, HasSkipped}
+use Rattle.wasmi_module.specs.inner.Order.{HasSections, HasSkipped}
 use Rattle.wasmi_module.specs.Valid.{IsTypeIndex, IsImportWithin, IsInitWithin, is_of, counts_of, AreDistinct, IsValid}
 use Rattle.wasmi_module.proofs.OnceLemmas.{rest_same, same_front}
 use Rattle.wasmi_module.proofs.OnceSections.{Found}

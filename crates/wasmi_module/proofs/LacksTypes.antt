@@ -3,7 +3,8 @@
 use Rattle.std.proofs.Common.{◌≡◌, ◌≢◌, ℕ, ◌<◌, ◌≤◌, length, List, [], ◌∷◌, ◌++◌, Bool, true, false, Option, Some, None, refl, sym, ap, subst, ◌∙◌, append_assoc, arith}
 use Rattle.std.specs.Prelude.{IfSome, if◌then◌else◌}
 use Rattle.std.specs.Str.{IsUtf8}
-use Rattle.wasmi_module.specs.Texts.{Is, ◌⋅◌, Reads, Lacks}
+use Rattle.wasmi_module.specs.Texts.{Is, ◌⋅◌}
+use Rattle.wasmi_module.specs.inner.Reading.{Reads, Lacks}
 use Rattle.wasmi_module.specs.Numbers.{IsU32}
 use Rattle.wasmi_module.specs.Format.{Byte, IsName, IsValType, IsRefType, kind_code, AreBounds, IsLimits, IsTableType, IsMemoryType, IsGlobalType, IsImportType}
 use Rattle.wasmi_module.specs.declared.module.Limits.{Limits}

@@ -14,7 +14,7 @@ use Rattle.wasmi_module.specs.declared.module.Import as rust_import
 use Rattle.wasmi_module.specs.declared.module.Export as rust_export
 use Rattle.wasmi_module.specs.Modules.{Init, I32, I64, F32, F64, V128, RefNull, RefFunc, GlobalGet, Export}
 use Rattle.wasmi_module.specs.Views.{import_of, init_of, global_of, export_of, module_of}
-use Rattle.wasmi_module.specs.Texts.{Reads}
+use Rattle.wasmi_module.specs.inner.Reading.{Reads}
 use Rattle.wasmi_module.specs.Sections.{IsNext}
 use Rattle.wasmi_module.specs.Valid.{IsTypeIndex, IsImportWithin, IsInitWithin, IsExportWithin, count_of, is_of, counts_of, AreDistinct, IsValid}
 

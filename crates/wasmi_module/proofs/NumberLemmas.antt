@@ -3,7 +3,7 @@
 use Rattle.std.proofs.Common.{◌≡◌, ◌⊎◌, ℕ, ◌+◌, ◌*◌, ◌/◌, ◌<◌, ◌≤◌, List, [], ◌∷◌, ◌++◌, refl, sym, ap, ◌∙◌, Result, Ok, Err, inl, inr, arith}
 use Rattle.std.specs.Prelude.{OnErr, ℤ, pos, ◌+ℤ◌, ◌*ℤ◌}
 use Rattle.wasmi_module.specs.Numbers.{IsUnsigned, IsSigned}
-use Rattle.wasmi_module.specs.Texts.{Reads, Lacks}
+use Rattle.wasmi_module.specs.inner.Reading.{Reads, Lacks}
 use Rattle.wasmi_module.proofs.LawLemmas.{head_same, tail_same}
 
 pub unsigned-last : (limit b : ℕ) (before after : List ℕ) → before ≡ b ∷ after → b < 128 → b < limit → Reads (IsUnsigned limit b) before after

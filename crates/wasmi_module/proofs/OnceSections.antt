@@ -7,7 +7,7 @@ use Rattle.wasmi_module.specs.Numbers.{IsU32}
 use Rattle.wasmi_module.specs.Modules.{Module}
 use Rattle.wasmi_module.specs.Format.{IsFuncType, IsImport, IsTableType, IsMemoryType, IsGlobal, IsExport}
 use Rattle.wasmi_module.specs.Sections.{IsSection, AreCustoms, IsNext, IsSkipped, AreRead, AreSkipped, IsWritten}
-use Rattle.wasmi_module.specs.Order.{AreSections, unless_custom, others, and_part, present, Contents}
+use Rattle.wasmi_module.specs.inner.Order.{AreSections, unless_custom, others, and_part, present, Contents}
 use Rattle.wasmi_module.proofs.OnceLemmas.{Once, once_then, byte_once, sized_once, vector_once, u32_once, rest_same}
 use Rattle.wasmi_module.proofs.OnceItems.{func_type_once, import_once, table_type_once, memory_type_once, global_once, export_once}
 

@@ -6,11 +6,12 @@ use Rattle.std.specs.Prelude.{IfSome, IfNone, slice_get}
 use Rattle.std.specs.Option.{is_some}
 use Rattle.std.proofs.lemmas.List.{append-nil}
 use Rattle.std.proofs.lemmas.List.Elements.{All-cons}
-use Rattle.wasmi_module.specs.Texts.{Is, ◌⋅◌, Each, Reads, Lacks, With, Only}
+use Rattle.wasmi_module.specs.Texts.{Is, ◌⋅◌, Each}
+use Rattle.wasmi_module.specs.inner.Reading.{Reads, Lacks, With, Only}
 use Rattle.wasmi_module.specs.Numbers.{IsU32}
 use Rattle.wasmi_module.specs.Format.{IsVector}
 use Rattle.wasmi_module.specs.Sections.{IsSection, AreCustoms}
-use Rattle.wasmi_module.specs.Order.{AreSections, unless_custom, others, and_part, present, HasSections, NoSections, HasFirst, Contents, OnlySection, LacksSection, Behind}
+use Rattle.wasmi_module.specs.inner.Order.{AreSections, unless_custom, others, and_part, present, HasSections, NoSections, HasFirst, Contents, OnlySection, LacksSection, Behind}
 use Rattle.wasmi_module.proofs.OnceLemmas.{u32_once, rest_same}
 use Rattle.wasmi_module.proofs.OnceSections.{IsPair, is_number, pair_once, not_empty, front_empty}
 use Rattle.wasmi_module.proofs.LacksLemmas.{split, reads_once, not_first, not_after_byte, not_long}

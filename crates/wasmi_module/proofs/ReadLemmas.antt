@@ -3,7 +3,8 @@
 use Rattle.std.proofs.Common.{◌≡◌, ℕ, length, List, [], ◌∷◌, ◌++◌, refl, sym, ap, subst, ◌∙◌, append_assoc}
 use Rattle.std.proofs.lemmas.List.{append-nil}
 use Rattle.std.specs.Str.{IsUtf8}
-use Rattle.wasmi_module.specs.Texts.{Is, ◌⋅◌, Each, Reads}
+use Rattle.wasmi_module.specs.Texts.{Is, ◌⋅◌, Each}
+use Rattle.wasmi_module.specs.inner.Reading.{Reads}
 use Rattle.wasmi_module.specs.Numbers.{IsU32}
 use Rattle.wasmi_module.specs.Format.{IsBytes, IsName}
 

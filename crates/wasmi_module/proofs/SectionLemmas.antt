@@ -4,7 +4,8 @@ use Rattle.std.proofs.Common.{◌≡◌, ℕ, length, List, [], ◌∷◌, ◌++
 use Rattle.std.specs.Prelude.{IfSome, IfNone, slice_get}
 use Rattle.std.specs.Option.{is_some}
 use Rattle.std.proofs.lemmas.List.{append-nil}
-use Rattle.wasmi_module.specs.Texts.{Each, Reads}
+use Rattle.wasmi_module.specs.Texts.{Each}
+use Rattle.wasmi_module.specs.inner.Reading.{Reads}
 use Rattle.wasmi_module.specs.Numbers.{IsU32}
 use Rattle.wasmi_module.specs.Format.{IsVector}
 use Rattle.wasmi_module.specs.Sections.{IsSection, AreCustoms, IsSectionOf, IsNext, IsAny}

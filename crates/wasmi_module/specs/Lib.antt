@@ -6,4 +6,4 @@ pub mod Format
 pub mod Sections
 pub mod Valid
 pub mod Matching
-pub mod Order
+pub mod inner

@@ -1,6 +1,7 @@
 //! The first value of a global.
 ghost use Rattle.std.specs.Prelude.{MatchResult};
-ghost use Rattle.wasmi_module.specs.Texts.{Reads, Lacks, ◌⋅◌};
+ghost use Rattle.wasmi_module.specs.Texts.{◌⋅◌};
+ghost use Rattle.wasmi_module.specs.inner.Reading.{Reads, Lacks};
 ghost use Rattle.wasmi_module.specs.Format.{Byte, IsBytes, IsConstant};
 ghost use Rattle.wasmi_module.specs.Numbers.{IsU32};
 ghost use Rattle.wasmi_module.specs.Views.{init_of};

@@ -1,9 +1,10 @@
 //! From bytes to a module.
 ghost use Rattle.std.specs.Prelude.{◌≡◌, ◌≢◌, ℕ, List, All, IfOk, IfErr, OnOk, MatchResult};
-ghost use Rattle.wasmi_module.specs.Texts.{Is, ◌⋅◌, Reads};
+ghost use Rattle.wasmi_module.specs.Texts.{Is, ◌⋅◌};
+ghost use Rattle.wasmi_module.specs.inner.Reading.{Reads};
 ghost use Rattle.wasmi_module.specs.Modules as plain;
 ghost use Rattle.wasmi_module.specs.Sections.{header, IsWritten, AreRead, AreSkipped};
-ghost use Rattle.wasmi_module.specs.Order.{HasSkipped};
+ghost use Rattle.wasmi_module.specs.inner.Order.{HasSkipped};
 ghost use Rattle.wasmi_module.specs.declared.error.DecodeError.TheVariants.{NoMemory};
 ghost use Rattle.wasmi_module.specs.Valid.{IsValid};
 ghost use Rattle.wasmi_module.specs.Views.{module_of};

@@ -1,6 +1,7 @@
 //! What a module has lists of.
 ghost use Rattle.std.specs.Prelude.{◌≡◌, ◌≢◌, ℕ, List, IfOk, IfErr, All, length, map};
-ghost use Rattle.wasmi_module.specs.Texts.{Reads, Each, Lacks, With, Only};
+ghost use Rattle.wasmi_module.specs.Texts.{Each};
+ghost use Rattle.wasmi_module.specs.inner.Reading.{Reads, Lacks, With, Only};
 ghost use Rattle.wasmi_module.specs.declared.counts.Counts.{Counts};
 ghost use Rattle.wasmi_module.specs.declared.error.DecodeError.TheVariants.{NoMemory};
 ghost use Rattle.wasmi_module.specs.Format.{IsVector};

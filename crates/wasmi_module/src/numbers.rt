@@ -1,7 +1,7 @@
 //! Numbers in LEB128.
 ghost use Rattle.std.specs.Prelude.{◌≡◌, ◌+◌, ◌*◌, ◌/◌, ◌^◌, ◌<◌, ◌≤◌, IfOk, OnErr, MatchResult, pos, ◌+ℤ◌, ◌<ℤ◌, ◌≤ℤ◌};
 ghost use Rattle.wasmi_module.specs.Numbers.{IsUnsigned, IsU32, IsSigned, IsI32, IsI64};
-ghost use Rattle.wasmi_module.specs.Texts.{Reads, Lacks};
+ghost use Rattle.wasmi_module.specs.inner.Reading.{Reads, Lacks};
 
 use crate::error::{DecodeError, Expected};
 use crate::reader::Reader;

@@ -1,6 +1,7 @@
 //! A reader of bytes from the front on.
 ghost use Rattle.std.specs.Prelude.{◌≡◌, ◌≢◌, ◌↔◌, ◌++◌, ◌≤◌, ◌∷◌, ◌<◌, [], length, drop, take, MatchResult, IsTrue, slice_get};
-ghost use Rattle.wasmi_module.specs.Texts.{Is, Reads};
+ghost use Rattle.wasmi_module.specs.Texts.{Is};
+ghost use Rattle.wasmi_module.specs.inner.Reading.{Reads};
 
 use crate::error::{DecodeError, Expected};
 use std::marker::Model;

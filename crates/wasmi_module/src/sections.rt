@@ -1,8 +1,8 @@
 //! Sections.
 ghost use Rattle.std.specs.Prelude.{◌≡◌, ◌≢◌, ◌<◌, ◌++◌, [], All, IfOk, IfErr, IfSome, IfNone, OnOk, OnErr, MatchOption, length, map, slice_get};
-ghost use Rattle.wasmi_module.specs.Texts.{Reads};
+ghost use Rattle.wasmi_module.specs.inner.Reading.{Reads};
 ghost use Rattle.wasmi_module.specs.Sections.{IsSection, AreCustoms, IsNext, IsSkipped, AreSkipped};
-ghost use Rattle.wasmi_module.specs.Order.{NoSections, OnlySection, LacksSection, Behind, HasSkipped};
+ghost use Rattle.wasmi_module.specs.inner.Order.{NoSections, OnlySection, LacksSection, Behind, HasSkipped};
 ghost use Rattle.wasmi_module.specs.declared.error.DecodeError.TheVariants.{NoMemory};
 
 use crate::counts::Counts;

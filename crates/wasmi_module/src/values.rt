@@ -1,6 +1,6 @@
 //! Names and types.
 ghost use Rattle.std.specs.Prelude.{◌≡◌, ◌≢◌, MatchOption, MatchResult};
-ghost use Rattle.wasmi_module.specs.Texts.{Reads, Lacks};
+ghost use Rattle.wasmi_module.specs.inner.Reading.{Reads, Lacks};
 ghost use Rattle.wasmi_module.specs.declared.module.ValType.{ValType};
 ghost use Rattle.wasmi_module.specs.declared.module.RefType.{RefType};
 ghost use Rattle.wasmi_module.specs.declared.module.Kind.{Kind};

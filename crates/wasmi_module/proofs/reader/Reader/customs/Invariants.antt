@@ -1,5 +1,5 @@
 use Rattle.std.proofs.Common.{length}
-use Rattle.wasmi_module.specs.Texts.{Reads}
+use Rattle.wasmi_module.specs.inner.Reading.{Reads}
 use Rattle.wasmi_module.specs.Sections.{AreCustoms}
 use Rattle.wasmi_module.proofs.reader.Reader.customs.Given as goal
 

@@ -1,7 +1,8 @@
 use Rattle.std.proofs.Common.{◌≡◌, length, map, arith, length-append}
 use Rattle.std.proofs.lemmas.List.{map_push}
 use Rattle.std.proofs.lemmas.List.Elements.{All-push}
-use Rattle.wasmi_module.specs.Texts.{Reads, Each}
+use Rattle.wasmi_module.specs.Texts.{Each}
+use Rattle.wasmi_module.specs.inner.Reading.{Reads}
 use Rattle.wasmi_module.proofs.ReadLemmas.{reads-each_push}
 use Rattle.wasmi_module.proofs.LacksLemmas.{passed}
 use Rattle.wasmi_module.proofs.LacksItems.{each_step, each_all, each_lacks}

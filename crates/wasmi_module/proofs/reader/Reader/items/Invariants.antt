@@ -1,5 +1,6 @@
 use Rattle.std.proofs.Common.{◌≡◌, ℕ, ◌≤◌, List, length, map, take, drop, All}
-use Rattle.wasmi_module.specs.Texts.{Reads, Each}
+use Rattle.wasmi_module.specs.Texts.{Each}
+use Rattle.wasmi_module.specs.inner.Reading.{Reads}
 use Rattle.wasmi_module.proofs.reader.Reader.items.Given as goal
 
 -- so many items were read, from the first byte on, and no others stand there
