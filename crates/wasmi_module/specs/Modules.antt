@@ -8,10 +8,12 @@ use Rattle.wasmi_module.specs.declared.module.GlobalType.{GlobalType}
 use Rattle.wasmi_module.specs.declared.module.ImportType.{ImportType}
 use Rattle.wasmi_module.specs.declared.module.Kind.{Kind}
 
+-- the type of a function
 pub record FuncType : Type 0 where
   pub params : List ValType
   pub results : List ValType
 
+-- what a module asks for
 pub record Import : Type 0 where
   -- the names of the module that is asked, and of its export
   pub asked : List ℕ
@@ -29,10 +31,12 @@ pub data Init : Type 0 where
   RefFunc : ℕ → Init
   GlobalGet : ℕ → Init
 
+-- a global
 pub record Global : Type 0 where
   pub ty : GlobalType
   pub init : Init
 
+-- what others may ask for
 pub record Export : Type 0 where
   pub name : List ℕ
   pub kind : Kind
