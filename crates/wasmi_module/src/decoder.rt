@@ -23,7 +23,7 @@ pub fn decode<'a, A: Allocator + Copy>(
 ) -> Result<Module<'a, A>, DecodeError>
     ensures written { IfOk result (λ decoded. IsWritten (module_of decoded) bytes.now) }
     ensures valid { IfOk result (λ decoded. IsValid (module_of decoded)) }
-    // Only for want of memory is a writing of a valid module refused.
+    // A writing of a valid module is refused only when memory runs out.
     ensures refused { IfErr result (λ error. error ≢ NoMemory → (m : plain.Module) → IsWritten m bytes.now → ¬ (IsValid m)) }
 {
     let mut reader = Reader::new(bytes);
