@@ -119,7 +119,7 @@ fn decode_file<'a, A: Allocator + Copy>(
     alloc: A,
     file: &'a File<'a>,
 ) -> Result<NamedModule<'a, A>, DecodeError>
-    ensures module { IfOk result (λ named. IsIn file.now (named_of named)) }
+    ensures ok { IfOk result (λ named. IsIn file.now (named_of named)) }
     ensures none { IfErr result (λ error. error ≢ DecodeError.NoMemory → IsNoModule file.now) }
 {
     let module = decode(alloc, file.bytes)?;
