@@ -1,5 +1,5 @@
 //! How often calls of ordered maps and sets compare and clone.
-use std::alloc::Global;
+use std::alloc::{AllocError, Global};
 use wasmi_arena::ArenaError;
 use wasmi_ordered::map::Entry;
 use wasmi_ordered::{Map, Set};
@@ -187,6 +187,11 @@ fn an_ordered_entry_compares_as_a_read_does(rt: HostRuntime) {
     }
 }
 
+// A key of one number.
+fn vector<'a>(alloc: Global, number: u32, notes: &'a Notes) -> Result<Vec<Noted<'a>>, AllocError> {
+    Ok(Vec::from_array(alloc, [Noted::new(number, notes)])?)
+}
+
 // Whether one of the calls by a slice finds a key.
 fn finds_slice<'a>(
     map: &mut Map<Vec<Noted<'a>>, u32>,
@@ -211,16 +216,17 @@ fn finds_slice<'a>(
 #[test]
 fn a_slice_is_searched_as_its_vector(rt: HostRuntime) {
     let notes = Notes::new();
-    let vector = |number| Vec::from_array(rt.alloc(), [Noted::new(number, &notes)]);
     for call in 0..10 {
         for number in [0, 57, 99, 100] {
             let mut map: Map<Vec<Noted<'_>>, u32> = Map::new(rt.alloc());
             let mut set: Set<Vec<Noted<'_>>> = Set::new(rt.alloc());
             for key in 0..100u32 {
-                map.insert(vector(key).expect(&rt, ""), key).expect(&rt, "");
-                set.insert(vector(key).expect(&rt, "")).expect(&rt, "");
+                let one = vector(rt.alloc(), key, &notes).expect(&rt, "");
+                map.insert(one, key).expect(&rt, "");
+                let one = vector(rt.alloc(), key, &notes).expect(&rt, "");
+                set.insert(one).expect(&rt, "");
             }
-            let key = vector(number).expect(&rt, "");
+            let key = vector(rt.alloc(), number, &notes).expect(&rt, "");
             notes.compared();
             map.contains_key(&key);
             let read = notes.compared();
