@@ -2,7 +2,7 @@
 use std::alloc::Global;
 use std::cmp::Ordering;
 use std::hash::{DefaultHasher, Hash, Hasher};
-use wasmi_arena::{ArenaError, StableVec};
+use wasmi_arena::{ArenaError, StableArena, StableVec};
 use wasmi_vectors::assert_equal;
 use wasmi_vectors::noted::{Noted, Notes};
 
@@ -89,6 +89,25 @@ fn walks_from_both_ends(rt: HostRuntime) {
     assert!(rt; (0..32u32).all(|wanted| ends.next() == Some(&wanted)));
     assert_equal!(rt; (ends.next_back(), ends.next()), (Some(&96), Some(&32)));
     assert_equal!(rt; (ends.next_back(), ends.len()), (Some(&95), 62));
+}
+
+// By value, from the front and the back in turn, within a bucket and across buckets.
+#[test]
+fn both_ends_give_items_away(rt: HostRuntime) {
+    for len in [2u32, 7, 32, 40, 101] {
+        let mut items = counted(rt.alloc(), len).expect(&rt, "").into_iter();
+        let arena = StableArena::<u32, u32>::from_iter(rt.alloc(), 0..len);
+        let mut entries = arena.expect(&rt, "").into_iter();
+        for (front, back) in (0..len / 2).zip((0..len).rev()) {
+            assert_equal!(rt; (items.next(), items.next_back()), (Some(front), Some(back)), "of {len}");
+            let ends = (entries.next(), entries.next_back());
+            assert_equal!(rt; ends, (Some((front, front)), Some((back, back))), "of {len}");
+        }
+        let left = len % 2 == 1;
+        assert_equal!(rt; (items.len(), entries.len()), (left as usize, left as usize));
+        assert_equal!(rt; (items.next_back().is_some(), items.next()), (left, None), "of {len}");
+        assert_equal!(rt; (entries.next_back().is_some(), entries.next()), (left, None), "of {len}");
+    }
 }
 
 // What is written by `get_mut`, and by a loop, is read by a walk and backward.

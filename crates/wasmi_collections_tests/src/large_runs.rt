@@ -102,8 +102,7 @@ fn many_commands_to_an_interner(rt: HostRuntime) {
         let command = match turn / MANY {
             0 => InternCommand::Intern(text, InternHint::LikelyNew),
             1 => InternCommand::Intern(text, InternHint::LikelyExists),
-            2 => InternCommand::Find(text),
-            3 => InternCommand::Find(text),
+            2 | 3 => InternCommand::Find(text),
             _ => InternCommand::Len,
         };
         commands.push(command).expect(&rt, "");

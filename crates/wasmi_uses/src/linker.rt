@@ -1,5 +1,5 @@
 //! The names that modules export, each of which a linker takes once.
-ghost use Rattle.std.specs.Prelude.{◌≡◌, [], ◌∷◌, ◌++◌, length, not, true, false, is_some, IfOk, IfSome, IfNone, OnErr, Some, slice_get};
+ghost use Rattle.std.specs.Prelude.{◌≡◌, ◌≢◌, None, [], ◌∷◌, ◌++◌, length, not, true, false, is_some, IfOk, IfSome, IfNone, OnErr, Some, slice_get};
 ghost use Rattle.wasmi_collections.specs.Interner.{symbol_of};
 
 use std::alloc::Allocator;
@@ -67,7 +67,9 @@ pub fn symbol_of_new<A: Allocator + Clone>(
     name: &str,
 ) -> Result<Option<Sym>, ArenaError>
     ensures new { IfOk result (λ symbol. IfSome symbol (λ number. number ≡ length names.old)) }
-    ensures known { IfOk result (λ symbol. IfNone symbol (names.new ≡ names.old)) }
+    ensures added { IfOk result (λ symbol. IfSome symbol (λ number. names.new ≡ names.old ++ name.now ∷ [])) }
+    ensures known { IfOk result (λ symbol. IfNone symbol (symbol_of names.old name.now ≢ None)) }
+    ensures kept { IfOk result (λ symbol. IfNone symbol (names.new ≡ names.old)) }
     ensures err { OnErr result (names.new ≡ names.old) }
 {
     appended_texts();
