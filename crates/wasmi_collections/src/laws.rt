@@ -37,8 +37,8 @@ use std::hash::Hash;
 pub use strings::{strings_by_bytes, texts_handed_in};
 use wasmi_arena::ArenaKey;
 pub use wasmi_interner::laws::{
-    appended_texts, binary_digits, equal_in_length_order, equal_symbols, interned_texts,
-    length_order, ordered_by_length, ordered_symbols, searched_by_symbols,
+    appended_texts, binary_digits, equal_in_length_order, equal_symbols, hashed_symbols,
+    interned_texts, length_order, ordered_by_length, ordered_symbols, searched_by_symbols,
     symbols_of_distinct_texts,
 };
 

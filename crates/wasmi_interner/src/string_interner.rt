@@ -24,9 +24,9 @@ use wasmi_arena::ArenaError;
 /// A list of distinct texts, each under its position as its symbol.
 ///
 /// A text is found by its hash. Where several texts have one hash, they are in length order, and are found by a
-/// binary search, so names that were made to collide cost no more than that. The texts are kept for the life of the
-/// interner, so a symbol is good for as long, and is cheaper to copy, compare and store than its text. They lie one
-/// behind another in one block of memory, which grows as a vector does. There are at most 2^32 texts.
+/// binary search, so names that were made to collide cost no more than that. The texts are kept until `clear`, so a
+/// symbol is good for as long, and is cheaper to copy, compare and store than its text. They lie one behind another
+/// in one block of memory, which grows as a vector does. There are at most 2^32 texts.
 #[derive(Drop)]
 pub struct StringInterner<A: Allocator = Global> {
     texts: Texts<A>,

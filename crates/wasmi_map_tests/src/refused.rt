@@ -162,8 +162,9 @@ fn make<'l, T: Made<'l>>(
     assert!(*rt; false, "{make:?}");
 }
 
-const OF_MAPS: [(Call, Answer, u32); 8] = [
+const OF_MAPS: [(Call, Answer, u32); 9] = [
     (Call::Insert, Item(None), 60),
+    (Call::TryInsert, Item(None), 60),
     (Call::OrInsert, Item(Some(0)), 60),
     (Call::OrInsertWith, Item(Some(0)), 60),
     (Call::OrInsertWithKey, Item(Some(0)), 60),

@@ -11,7 +11,7 @@ use wasmi_vectors::observed::{Log, Observed};
 type Row = (Call, u32, u32, Answer);
 
 // Of an empty map.
-const MAP_GROWS: [Row; 19] = [
+const MAP_GROWS: [Row; 21] = [
     (Call::IsEmpty, 0, 0, Truth(true)),
     (Call::Insert, 1, 10, Item(None)),
     (Call::Insert, 1, 11, Item(Some(10))),
@@ -28,13 +28,15 @@ const MAP_GROWS: [Row; 19] = [
     (Call::Counted, 0, 0, Number(2)),
     (Call::OrDefault, 5, 15, Item(Some(0))),
     (Call::VacantInsert, 6, 16, Item(Some(16))),
+    (Call::TryInsert, 8, 18, Item(None)),
+    (Call::Remove, 8, 0, Item(Some(18))),
     (Call::EntryKey, 7, 0, Item(Some(7))),
     (Call::Reserve, 0, 100, Done),
     (Call::Len, 0, 0, Number(6)),
 ];
 
 // Of the keys 1 to 6, under which are 11, 12, 13, 4, 0 and 16.
-const MAP_NEEDS_NO_MEMORY: [Row; 49] = [
+const MAP_NEEDS_NO_MEMORY: [Row; 50] = [
     (Call::IsEmpty, 0, 0, Truth(false)),
     (Call::Contains, 1, 0, Truth(true)),
     (Call::Contains, 7, 0, Truth(false)),
@@ -45,6 +47,7 @@ const MAP_NEEDS_NO_MEMORY: [Row; 49] = [
     (Call::GetMut, 3, 30, Item(Some(13))),
     (Call::GetMut, 7, 30, Item(None)),
     (Call::Insert, 3, 31, Item(Some(30))),
+    (Call::TryInsert, 3, 41, Item(Some(41))),
     (Call::Get, 3, 0, Item(Some(31))),
     (Call::EntryKey, 3, 0, Item(Some(3))),
     (Call::OrInsert, 3, 32, Item(Some(31))),

@@ -12,6 +12,7 @@ use wasmi_vectors::observed::Observed;
 #[derive(Clone, Copy, Debug, PartialEq)]
 pub enum Call {
     Insert,
+    TryInsert,
     Replace,
     Get,
     GetMut,
@@ -149,6 +150,7 @@ macro_rules! ask_map {
     ($map:ident, $call:ident, $key:ident, $value:ident, $more:ident, $ask_entry:ident) => {{
         Ok(match $call {
             Call::Insert => Item($map.insert($key, $value)?),
+            Call::TryInsert => Item($map.try_insert($key, $value)?.err()),
             Call::Get => Item($map.get(&$key).copied()),
             Call::GetMut => Item(match $map.get_mut(&$key) {
                 Some(value) => Some(mem::replace(value, $value)),

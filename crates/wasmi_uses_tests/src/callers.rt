@@ -279,6 +279,10 @@ fn tables_of_a_module(rt: HostRuntime) {
     for (constant, slot) in [(40, 0), (2, 1), (40, 0)] {
         assert_equal!(rt; tables.constant(constant).expect(&rt, ""), slot);
     }
+    assert_equal!(rt; tables.constant_twice(2).expect(&rt, ""), (1, 1));
+    let (step, again) = tables.declare_twice("step").expect(&rt, "");
+    assert!(rt; step == again && step != other);
+    assert_equal!(rt; tables.name_and_line(FuncId::from_u32(3)), Some((step, Some(2))));
 }
 
 #[test]
