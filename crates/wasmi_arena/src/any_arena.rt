@@ -9,7 +9,7 @@ use crate::{ArenaError, ArenaKey};
 /// [`run_arena`](crate::run_arena) knows no more of an arena than what stands here. Each type of arenas
 /// has calls of its own under the same names, whose contracts say more.
 pub trait AnyArena<Key: ArenaKey, T> {
-    /// The items of an arena, and how many more fit before memory is asked for.
+    /// The items of an arena, and how many more fit, if there are keys, before memory is asked for.
     ghost state: { Self → ArenaState T };
 
     /// Whether an arena holds at most [`MAX_LEN`](crate::MAX_LEN) items, however many keys there are.
@@ -23,7 +23,7 @@ pub trait AnyArena<Key: ArenaKey, T> {
         ensures value { result ≡ length (state self.now).items }
         ensures keyed { length (state self.now).items ≤ arena_limit Key.keys BOUNDED };
 
-    /// How many items can be added before memory is asked for.
+    /// How many items can be added, if there are keys for them, before memory is asked for.
     fn room(&self) -> usize
         ensures { result ≡ (state self.now).room };
 

@@ -7,18 +7,19 @@ use std::alloc::{AllocError, AllocFailed};
 use std::error::Error;
 use std::fmt;
 
-/// Why a call on an arena was refused. The value that it was called on has the items that it had.
+/// Why a call was refused. The value that it was called on has the items that it had, but for what a call
+/// says that takes many one by one, as `extend`.
 #[derive(Clone, Copy, Debug, PartialEq, Eq)]
 pub enum ArenaError {
-    /// Memory ran out where more was asked for.
+    /// Memory ran out where more was asked for, or an item or an allocator couldn't be cloned.
     OutOfSystemMemory,
     /// There is no item under the key, or at the index.
     KeyOutOfBounds,
     /// There is no key for one more item, or no slot.
     NotEnoughKeys,
-    /// Two references to one item were asked for.
+    /// The two keys, or the two indices, are equal.
     AliasingPairAccess,
-    /// The item is in the arena under another key.
+    /// An equal item was handed in under another key.
     DuplicateItem,
 }
 

@@ -134,7 +134,7 @@ pub fn walked_keys_read<Key: ArenaKey>()
         → now ≡ key ∷ left → Key.keys.number key < n }
 {}
 
-/// Each iterator over a vector gives each item once: however calls of `next` and `next_back` are mixed,
+/// Each iterator over the items of a vector gives each once: however calls of `next` and `next_back` are mixed,
 /// by the first `None` the items from the front, and then those from the back in reverse, are the ones
 /// that were left, and from then on both ends give `None`.
 pub fn items_from_both_ends<'a, T: Drop + 'a, A: Allocator + 'a>()

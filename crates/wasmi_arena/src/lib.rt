@@ -19,7 +19,7 @@ mod typed_key;
 pub use any_arena::AnyArena;
 pub use arena_keys::ArenaKeys;
 pub use bucket::Bucket;
-// A crate above can name a bucket in a contract only if it reaches the types of its fields.
+// A crate above can name a vector or a bucket in a contract only if it reaches the types of their fields.
 #[doc(hidden)]
 pub use bucket_table::BucketTable;
 pub use error::ArenaError;

@@ -29,7 +29,7 @@ pub enum ArenaReply<Key, T> {
     Old(T),
     /// To `Swap`: the items were exchanged.
     Done,
-    /// The command was refused, and the arena is as before it.
+    /// The command was refused. The arena is as before it, and the item of the command is dropped.
     Refused(ArenaError),
 }
 

@@ -24,10 +24,10 @@ pub use iter_mut::StableArenaIterMut;
 use std::alloc::{Allocator, Global};
 use std::marker::{Model, PhantomData};
 
-/// A list of items, each under the key of its position, which stays where it is for good.
+/// A list of items, each under the key of its position.
 ///
-/// It is kept in a [`StableVec`], so an item never moves. At most 4,294,967,264 items go in, and at
-/// most as many as there are keys.
+/// It is kept in a [`StableVec`], so adding items never moves one; `swap` and `put` do. At most
+/// 4,294,967,264 items go in, and at most as many as there are keys.
 #[derive(Drop)]
 pub struct StableArena<Key: ArenaKey, T, A: Allocator = Global> {
     pub(crate) items: StableVec<T, A>,
@@ -52,7 +52,7 @@ impl<Key: ArenaKey, T, A: Allocator> StableArena<Key, T, A> {
     ghost use Rattle.wasmi_arena.specs.ArenaLend.{lends_get, lends_items};
     ghost use Rattle.wasmi_arena.specs.IterMut.{left, loan_of, KeepsLength};
 
-    /// An empty arena, which asks `alloc` for memory when a bucket is opened. Constant time, no allocation.
+    /// An empty arena, which clones `alloc` for each bucket that is opened. Constant time, no allocation.
     pub fn new(alloc: A) -> Self
         ensures { result ≡ [] }
     {
@@ -96,8 +96,8 @@ impl<Key: ArenaKey, T, A: Allocator> StableArena<Key, T, A> {
     /// Puts an item at the end, and returns its key.
     ///
     /// Fails with `NotEnoughKeys` if there is no key for one more or the vector is full, and then with
-    /// `OutOfSystemMemory` if a bucket must be opened, which is only where
-    /// [`room`](StableArena::room) is 0, and there is no memory for it. After an error the arena is as
+    /// `OutOfSystemMemory` if a bucket must be opened, which is only where [`room`](StableArena::room) is
+    /// 0, and there is no memory for it or the allocator can't be cloned. After an error the arena is as
     /// before, and the item is dropped. Constant time, but for the opening of a bucket.
     #[inline]
     pub fn alloc(&mut self, item: T) -> Result<Key, ArenaError>
@@ -179,7 +179,8 @@ impl<Key: ArenaKey, T, A: Allocator> StableArena<Key, T, A> {
         key.into_usize() < self.len()
     }
 
-    /// How many items can be added before a bucket must be opened. Constant time.
+    /// How many items can be added, if there are keys for them, before a bucket must be opened. Constant
+    /// time.
     pub fn room(&self) -> usize
         ensures { result ≡ room (length self.now) }
     {

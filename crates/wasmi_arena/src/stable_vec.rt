@@ -86,7 +86,7 @@ impl<T> StableVec<T> {
 impl<T, A: Allocator> StableVec<T, A> {
     ghost use Rattle.wasmi_arena.specs.VecLend.{lends_index, lends_get};
 
-    /// An empty vector, which asks `alloc` for memory when a bucket is opened. Constant time, no allocation.
+    /// An empty vector, which clones `alloc` for each bucket that is opened. Constant time, no allocation.
     pub fn new(alloc: A) -> Self
         ensures { result ≡ [] }
     {
@@ -258,8 +258,8 @@ impl<T, A: Allocator> StableVec<T, A> {
     ///
     /// A bucket is opened only where [`room`](StableVec::room) is 0, over one clone of the allocator; no
     /// item moves. Fails with `NotEnoughKeys` if the vector is full, and then with `OutOfSystemMemory` if
-    /// a bucket must be opened and there is no memory for it. After an error the vector is as before, and
-    /// the item is dropped. Constant time, but for the opening.
+    /// a bucket must be opened and there is no memory for it, or that clone fails. After an error the
+    /// vector is as before, and the item is dropped. Constant time, but for the opening.
     #[inline]
     pub fn push(&mut self, value: T) -> Result<usize, ArenaError>
     where

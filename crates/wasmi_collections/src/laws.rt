@@ -72,7 +72,7 @@ pub fn equal_head_vecs<T: PartialEq, A: Allocator>(a: &HeadVec<T, A>, b: &HeadVe
 }
 
 /// Two maps with the same entries, of one type or two, reply alike to the same commands and end with the
-/// same entries, if both say of the same keys that they are equal. Commands that are refused aside.
+/// same entries, if both say of the same keys that they are equal, and neither refuses a command.
 pub fn maps_answer_alike<K, V, M: AnyMap<K, V>, N: AnyMap<K, V>>()
     ensures { ((x y : K) → M.eq x y ≡ N.eq x y) → (a c : M) (b d : N) (commands : List (MapCommand K V))
         (one other : List (MapReply V)) → SameEntries M.eq (M.entries a) (N.entries b)
@@ -83,7 +83,7 @@ pub fn maps_answer_alike<K, V, M: AnyMap<K, V>, N: AnyMap<K, V>>()
 {}
 
 /// Two sets with the same elements, of one type or two, reply alike to the same commands and end with the
-/// same elements, if both say of the same elements that they are equal. Commands that are refused aside.
+/// same elements, if both say of the same elements that they are equal, and neither refuses a command.
 pub fn sets_answer_alike<T, S: AnySet<T>, U: AnySet<T>>()
     ensures { ((x y : T) → S.eq x y ≡ U.eq x y) → (a c : S) (b d : U) (commands : List (SetCommand T))
         (one other : List SetReply) → SameElements S.eq (S.elements a) (U.elements b)

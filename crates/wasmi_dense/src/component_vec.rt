@@ -86,7 +86,7 @@ impl<Key, T, A: Allocator> ComponentVec<Key, T, A> {
     }
 }
 
-// Adds places without a component up to that of `index`: one request for memory, then a fill.
+// Adds places without a component up to that of `index`: one request for memory at most, then a fill.
 #[cold]
 fn raise_extent<T: Drop, A: Allocator>(
     slots: &mut Vec<Option<T>, A>,
@@ -115,8 +115,9 @@ impl<Key: ArenaKey, T, A: Allocator> ComponentVec<Key, T, A> {
     /// Fails with `KeyOutOfBounds` if the key's number is `usize::MAX`, and then with
     /// `OutOfSystemMemory` if the number isn't below the extent and there is no memory to raise it.
     /// After an error nothing has changed, and the component is dropped. Below the extent it takes
-    /// constant time and no memory; from there on it makes one request for memory at most, and is
-    /// linear in how far the extent rises. So once the greatest key was set, no key is refused.
+    /// constant time and no memory; from there on it makes one request for memory at most, and is linear in
+    /// how far the extent rises, or in the new extent where the block grows. So once the greatest key was
+    /// set, no key is refused.
     pub fn set(&mut self, index: Key, component: T) -> Result<Option<T>, ArenaError>
     where
         T: Drop,

@@ -81,7 +81,7 @@ impl<K: Eq + Hash, V, S: BuildHasher, A: Allocator> Map<K, V, S, A> {
         }
     }
 
-    /// Drops all entries. Linear.
+    /// Drops all entries. The room is kept. Linear in the room.
     pub fn clear(&mut self)
     where
         K: Drop,

@@ -75,7 +75,7 @@ impl<T: Eq + Hash, S: BuildHasher, A: Allocator> Set<T, S, A> {
         }
     }
 
-    /// Drops all elements. Linear.
+    /// Drops all elements. The room is kept. Linear in the room.
     pub fn clear(&mut self)
     where
         T: Drop,

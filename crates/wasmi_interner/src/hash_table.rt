@@ -7,8 +7,8 @@ use crate::entry::Entry;
 use std::alloc::{AllocError, Allocator};
 use std::marker::Model;
 
-// Slots for entries, some behind the home of each hash: 2^power homes, which the upper bits of a hash tell, and then
-// the slots within reach of the last one.
+// Slots for entries, some behind the home of each hash: 2^(32 - shift) homes, which the upper bits of a hash tell, and
+// then the slots within reach of the last one.
 #[derive(Drop)]
 pub(crate) struct HashTable<A: Allocator> {
     slots: Vec<Entry, A>,
@@ -22,7 +22,7 @@ const REACH: usize = 32;
 // By how many bits a hash is shifted to one of the fewest homes.
 const FEWEST: u32 = 29;
 
-// So many of eight slots are taken, before they are doubled.
+// So many texts there are to eight homes, before the slots are doubled.
 const LOAD: usize = 5;
 
 // What stands for a hash.

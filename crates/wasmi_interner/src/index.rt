@@ -19,7 +19,7 @@ use wasmi_arena::ArenaError;
 // The symbols of texts beside their hashes. Most stand in slots, where the hash tells. Where it has no slot left, or
 // several texts have it, they are in the rest, in the order of the hashes and then in length order.
 //
-// So names that were made to have one hash, or near ones, cost no more than a search of sorted ones.
+// So to find names that were made to have one hash, or near ones, costs no more than a search of sorted ones.
 #[derive(Drop)]
 pub(crate) struct Index<A: Allocator> {
     slots: HashTable<A>,

@@ -30,7 +30,7 @@ pub(crate) struct Rest<A: Allocator> {
 // A block that stands alone is widened up to this width.
 const ALONE: usize = 256;
 
-// Blocks are joined where they are a sixteenth of their width.
+// Blocks are joined once their number is a sixteenth of their width.
 const PART: usize = 16;
 
 impl<A: Allocator> Model for Rest<A> {

@@ -24,9 +24,9 @@ use wasmi_arena::ArenaError;
 /// A list of distinct texts, each under its position as its symbol.
 ///
 /// A text is found by its hash. Where several texts have one hash, they are in length order, and are found by a
-/// binary search, so names that were made to collide cost no more than that. The texts are kept until `clear`, so a
-/// symbol is good for as long, and is cheaper to copy, compare and store than its text. They lie one behind another
-/// in one block of memory, which grows as a vector does. There are at most 2^32 texts.
+/// binary search: names that were made to collide cost no more, a new one of n also some √n steps. The texts are
+/// kept until `clear`, so a symbol is good for as long, and is cheaper to copy, compare and store than its text.
+/// They lie one behind another in one block of memory, which grows as a vector does. There are at most 2^32 texts.
 #[derive(Drop)]
 pub struct StringInterner<A: Allocator = Global> {
     texts: Texts<A>,
@@ -123,6 +123,7 @@ impl<A: Allocator> StringInterner<A> {
     /// For a text that is there nothing is copied or allocated, and it isn't refused. For a new one it
     /// fails with `NotEnoughKeys` if there are 2^32 texts, and then with `OutOfSystemMemory` if there is
     /// no memory for it, or the clone of the allocator fails. After an error the interner is as before.
+    /// Without memory for a larger hash table it needn't fail, but takes the worst case's time.
     /// Expected constant time, amortized, and linear in the text. In the worst case a binary search, and for a new text
     /// also some √n steps at n texts.
     #[inline]

@@ -61,8 +61,8 @@ impl<T: Drop> From<AllocFailed<T>> for LinkError {
 
 /// Decodes the modules in files, and reports which of them gives what another one asks for.
 ///
-/// Of several files that are no modules, the error is of the first. Expected time and memory are linear in
-/// the files and the report.
+/// Of several files that are no modules, the error is of the first, unless memory ran out before. Expected
+/// time and memory are linear in the files and the report.
 pub fn link<A: Allocator + Copy>(alloc: A, files: &[File<'_>]) -> Result<Outcome<A>, LinkError>
     ensures tells { IfOk result (λ outcome. Tells files.now (string_bytes outcome.text) outcome.status) }
     ensures errors { IfErr result (IsRefusal files.now) }

@@ -52,6 +52,6 @@ pub struct Linked<'a, A: Allocator> {
     pub types: usize,
     /// How many types of functions are among these.
     pub distinct_types: usize,
-    /// How many names there are: of modules, of what they ask for, and of exports.
+    /// How many different names there are: of modules, of what they ask for, and of exports.
     pub names: usize,
 }

@@ -10,8 +10,8 @@ use crate::types;
 use std::alloc::Allocator;
 use wasmi_arena::ArenaError;
 
-/// All imports of the modules, each with what becomes of it. Expected linear time: names and types are found by
-/// their hashes.
+/// All imports of the modules, each with what becomes of it. Names and types are found by their hashes: expected
+/// time is linear in the modules and in the types of all imports, each counted as often as it is asked for.
 ///
 /// The modules are valid, as those that `decode` returns. Fails with `OutOfSystemMemory` if there is no memory for
 /// the tables or the lines, and with `NotEnoughKeys` only if there are more than 2^32 modules, names or types of

@@ -16,7 +16,7 @@ use crate::module::{Kind, Module};
 use crate::reader::Reader;
 use std::alloc::Allocator;
 
-/// The module whose writing the bytes are: sections 1 to 7 are read, all others are stepped over.
+/// The module whose writing the bytes are: sections 1 to 7 are read, 8 to 12 and custom ones stepped over.
 pub fn decode<'a, A: Allocator + Copy>(
     alloc: A,
     bytes: &'a [u8],

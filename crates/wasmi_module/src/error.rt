@@ -14,7 +14,7 @@ pub enum Expected {
     /// The four bytes after those.
     #[error("the bytes 01 00 00 00 of version 1")]
     Version,
-    /// A section whose number comes after those before it, or the end.
+    /// A section that comes later in the order of sections (12 before 10) than those before it, or the end.
     #[error("the end, or a section that comes later in the order of sections")]
     Section,
     /// The end of the section, where more bytes are.
@@ -23,10 +23,10 @@ pub enum Expected {
     /// One more byte.
     #[error("one more byte")]
     Byte,
-    /// As many bytes as the format or a number has it, where fewer are left.
+    /// As many bytes as the format or a count asks for, where fewer are left.
     #[error("more bytes than are left")]
     Bytes,
-    /// The last byte of a number: not so many bytes, or not such bits.
+    /// The last byte of a number, where it has too many bytes, or bits too many in that one.
     #[error("the last byte of a number")]
     Number,
     /// A name.

@@ -34,7 +34,7 @@ impl<'a> Reader<'a> {
         Ok(items)
     }
 
-    // What is left when the sections were read that are stepped over.
+    // Steps over the sections behind those that are read, in their order, and over custom ones.
     pub(crate) fn skipped(&mut self) -> Result<(), DecodeError>
         ensures written { OnOk result (Reads AreSkipped self.old self.new) }
         ensures all { OnOk result (HasSkipped self.old → self.new ≡ []) }

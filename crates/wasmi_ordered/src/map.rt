@@ -68,7 +68,7 @@ impl<K: Hash + Ord, V, A: Allocator> Map<K, V, A> {
         }
     }
 
-    /// Drops all entries. Linear.
+    /// Drops all entries, and gives their memory back. Linear.
     pub fn clear(&mut self)
     where
         K: Drop,

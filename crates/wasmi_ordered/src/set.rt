@@ -59,7 +59,7 @@ impl<T: Hash + Ord, A: Allocator> Set<T, A> {
         }
     }
 
-    /// Drops all elements. Linear.
+    /// Drops all elements, and gives their memory back. Linear.
     pub fn clear(&mut self)
     where
         T: Drop,

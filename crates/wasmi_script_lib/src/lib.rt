@@ -13,10 +13,11 @@
 //! | `e NAME KIND` | `entity N`, the key of a new entity; or an error |
 //! | `v N M` | `was V`, the property that the entity had before, or `was none`; or an error |
 //! | `k N KIND` | `done`: its kind has this name now; or an error |
-//! | `q N` | `is V NAME KIND`, all of the entity; or an error |
+//! | `q N` | `is V NAME KIND`, all of the entity, or `is none NAME KIND` without a property; or an error |
 //! | anything else | `bad line N`, the number of the line, from 1 |
 //!
-//! An error is `error` and the container's own text. Each of the four has keys of its own.
+//! An error is `error` and the container's own text; without memory the script ends, and nothing is replied.
+//! Each of the four has keys of its own.
 #![tactic(auto)]
 
 mod entities;

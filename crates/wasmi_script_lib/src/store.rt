@@ -154,7 +154,7 @@ impl<A: Allocator> EntityStore<A> {
     ///
     /// Fails with `KeyOutOfBounds` if there is no entity under the key, and then with `OutOfSystemMemory` if
     /// there is no memory, but not for an entity that has a property. After an error nothing has changed.
-    /// Constant time, but for growths.
+    /// Constant time, but linear in the entities behind the last with a property, for one of these.
     pub fn set(&mut self, key: EntityKey, property: u64) -> Result<Option<u64>, ArenaError>
         ensures old { IfOk result (λ old.
             option_map (λ entity. entity.property) (slice_get self.old.entities key) ≡ Some old) }
@@ -195,7 +195,7 @@ impl<A: Allocator> EntityStore<A> {
     ///
     /// Fails with `KeyOutOfBounds` if there is no entity under the key, then with `DuplicateItem` if another
     /// kind has the name, and then with `OutOfSystemMemory` if there is no memory. After an error nothing has
-    /// changed. Expected constant time, but for growths.
+    /// changed. Expected linear in the two names, but for growths.
     pub fn rename_kind(&mut self, key: EntityKey, kind: &str) -> Result<(), ArenaError>
     where
         A: Copy,

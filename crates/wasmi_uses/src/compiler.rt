@@ -32,7 +32,8 @@ impl Tables {
     }
 
     /// Declares a function on a line, and returns its handle and the symbol of its name. The handle reads
-    /// the symbol and the line, and the symbol the name.
+    /// the symbol and the line, and the symbol the name. After an error the name may be there, and the
+    /// function without its line.
     pub fn declare(&mut self, name: &str, line: u32) -> Result<(FuncId, Sym), ArenaError>
         ensures func { IfOk result (λ declared. slice_get self.new.funcs.items declared.0 ≡ Some declared.1) }
         ensures line { IfOk result (λ declared. component_at self.new.lines declared.0 ≡ Some line) }
@@ -62,7 +63,7 @@ impl Tables {
         }
     }
 
-    /// The slot of a constant, which is the one that it had, and reads a constant.
+    /// The slot of a constant: the one that it had, or a new one. After an error nothing has changed.
     pub fn constant(&mut self, constant: u64) -> Result<u32, ArenaError>
         ensures slot { IfOk result (λ slot.
             position (λ other. constant == other) self.new.constants.handed ≡ Some slot) }

@@ -6,7 +6,7 @@ use std::alloc::Allocator;
 use std::mem;
 use wasmi_collections::HeadVec;
 
-/// Puts a frame in the place of the one that runs, and returns that one, if there is one.
+/// Puts a frame in the place of the one that runs, and returns that one. Without one the frame is dropped.
 pub fn tail_call<T: Drop, A: Allocator>(frames: &mut HeadVec<T, A>, frame: T) -> Option<T>
     ensures was { result ≡ last_item frames.old.items }
     ensures runs { IfSome result (λ _. frames.new.items ≡ with_last frames.old.items frame) }

@@ -5,7 +5,7 @@ use std::alloc::Allocator;
 use wasmi_arena::{ArenaError, ArenaKey};
 use wasmi_dense::Arena;
 
-/// Puts two items at the end. Where there is no memory for both, neither goes in.
+/// Puts two items at the end. Without memory for both, neither goes in; with a key for one, the first stays.
 pub fn put_both<Key: ArenaKey, T: Drop, A: Allocator>(
     arena: &mut Arena<Key, T, A>,
     first: T,

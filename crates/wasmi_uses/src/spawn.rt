@@ -5,8 +5,8 @@ ghost use Rattle.wasmi_script_lib.specs.Store.{with_entity, with_property};
 use wasmi_arena::ArenaError;
 use wasmi_script_lib::{EntityKey, EntityStore};
 
-/// Adds an entity that has a property. If memory runs out it may have been added without one. Time and
-/// errors as of `EntityStore::add`.
+/// Adds an entity that has a property. If memory runs out it may have been added without one. Errors as of
+/// `EntityStore::add`, time as of that and `EntityStore::set`.
 pub fn spawn(
     store: &mut EntityStore,
     name: &str,

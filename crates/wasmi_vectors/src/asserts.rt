@@ -8,8 +8,8 @@ ghost use Rattle.std.specs.Prelude.{◌↔◌, IsOk, IsTrue};
 use core::fmt::InlineText;
 use std::fmt::{self, Debug, Display, Formatter, Write};
 
-/// Two values that are not equal, as the text that a failed assertion prints. Of a longer text the
-/// first 480 bytes are kept.
+/// Two values that are not equal, as the text that a failed assertion prints. A text of more than 480
+/// bytes is cut, and ends in dots.
 #[derive(Drop)]
 pub struct Differ {
     text: InlineText<480>,

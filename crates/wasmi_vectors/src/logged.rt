@@ -1,4 +1,4 @@
-//! An allocator for tests whose handles are copied. It writes to a log and refuses as `Observed` does.
+//! An allocator for tests whose handles are copied. It writes to a log and refuses requests as `Observed` does.
 ghost use Rattle.std.specs.Prelude.{◌≡◌, ⊤};
 ghost use Rattle.std.specs.contracts.impls.GlobalAllocator.TheImpl.{ghosts};
 

@@ -56,7 +56,7 @@ impl Log {
         self.refusals.set(Refusals::Once(self.coming(nth)));
     }
 
-    /// Refuses to clone a handle from now on.
+    /// Refuses to clone an `Observed` from now on; a `Logged` is cloned all the same.
     pub fn refuse_clones(&self) {
         self.clones_refused.set(true);
     }
@@ -98,8 +98,8 @@ impl Log {
         self.misplaced.get()
     }
 
-    /// The number of blocks that are out or were misplaced, and of handles that are there: 0 once each
-    /// block came back as it should, and each handle was dropped.
+    /// The number of blocks that are out or were misplaced, and of `Observed` handles that are there: 0
+    /// once each block came back as it should, and each such handle was dropped.
     pub fn amiss(&self) -> u64 {
         let out = self.given().abs_diff(self.returned());
         out.saturating_add(self.misplaced())

@@ -17,9 +17,9 @@ impl<Key: ArenaKey, T: Drop, A: Allocator + Clone> StableArena<Key, T, A> {
     ///
     /// Fails with `NotEnoughKeys` if the new length has no key or is above
     /// [`MAX_LEN`](crate::MAX_LEN), and then with `OutOfSystemMemory` if buckets must be opened, which
-    /// is only where `amount` is above [`room`](StableArena::room), and there is no memory for them.
-    /// After an error the arena is as before: the buckets are opened before a value is added, and those
-    /// that were opened are closed.
+    /// is only where `amount` is above [`room`](StableArena::room), and there is no memory for them or the
+    /// allocator can't be cloned. After an error the arena is as before: the buckets are opened before a
+    /// value is added, and those that were opened are closed.
     pub fn alloc_many(&mut self, amount: usize) -> Result<Range<Key>, ArenaError>
     where
         T: Default,
@@ -64,7 +64,8 @@ impl<Key: ArenaKey, T: Drop, A: Allocator + Clone> StableArena<Key, T, A> {
 
     /// The items, put one by one into an empty arena. Linear.
     ///
-    /// Fails as the first [`alloc`](StableArena::alloc) that fails, and then drops all items.
+    /// Fails as the first [`alloc`](StableArena::alloc) that fails, and then drops what came and the
+    /// iterator.
     pub fn from_iter<U: IntoIterator<Item = T>>(alloc: A, iter: U) -> Result<Self, ArenaError>
         requires { IsFiniteIterable U.into_iter_gives U.IntoIter.can_next U.IntoIter.remaining iter }
         ensures ok { IfOk result (TakesAll U.into_iter_gives U.IntoIter.next_gives iter []) }

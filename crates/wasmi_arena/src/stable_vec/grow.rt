@@ -49,7 +49,7 @@ impl<T: Drop, A: Allocator + Clone> StableVec<T, A> {
     /// Pushes the items, one by one.
     ///
     /// Fails as the first [`push`](StableVec::push) that fails: the items before that one are in, and it
-    /// is dropped with the rest. Costs what the pushes cost.
+    /// is dropped with the iterator, which gives no more. Costs what the pushes cost.
     pub fn extend<U: IntoIterator<Item = T>>(&mut self, iter: U) -> Result<(), ArenaError>
         requires { IsFiniteIterable U.into_iter_gives U.IntoIter.can_next U.IntoIter.remaining iter }
         ensures ok { OnOk result (TakesAll U.into_iter_gives U.IntoIter.next_gives iter self.old self.new) }
@@ -71,7 +71,7 @@ impl<T: Drop, A: Allocator + Clone> StableVec<T, A> {
 
     /// The items, pushed one by one into an empty vector. Linear.
     ///
-    /// Fails as the first [`push`](StableVec::push) that fails, and then drops all items.
+    /// Fails as the first [`push`](StableVec::push) that fails, and then drops what came and the iterator.
     pub fn from_iter<U: IntoIterator<Item = T>>(alloc: A, iter: U) -> Result<Self, ArenaError>
         requires { IsFiniteIterable U.into_iter_gives U.IntoIter.can_next U.IntoIter.remaining iter }
         ensures ok { IfOk result (TakesAll U.into_iter_gives U.IntoIter.next_gives iter []) }

@@ -115,8 +115,8 @@ impl<Key: ArenaKey, T: Drop, A: Allocator> Arena<Key, T, A> {
 
     /// The items, put one by one into an empty arena. Linear.
     ///
-    /// Fails as the first [`alloc`](Arena::alloc) that fails, and then drops all items. It asks for
-    /// memory where the items fill their block, which holds 4 of them, then 8, 16 and so on.
+    /// Fails as the first [`alloc`](Arena::alloc) that fails, and then drops what came. It asks for
+    /// memory where an item finds its block full, which holds 4 of them, then 8, 16 and so on.
     pub fn from_iter<U: IntoIterator<Item = T>>(alloc: A, iter: U) -> Result<Self, ArenaError>
         requires { IsFiniteIterable U.into_iter_gives U.IntoIter.can_next U.IntoIter.remaining iter }
         ensures ok { IfOk result (λ arena. TakesAll U.into_iter_gives U.IntoIter.next_gives iter [] arena.items) }

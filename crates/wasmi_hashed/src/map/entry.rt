@@ -53,9 +53,9 @@ impl<K: Eq + Hash, V, S: BuildHasher, A: Allocator> Map<K, V, S, A> {
     /// The entry of a key.
     /// Amortised expected constant time; asks for memory only where the key is new.
     ///
-    /// Fails with `OutOfSystemMemory` if the key isn't there and there is no memory for it, and then the
-    /// map has the entries that it had, and the key is dropped. What is done with the entry needs no
-    /// search and no memory.
+    /// Fails with `OutOfSystemMemory` if the key isn't there and there is no memory for it, or the
+    /// allocator can't be cloned, and then the map has the entries that it had, and the key is dropped.
+    /// What is done with the entry hashes no key, and needs no memory.
     #[inline]
     pub fn entry(&mut self, key: K) -> Result<Entry<'_, K, V, S, A>, ArenaError>
     where
@@ -148,7 +148,7 @@ impl<'a, K: Eq + Hash, V, S: BuildHasher, A: Allocator> Entry<'a, K, V, S, A> {
 
     /// The value that is there, or else this one, which is put in. Never fails, since the entry has
     /// room.
-    /// Constant time, no allocation.
+    /// Expected constant time, no allocation.
     #[inline]
     pub fn or_insert(self, default: V) -> Result<&'a mut V, ArenaError>
     where
@@ -162,7 +162,7 @@ impl<'a, K: Eq + Hash, V, S: BuildHasher, A: Allocator> Entry<'a, K, V, S, A> {
 
     /// The value that is there, or else what the closure returns, which is put in. The closure isn't
     /// called where the key is there. Never fails.
-    /// Constant time, no allocation.
+    /// Expected constant time, no allocation.
     #[inline]
     pub fn or_insert_with<F: FnOnce() -> V>(self, default: F) -> Result<&'a mut V, ArenaError>
         requires { entry_value (inner_entry self) ≡ None → F.pre default }
@@ -174,7 +174,7 @@ impl<'a, K: Eq + Hash, V, S: BuildHasher, A: Allocator> Entry<'a, K, V, S, A> {
     }
 
     /// As [`or_insert_with`](Entry::or_insert_with), with the key handed to the closure.
-    /// Constant time, no allocation.
+    /// Expected constant time, no allocation.
     #[inline]
     pub fn or_insert_with_key<F: FnOnce(&K) -> V>(self, default: F) -> Result<&'a mut V, ArenaError>
         requires { entry_value (inner_entry self) ≡ None → (p : Bor K) → p.now ≡ entry_key (inner_entry self) → F.pre default p }
@@ -212,7 +212,7 @@ impl<'a, K: Eq + Hash, V, S: BuildHasher, A: Allocator> Entry<'a, K, V, S, A> {
     }
 
     /// The value that is there, or else the default, which is put in. Never fails.
-    /// Constant time, no allocation.
+    /// Expected constant time, no allocation.
     #[inline]
     pub fn or_default(self) -> Result<&'a mut V, ArenaError>
     where

@@ -35,7 +35,7 @@ impl<K: Eq + Hash, V, S: BuildHasher, A: Allocator> Map<K, V, S, A> {
 
 impl<K: Eq + Hash, V, S: BuildHasher, A: Allocator + Clone> Map<K, V, S, A> {
     /// Inserts copies of the keys and values, one by one.
-    /// Expected linear in the pairs.
+    /// Expected linear in the pairs, and in the map where it grows.
     ///
     /// Fails as [`extend`](Map::extend) does.
     pub fn extend_ref<'a, U: IntoIterator<Item = (&'a K, &'a V)>>(
@@ -60,10 +60,10 @@ impl<K: Eq + Hash, V, S: BuildHasher, A: Allocator + Clone> Map<K, V, S, A> {
     }
 
     /// Inserts the pairs, one by one.
-    /// Expected linear in the pairs.
+    /// Expected linear in the pairs, and in the map where it grows.
     ///
     /// Fails as the first [`insert`](Map::insert) that fails: the pairs before that one are in, and it
-    /// is dropped with the rest.
+    /// is dropped with the iterator.
     pub fn extend<U: IntoIterator<Item = (K, V)>>(&mut self, iter: U) -> Result<(), ArenaError>
     where
         K: Drop,

@@ -15,8 +15,8 @@ impl<K: Eq + Hash, V, S: BuildHasher, A: Allocator> Map<K, V, S, A> {
     /// Puts a value under a key that isn't there. Where the key is there nothing changes, and the value comes
     /// back in `Ok(Err(value))`. The key is hashed once; asks for memory only where it is new.
     ///
-    /// Fails with `OutOfSystemMemory` if the key isn't there and there is no memory for it, and then the
-    /// map has the entries that it had, and the pair is dropped.
+    /// Fails with `OutOfSystemMemory` if the key isn't there and there is no memory for it, or the
+    /// allocator can't be cloned, and then the map has the entries that it had, and the pair is dropped.
     #[inline]
     pub fn try_insert(&mut self, key: K, value: V) -> Result<Result<(), V>, ArenaError>
     where

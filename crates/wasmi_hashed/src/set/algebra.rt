@@ -92,7 +92,8 @@ impl<T: Eq + Hash + Clone, A: Allocator + Clone> Set<T, FixedState, A> {
     /// A set of clones of the elements that both sets have, each as one of the two has it.
     /// Expected linear.
     ///
-    /// Fails with `OutOfSystemMemory` if there is no memory, or a clone fails.
+    /// It is over a clone of this set's allocator. Fails with `OutOfSystemMemory` if there is no memory, or
+    /// a clone fails.
     pub fn bitand(&self, other: &Self) -> Result<Self, ArenaError>
         ensures ok { IfOk result (λ set. HoldsClones T.eq T.is_clone
             (IsIntersection T.eq self.now.elements other.now.elements) set.elements) }

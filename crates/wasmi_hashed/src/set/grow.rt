@@ -54,7 +54,7 @@ impl<T: Eq + Hash, A: Allocator + Clone> Set<T, FixedState, A> {
 
 impl<T: Eq + Hash, S: BuildHasher, A: Allocator + Clone> Set<T, S, A> {
     /// Inserts copies of the elements, one by one.
-    /// Expected linear in the elements.
+    /// Expected linear in the elements, and in the set where it grows.
     ///
     /// Fails as [`extend`](Set::extend) does.
     pub fn extend_ref<'a, U: IntoIterator<Item = &'a T>>(
@@ -78,10 +78,10 @@ impl<T: Eq + Hash, S: BuildHasher, A: Allocator + Clone> Set<T, S, A> {
     }
 
     /// Inserts the elements, one by one.
-    /// Expected linear in the elements.
+    /// Expected linear in the elements, and in the set where it grows.
     ///
     /// Fails as the first [`insert`](Set::insert) that fails: the elements before that one are in, and
-    /// it is dropped with the rest.
+    /// it is dropped with the iterator.
     pub fn extend<U: IntoIterator<Item = T>>(&mut self, iter: U) -> Result<(), ArenaError>
     where
         T: Drop,

@@ -14,8 +14,7 @@ impl<T: Eq + Hash, S: BuildHasher, A: Allocator> Set<T, S, A> {
         self.inner.capacity()
     }
 
-    /// Gives back room that no element needs, where there is memory for the smaller table; else it keeps
-    /// its room. Never fails. Linear.
+    /// Gives back room that no element needs, as far as there is memory for smaller blocks. Never fails. Linear.
     pub fn shrink_to_fit(&mut self)
     where
         A: Clone,

@@ -52,9 +52,9 @@ impl<K: Hash + Ord, V, A: Allocator> Map<K, V, A> {
     /// The entry of a key.
     /// Logarithmic; asks for memory only where the key is new.
     ///
-    /// Fails with `OutOfSystemMemory` if the key isn't there and there is no memory for it, and then the
-    /// map is as before, and the key is dropped. What is done with the entry needs no search and no
-    /// memory.
+    /// Fails with `OutOfSystemMemory` if the key isn't there and there is no memory for it, or the
+    /// allocator can't be cloned, and then the map is as before, and the key is dropped. What is done with
+    /// the entry needs no search and no memory.
     #[inline]
     pub fn entry(&mut self, key: K) -> Result<Entry<'_, K, V, A>, ArenaError>
     where

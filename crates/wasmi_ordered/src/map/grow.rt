@@ -59,7 +59,7 @@ impl<K: Hash + Ord, V, A: Allocator + Clone> Map<K, V, A> {
     /// `n log n` for `n` pairs.
     ///
     /// Fails as the first [`insert`](Map::insert) that fails: the pairs before that one are in, and it
-    /// is dropped with the rest.
+    /// is dropped with the iterator.
     pub fn extend<U: IntoIterator<Item = (K, V)>>(&mut self, iter: U) -> Result<(), ArenaError>
     where
         K: Drop,

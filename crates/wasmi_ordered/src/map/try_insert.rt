@@ -16,8 +16,8 @@ impl<K: Hash + Ord, V, A: Allocator> Map<K, V, A> {
     /// Puts a value under a key that isn't there. Where the key is there nothing changes, and the value comes
     /// back in `Ok(Err(value))`. One search; asks for memory only where the key is new.
     ///
-    /// Fails with `OutOfSystemMemory` if the key isn't there and there is no memory for it, and then the
-    /// map is as before, and the pair is dropped.
+    /// Fails with `OutOfSystemMemory` if the key isn't there and there is no memory for it, or the
+    /// allocator can't be cloned, and then the map is as before, and the pair is dropped.
     #[inline]
     pub fn try_insert(&mut self, key: K, value: V) -> Result<Result<(), V>, ArenaError>
     where

@@ -92,7 +92,8 @@ impl<T: Hash + Ord + Clone, A: Allocator + Clone> Set<T, A> {
     /// A set of clones of the elements that both sets have, each as this one has it.
     /// Linear in both sizes but for a sort of the clones.
     ///
-    /// Fails with `OutOfSystemMemory` if there is no memory, or a clone fails.
+    /// It is over a clone of this set's allocator. Fails with `OutOfSystemMemory` if there is no memory, or
+    /// a clone fails.
     pub fn bitand(&self, other: &Self) -> Result<Self, ArenaError>
         ensures ok { IfOk result (HoldsClones (eq_by_cmp T.cmp) T.is_clone
             (IsIntersection (eq_by_cmp T.cmp) self.now other.now)) }

@@ -74,7 +74,7 @@ impl<T: Hash + Ord, A: Allocator + Clone> Set<T, A> {
     /// `n log n` for `n` elements.
     ///
     /// Fails as the first [`insert`](Set::insert) that fails: the elements before that one are in, and
-    /// it is dropped with the rest.
+    /// it is dropped with the iterator.
     pub fn extend<U: IntoIterator<Item = T>>(&mut self, iter: U) -> Result<(), ArenaError>
     where
         T: Drop,

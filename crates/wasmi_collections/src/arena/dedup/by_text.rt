@@ -9,8 +9,8 @@ use std::alloc::Allocator;
 use wasmi_arena::{ArenaError, ArenaKey};
 
 impl<Key: ArenaKey, B: Allocator, A: Allocator> DedupArena<Key, String<B>, A> {
-    /// The key of a text, if a value with it was handed in. Nothing is handed in. Expected constant time, no
-    /// allocation.
+    /// The key of a text, if a value with it was handed in. Nothing is handed in. Expected constant time, and
+    /// linear in the text, no allocation.
     pub fn key_of_str(&self, text: &str) -> Option<Key>
         ensures value { result
             ≡ option_map Key.keys.key (symbol_of (map string_bytes self.now.handed) text.now) }

@@ -106,12 +106,13 @@ impl<Key: ArenaKey, T: Eq + Hash, A: Allocator> DedupArena<Key, T, A> {
     ///
     /// Fails with `KeyOutOfBounds` if there is no item under the key, then with `DuplicateItem` if a value
     /// equal to this one was handed in under another key, and then with `OutOfSystemMemory` if there is no
-    /// memory, or a clone fails or isn't equal to its value. After an error the arena is as before, and the
-    /// value is dropped. For a value that was handed in under that very key it never fails, and nothing is
-    /// cloned or allocated.
+    /// memory, or a clone fails, or that of the old value (see below) isn't equal to it. After an error the
+    /// arena is as before, and the value is dropped. For a value that was handed in under that very key it
+    /// never fails, and nothing is cloned or allocated.
     ///
     /// Expected constant time, but for growths, where the item is still equal to the value that was handed
-    /// in under the key. Where it was written to, linear, and that value is cloned to be found.
+    /// in under the key, or this one is. Else, after a write, linear, and the old value is cloned to be
+    /// found.
     pub fn replace(&mut self, key: Key, value: T) -> Result<T, ArenaError>
     where
         T: Clone,

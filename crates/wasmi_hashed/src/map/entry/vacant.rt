@@ -37,7 +37,7 @@ impl<'a, K: Eq + Hash, V, S: BuildHasher, A: Allocator> VacantEntry<'a, K, V, S,
     }
 
     /// Puts a value under the key. Never fails, since the entry has room.
-    /// Constant time, no allocation.
+    /// Expected constant time, no allocation.
     #[inline]
     pub fn insert(self, value: V) -> Result<&'a mut V, ArenaError>
         ensures* writes_back { sem 𝓛 (entry_follows_ok K.row V.row S.row A.row S.Hasher.row A.Allocator (inner_entry (Vacant self.entry)) result) }
