@@ -40,7 +40,9 @@ class Repository:
                 self.names.update(WORD.findall(' '.join(re.findall(r'(?m)^use (?!Rattle\.wasmi_).*', text))))
                 for other, module in re.findall(r'(?m)^pub use Rattle\.(wasmi_\w+)\.specs\.(\w+)$', text):
                     self.handed_on[path.split('/')[1], module] = other
-        self.tests = {f.name for f in self.functions if f.test}
+        self.tests = {}  # the crates that have a test of this name
+        for f in (f for f in self.functions if f.test):
+            self.tests.setdefault(f.name, set()).add(f.crate)
         self.by_crate = {crate: [f for f in self.functions if f.crate == crate] for crate in self.crates}
         for f in self.functions:
             way = {f.kind or f.name, f.file.split('/')[3].split('.')[0]}
