@@ -301,8 +301,32 @@ class Libraries:
                     way = [anchor, part.kind.rstrip('*'), part.name] if part.kind in CLAUSES else [anchor, part.name]
                     self.show(part, '.'.join(filter(None, way)))
 
+    def needed(self):
+        """The definitions that clauses of public items, views and laws cite, and those that these use."""
+        needed, waiting = set(), []
+
+        def reach(found):
+            if found and found.kind == 'definition' and found not in needed:
+                needed.add(found)
+                waiting.append(found)
+        ghosts = [part for impl in self.impls for part in impl.parts if part.kind == 'ghost']
+        for item in [item for item in self.shown if item.kind in CLAUSES] + ghosts:
+            for _, found in self.named(item.owner if item.kind in CLAUSES else item, item.text):
+                reach(found)
+        while waiting:
+            of = waiting.pop()
+            words = {**of.owner.members, **self.cited(of.owner.text)}
+            for name in re.findall(r'[^\s(){}.,;]+', ' '.join([of.text, *of.given])):
+                reach(words.get(name) or words.get(f'◌{name}◌'))
+        return needed
+
     def faults(self):
-        """The public items without a doc comment, and the links that lead nowhere: each with its file and line."""
+        """The public items without a doc comment, the links that lead nowhere, and the definitions of `specs/` that belong
+        in `specs/inner/`: each with its file and line."""
+        needed = self.needed()
+        for of in (of for specs in self.specs.values() for of in specs.parts if re.match(r' *(?:abbrev )?pub ', of.text)):
+            if of not in needed:
+                yield of.file, of.line, f'no public clause, view or law needs `{of.name}`, so it belongs in `specs/inner/`'
         for item in self.shown:
             of_trait = item.kind == 'impl' or item.owner and item.owner.kind == 'impl' and item.owner.name
             if not item.doc and not of_trait and item.kind not in ('use', *CLAUSES):

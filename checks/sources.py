@@ -26,7 +26,7 @@ class Repository:
         self.crates = {line.split()[0].rstrip(':'): line for line in read('crates.txt').splitlines()}
         lines = [line for line in read('checks/words').split('\n') if not line.startswith('#')]
         self.words = {word for line in lines for word in ([line[2:]] if line.startswith(': ') else line.split())}
-        self.names, self.exported, self.types = {*self.crates, *self.words}, set(), set()
+        self.names, self.exported, self.types = {*self.crates, *self.words}, {crate: {'lib'} for crate in self.crates}, set()
         self.private, self.handed_on = set(), {}
         for path in sorted(self.files):
             self.names |= {part.split('.')[0] for part in path.split('/')}
@@ -46,18 +46,18 @@ class Repository:
         self.by_crate = {crate: [f for f in self.functions if f.crate == crate] for crate in self.crates}
         for f in self.functions:
             way = {f.kind or f.name, f.file.split('/')[3].split('.')[0]}
-            f.public = bool(f.trait) and (f.crate, f.kind) not in self.private or f.public and (f.crate not in LIBRARIES or not way.isdisjoint(self.exported | {'lib'}))
+            f.public = bool(f.trait) and (f.crate, f.kind) not in self.private or f.public and (f.crate not in LIBRARIES or not way.isdisjoint(self.exported[f.crate]))
 
     def source(self, path, crate):
         text, at, attributes = re.sub(r'(?m)^\s*//.*$', '', read(path)), 0, ''
         for uses in re.findall(r'(?m)^\s*(?:pub(?:\(.*?\))? )?(?:ghost )?use [^;]*;', text):
             self.names.update(() if re.search(r'use (Rattle\.wasmi_|wasmi_|crate\b|super\b)', uses) else WORD.findall(uses))
-            self.exported.update(WORD.findall(uses) if uses.strip().startswith('pub use') else ())
+            self.exported[crate].update(WORD.findall(uses) if uses.strip().startswith('pub use') else ())
             of = re.match(r'\s*ghost use Rattle\.(\w+)\.specs\.((?:inner\.)?[A-Z]\w*)\.\{([^}]*)\}', uses)
             if of and of[1] in LIBRARIES:
                 from_crate = self.handed_on.get((of[1], of[2]), of[1])
                 self.imports.setdefault(path, {}).update({word.strip(): (from_crate, of[2]) for word in of[3].split(',')})
-        self.exported.update(re.findall(r'(?m)^pub mod (\w+)', text))
+        self.exported[crate].update(re.findall(r'(?m)^pub mod (\w+)', text))
         self.names.update(re.findall(r'\b(?:macro_rules!|mod) (\w+)', text), re.findall(r'(?m)^ +(?:pub )?(\w+): ', text))
         if crate in ('wasmi_replay', 'wasmi_script_lib') or path.endswith('/error.rt'):  # the words of lines and errors
             self.names.update(WORD.findall(' '.join(re.findall(r'"((?:[^"\\\n])*)"', text))))

@@ -4,7 +4,8 @@ use Rattle.std.proofs.lemmas.Option.{slice_get_within}
 use lib.Dec.{T}
 use mathlib.Core.Bool.{not}
 use Rattle.std.specs.Prelude.{◌↔◌, ◌⊎◌, Result, Ok, Err, IfOk, IfErr, IsErrOf, slice_get, Some}
-use Rattle.wasmi_arena.specs.Pairs.{PairAnswer, AreNumbers, with_both}
+use Rattle.wasmi_arena.specs.Pairs.{with_both}
+use Rattle.wasmi_arena.specs.inner.Pairs.{PairAnswer, AreNumbers}
 use Rattle.wasmi_arena.specs.declared.error.ArenaError.{ArenaError}
 use Rattle.wasmi_arena.specs.declared.error.ArenaError.TheVariants.{OutOfSystemMemory, KeyOutOfBounds, NotEnoughKeys, AliasingPairAccess, DuplicateItem}
 

@@ -51,7 +51,7 @@ module _ (κ : NamedLft) (E : El) (Z : Al) where
   LoanRow = Loan.the_row κ (R E) (P E Z) Z.g
 
   abbrev pub loan : Ptr → List (Option (Bucket E.row.Denot)) → GName → GName → LoanRow.Denot
-  loan first buckets name whole = record { first = first; marker = record {}; buckets = buckets; name = name; whole = whole }
+  loan first buckets name whole = record { start = first; marker = record {}; buckets = buckets; name = name; whole = whole }
 
   abbrev pub loan_val : Ptr → Val
   loan_val first = vstruct (vcons (ptr_val first) (vcons (vstruct vnil) vnil))
@@ -67,7 +67,7 @@ module _ (κ : NamedLft) (E : El) (Z : Al) where
         owned ! (Struct Fields) (Is (Struct Fields)) (Struct-Makes 𝓛 Fields ((λ c vs. tt), ((λ x vs u. (tt, tt)), tt))) (first, (tt, tt)) (loan_val first ∷ [])
         ((ptr_val first ∷ [], (vstruct vnil ∷ [], tt)), (refl, (refl, ((tt, (refl, tt)), tt)))) $ fjoin ! $ done !
 
-  pub loan_tells : Tells LoanRow (Is LoanRow) (λ l. loan_val l.first ∷ [])
+  pub loan_tells : Tells LoanRow (Is LoanRow) (λ l. loan_val l.start ∷ [])
   loan_tells = (LoanLaws.lowers κ (R E) (P E Z) Z.g (param_laws 0 E.row E.laws) (param_laws 1 Z.row Z.laws)).val_is
 
   pub loan_good : (first : Ptr) → T (has_ty (layout LoanRow) (loan_val first)) × WT (loan_val first)
@@ -82,12 +82,12 @@ module _ (κ : NamedLft) (E : El) (Z : Al) where
   pair_val front back = vstruct (vcons (loan_val front) (vcons (loan_val back) vnil))
 
   pub pair_made : {M : Type 1} {𝓤 : Ura M} (𝓛 : Logic 𝓤) (x y : LoanRow.Denot)
-      → ent 𝓤 (sep 𝓤 (sem 𝓛 (LoanRow.own_val x (loan_val x.first ∷ []))) (sem 𝓛 (LoanRow.own_val y (loan_val y.first ∷ [])))) (sem 𝓛 (Pair.own_val (x, y) (pair_val x.first y.first ∷ [])))
+      → ent 𝓤 (sep 𝓤 (sem 𝓛 (LoanRow.own_val x (loan_val x.start ∷ []))) (sem 𝓛 (LoanRow.own_val y (loan_val y.start ∷ [])))) (sem 𝓛 (Pair.own_val (x, y) (pair_val x.start y.start ∷ [])))
   pair_made 𝓛 x y =
-      let Shape' = Declared.shape (tuple_type (LoanRow ∷ LoanRow ∷ [])) in let v = pair_val x.first y.first in
-      qed 𝓛 (‵ (LoanRow.own_val x (loan_val x.first ∷ [])) ∷ ‵ (LoanRow.own_val y (loan_val y.first ∷ [])) ∷ []) ∵
+      let Shape' = Declared.shape (tuple_type (LoanRow ∷ LoanRow ∷ [])) in let v = pair_val x.start y.start in
+      qed 𝓛 (‵ (LoanRow.own_val x (loan_val x.start ∷ [])) ∷ ‵ (LoanRow.own_val y (loan_val y.start ∷ [])) ∷ []) ∵
       nothing ! $ move ! (2 ∷ 0 ∷ []) $ fjoin ! $ move ! (1 ∷ 0 ∷ []) $ fjoin ! $ feq_i ! (List Val) (v ∷ []) (v ∷ []) refl $ fjoin ! $
-      fpack ! (Valss (LoanRow ∷ LoanRow ∷ [])) (within Shape' (x, (y, tt)) (v ∷ [])) (loan_val x.first ∷ [], (loan_val y.first ∷ [], tt)) $ done !
+      fpack ! (Valss (LoanRow ∷ LoanRow ∷ [])) (within Shape' (x, (y, tt)) (v ∷ [])) (loan_val x.start ∷ [], (loan_val y.start ∷ [], tt)) $ done !
 
 -- a run of buckets in memory, from the place (b, o) on
 module _ (E : El) (Z : Al) {M : Type 1} {𝓤 : Ura M} (𝓛 : Logic 𝓤) (b : ℕ) where

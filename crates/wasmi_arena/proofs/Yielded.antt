@@ -1,7 +1,8 @@
 -- Facts on the items that an iterator yields.
 use Rattle.std.proofs.Common.{◌≡◌, List, [], ◌∷◌, ◌++◌, Option, Some, None, refl, sym, ◌∙◌, ap, subst, append_assoc}
 use Rattle.std.specs.Iterator.{Count, IsFinite, Yields, Drains}
-use Rattle.wasmi_arena.specs.Growth.{TakesAll, TakesUpTo, TakesSome}
+use Rattle.wasmi_arena.specs.Growth.{TakesAll, TakesUpTo}
+use Rattle.wasmi_arena.specs.inner.Growth.{TakesSome}
 
 module _ {S T : Type 0} (steps : S → Option T → S → Type 0) where
   -- calls after calls

@@ -1,7 +1,7 @@
 -- What a stable arena is once a `&mut` to an item of it has ended.
 use Rattle.std.specs.Prelude.{ℕ, List, Result, length, slice_set}
 use Rattle.std.specs.List.{refill}
-use Rattle.std.specs.Borrow.{Fml, GName, RattleType, MutBor, Lends, LendsIfOk, LendsBoth, follows}
+use Rattle.std.specs.Borrow.{Fml, GName, RattleType, MutBor, Lends, LendsIfOk, follows}
 use Rattle.std.specs.declared.alloc.Allocator as alloc
 use Rattle.wasmi_arena.specs.Pairs.{LendsBothIfOk, with_both}
 use Rattle.wasmi_arena.specs.declared.error.ArenaError.{ArenaError}
@@ -24,15 +24,7 @@ module _ (K R A : RattleType) (keys : key.Ghosts K.Denot) (heap : alloc.Ghosts A
   abbrev pub lends_items : MutBor (List R.Denot) → GName → Fml
   lends_items arena loan = follows (the_row K R A keys heap) (the_row K R A keys heap) arena.ghost_name loan (refill (length arena.now) arena.now)
 
-  -- the items at the two positions are what was written last through the references, and no other
-  -- changes
-  abbrev pub lends_two : MutBor (List R.Denot) → ℕ → ℕ → MutBor R.Denot × MutBor R.Denot → Fml
-  lends_two arena first second pair = LendsBoth (the_row K R A keys heap) R R arena pair (λ x y. slice_set (slice_set arena.now first x) second y)
-
-  -- the same where there are two references, and else nothing changes
-  abbrev pub lends_pair : MutBor (List R.Denot) → ℕ → ℕ → Result (MutBor R.Denot × MutBor R.Denot) ArenaError → Fml
-  lends_pair arena first second pair = LendsBothIfOk (the_row K R A keys heap) R arena pair (λ x y. slice_set (slice_set arena.now first x) second y)
-
-  -- the same of the positions of two keys
+  -- the items under the two keys in a list are what was written last through the references, where there are two,
+  -- and no other changes
   abbrev pub lends_both : MutBor (List R.Denot) → List K.Denot → Result (MutBor R.Denot × MutBor R.Denot) ArenaError → Fml
   lends_both arena both pair = LendsBothIfOk (the_row K R A keys heap) R arena pair (with_both keys.keys.number arena.now both)

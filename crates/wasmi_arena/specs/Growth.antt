@@ -1,7 +1,7 @@
 -- What contracts say of calls that add several items, one by one.
-use Rattle.std.specs.Prelude.{◌≡◌, ℕ, ◌<◌, ◌≤◌, List, ◌++◌, length, Option, Some, MatchOption}
+use Rattle.std.specs.Prelude.{◌≡◌, ℕ, ◌<◌, ◌≤◌, List, ◌++◌, length, Option, Some}
 use Rattle.std.specs.List.{All}
-use Rattle.std.specs.Iterator.{Yields, Drains, YieldsThen}
+use Rattle.std.specs.Iterator.{Drains, YieldsThen}
 use Rattle.wasmi_arena.specs.Geometry.{room}
 use Rattle.wasmi_arena.specs.declared.error.ArenaError.{ArenaError}
 use Rattle.wasmi_arena.specs.declared.error.ArenaError.TheVariants.{OutOfSystemMemory, KeyOutOfBounds, NotEnoughKeys, AliasingPairAccess, DuplicateItem}
@@ -43,14 +43,6 @@ module _ {U S T : Type 0} (becomes : U → S → Type 0) (steps : S → Option T
   -- `extend` of 30 items by 5 without memory: two go in, then `OutOfSystemMemory`.
   abbrev pub TakesUntilRefused : (ℕ → ArenaError → Type 0) → U → List T → List T → ArenaError → Type 0
   TakesUntilRefused refuses iter old new error = TakesUpTo iter old new × refuses (length new) error
-
--- an iterator yielded these items, and this is what is left of it, unless it ended
-abbrev pub Came : {S T : Type 0} → (S → Option T → S → Type 0) → S → Option S → List T → Type 0
-Came steps it rest xs = MatchOption rest (Drains steps it xs) (λ left. Yields steps it xs left)
-
--- and they went in at the end, in order
-abbrev pub TakesSome : {S T : Type 0} → (S → Option T → S → Type 0) → S → Option S → List T → List T → Type 0
-TakesSome {S} {T} steps it rest old new = (xs : List T) × (new ≡ old ++ xs) × Came steps it rest xs
 
 -- so many items went in at the end, and `P` holds of each.
 -- `alloc_many(2)` of numbers: 0, 0.

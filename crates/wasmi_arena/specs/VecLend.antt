@@ -1,6 +1,6 @@
 -- What a stable vector is once a `&mut` to an item of it has ended.
 use Rattle.std.specs.Prelude.{ℕ, List, length, slice_set, Option, Result}
-use Rattle.std.specs.Borrow.{Fml, GName, RattleType, MutBor, Lends, LendsIf, LendsBoth, follows}
+use Rattle.std.specs.Borrow.{Fml, GName, RattleType, MutBor, Lends, LendsIf, follows}
 use Rattle.std.specs.List.{refill}
 use Rattle.std.specs.declared.alloc.Allocator.{Ghosts}
 use Rattle.wasmi_arena.specs.Pairs.{LendsBothIfOk, with_both}
@@ -22,15 +22,8 @@ module _ (R A : RattleType) (alloc : Ghosts A.Denot) where
   abbrev pub lends_items : MutBor (List R.Denot) → GName → Fml
   lends_items vec loan = follows (the_row R A alloc) (the_row R A alloc) vec.ghost_name loan (refill (length vec.now) vec.now)
 
-  -- the items at the two indices are what was written last through the references, and no other changes
-  abbrev pub lends_two : MutBor (List R.Denot) → ℕ → ℕ → MutBor R.Denot × MutBor R.Denot → Fml
-  lends_two vec first second pair = LendsBoth (the_row R A alloc) R R vec pair (λ x y. slice_set (slice_set vec.now first x) second y)
-
-  -- the same where there are two references, and else nothing changes
-  abbrev pub lends_pair : MutBor (List R.Denot) → ℕ → ℕ → Result (MutBor R.Denot × MutBor R.Denot) ArenaError → Fml
-  lends_pair vec first second pair = LendsBothIfOk (the_row R A alloc) R vec pair (λ x y. slice_set (slice_set vec.now first x) second y)
-
-  -- the same of the two indices in a list.
+  -- the items at the two indices in a list are what was written last through the references, where there are two,
+  -- and no other changes.
   -- `v.get_disjoint_mut([1, 0])` on 7, 8, then 9 and 6: 6, 9.
   abbrev pub lends_both : MutBor (List R.Denot) → List ℕ → Result (MutBor R.Denot × MutBor R.Denot) ArenaError → Fml
   lends_both vec indices pair = LendsBothIfOk (the_row R A alloc) R vec pair (with_both (λ index. index) vec.now indices)

@@ -11,3 +11,7 @@ pub mod LoanLend
 pub mod LoanParts
 pub mod Ahead
 pub mod Apart
+pub mod Pairs
+pub mod VecLend
+pub mod ArenaLend
+pub mod Growth

@@ -40,7 +40,8 @@ pub(crate) fn start_of(bucket: usize) -> usize
     (32 << bucket) - 32
 }
 
-// Whether a vector of so many items can have no more. Apart, since a vector with a free slot needn't ask.
+// Whether a vector of so many items can have no more. Asked only where no slot is free, so its code stands out of
+// line.
 #[cold]
 #[inline(never)]
 pub(crate) fn is_limit(len: usize) -> bool
@@ -85,7 +86,7 @@ pub(crate) fn buckets_before(_index: usize, place: (usize, usize)) -> usize
 }
 
 // The bucket and the slot of one index, and those of another.
-// proof: a call of its own, so that only the call above it is proved by hand.
+// proof: a call of its own, so that of the two only `ItemsLoan::pair` is proved by hand.
 pub(crate) fn two_places(first: usize, second: usize) -> (usize, usize, usize, usize)
     requires first { first < max_len }
     requires second { second < max_len }

@@ -1,5 +1,5 @@
 -- What the keys of a deduplicating arena read, and how values are found by them.
--- for src/arena/dedup.rt, src/arena/dedup/by_text.rt, src/laws/dedup.rt
+-- for src/arena/dedup.rt, src/arena/dedup/by_text.rt, src/arena/dedup/replace.rt, src/laws/dedup.rt
 use Rattle.std.proofs.Common.{All, ◌≡◌, ℕ, zero, suc, ◌+◌, ◌<◌, ◌≤◌, ◌==◌, Bool, true, false, cond, List, [], ◌∷◌, ◌++◌, length, map, Option, Some, None, IfSome, IfOk, OnErr, Result, Ok, Err, option_map, position, get_or, slice_get, refl, sym, ap, subst, ◌∙◌, is_some, true≢false, arith}
 use Rattle.std.specs.Cmp.{IsEquivalence}
 use Rattle.std.specs.List.{AllByRecursion, IsDistinct, position_from}

@@ -52,7 +52,7 @@ impl<T, A: Allocator> HeadVec<T, A> {
         }
     }
 
-    /// Drops all items. Linear in the length.
+    /// Drops all items. The block is kept. Linear in the length.
     pub fn clear(&mut self)
     where
         T: Drop,

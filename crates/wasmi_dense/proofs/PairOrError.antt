@@ -32,7 +32,7 @@ use Rattle.std.specs.contracts.result.Result as Res
 use Rattle.wasmi_arena.specs.contracts.error.ArenaError as Error
 use Rattle.wasmi_arena.specs.declared.error.ArenaError.{ArenaError}
 use Rattle.wasmi_arena.specs.Keys.{Keys}
-use Rattle.wasmi_arena.specs.Pairs.{AreNumbers}
+use Rattle.wasmi_arena.specs.inner.Pairs.{AreNumbers}
 use Rattle.wasmi_arena.proofs.PairLoans.{follows_both_then}
 use Rattle.wasmi_arena.proofs.PairResults.{Pair, PairOr, place_of}
 

@@ -164,6 +164,7 @@ impl<Key: ArenaKey, T, A: Allocator> Arena<Key, T, A> {
     {
         let key = self.next_key()?;
         let len = self.items.len();
+        // As many again: to ask for one alone promises no room for the items after it.
         if len == self.items.capacity() {
             self.items.reserve(len.max(4))?;
         }

@@ -19,7 +19,8 @@ use Rattle.std.specs.declared.cmp.PartialEq as eq
 use Rattle.std.specs.declared.hash.Hash as hash
 use Rattle.std.specs.declared.hash.Hasher as hasher
 use Rattle.std.specs.declared.hash.BuildHasher as builder
-use Rattle.wasmi_hashed.specs.MapEntry.{inner_entry, IsOfInner}
+use Rattle.wasmi_hashed.specs.MapEntry.{inner_entry}
+use Rattle.wasmi_hashed.specs.inner.MapEntry.{IsOfInner}
 use Rattle.wasmi_arena.specs.declared.error.ArenaError.{ArenaError}
 use Rattle.wasmi_hashed.specs.declared.map.entry.Entry.{Entry}
 

@@ -3,7 +3,8 @@
 pub use Rattle.std.specs.HashMap.{HashMap, IsUnchanged}
 pub use Rattle.std.specs.HashMap.Entry.{entry_key, entry_map_ref, entry_value, map_with_value, map_without_entry, with_entry_value, IsWritten}
 pub use Rattle.std.specs.declared.collections.hash_map.Entry.TheVariants.{Occupied, Vacant}
-pub use Rattle.wasmi_hashed.specs.MapEntry.{inner_entry, with_value, IsEntryOf, IsOfInner, map_of, inner_rests, inner_without, inner_stays}
+pub use Rattle.wasmi_hashed.specs.MapEntry.{inner_entry, with_value, map_of, inner_without, inner_stays}
+pub use Rattle.wasmi_hashed.specs.inner.MapEntry.{IsEntryOf, IsOfInner, inner_rests}
 use Rattle.std.specs.declared.alloc.Allocator as alloc
 use Rattle.std.specs.declared.cmp.PartialEq as eq
 use Rattle.std.specs.declared.hash.Hash as hash

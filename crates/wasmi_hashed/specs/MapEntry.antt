@@ -2,27 +2,20 @@
 use Rattle.std.specs.declared.collections.hash_map.Entry.TheVariants as table
 use Rattle.std.specs.declared.collections.hash_map.Entry.{Entry as InnerEntry}
 use Rattle.std.specs.declared.alloc.Allocator as alloc
-use Rattle.std.specs.declared.alloc.AllocFailed.{AllocFailed}
 use Rattle.std.specs.declared.cmp.PartialEq as eq
 use Rattle.std.specs.declared.hash.Hash as hash
 use Rattle.std.specs.declared.hash.Hasher as hasher
 use Rattle.std.specs.declared.hash.BuildHasher as builder
 use Rattle.std.specs.contracts.collections.HashMap.{the_row as InnerRow}
-use Rattle.std.specs.Borrow.{Fml, RattleType, MutBor, Lends, RestsIfErr, follows, follows_if, follows_so, name_if_ok}
+use Rattle.std.specs.Borrow.{Fml, RattleType, MutBor, follows, follows_if, follows_so, name_if_ok}
 use mathlib.Core.Option.{none}
 use Rattle.std.specs.HashMap.{HashMap, hasher_of, IsUnchanged}
-use Rattle.std.specs.HashMap.Entry.{entry_key, entry_map_ref, entry_value, map_with_value, map_without_entry, with_entry_value, MatchEntry}
+use Rattle.std.specs.HashMap.Entry.{entry_map_ref, map_with_value, map_without_entry, with_entry_value}
 use Rattle.std.specs.HashMap.Lent.{HashMembers}
-use Rattle.std.specs.List.Sorted.{IsPermutation}
-use Rattle.std.specs.Map.{lookup_key, remove_entry, set_value}
-use Rattle.std.specs.Prelude.{◌≡◌, Bool, true, [], ◌∷◌, Result, OnErr, None, Some, IsSome, MatchOption}
-use Rattle.wasmi_map_specs.specs.Made.{IsMadeOf}
-use Rattle.wasmi_map_specs.specs.Maps.{value_at}
+use Rattle.std.specs.Prelude.{◌≡◌, [], Result, OnErr}
 use Rattle.wasmi_hashed.specs.Entries.{Entries}
 use Rattle.wasmi_hashed.specs.contracts.map.Map.{the_row as MapRow}
 use Rattle.wasmi_hashed.specs.contracts.map.entry.OccupiedEntry as HeldType
-use Rattle.wasmi_arena.specs.declared.error.ArenaError.{ArenaError}
-use Rattle.wasmi_arena.specs.declared.error.ArenaError.TheVariants.{OutOfSystemMemory}
 use Rattle.wasmi_hashed.specs.declared.map.entry.Entry.{Entry}
 use Rattle.wasmi_hashed.specs.declared.map.entry.Entry.TheVariants.{Occupied, Vacant}
 use Rattle.wasmi_hashed.specs.declared.map.entry.OccupiedEntry.{OccupiedEntry}
@@ -38,33 +31,11 @@ module _ {K V S A H : Type 0} {g : eq.Ghosts K} {h : hash.Ghosts K} {b : builder
   inner_entry (Occupied occupied) = table.Occupied occupied.entry
   inner_entry (Vacant vacant) = table.Vacant vacant.entry
 
-  -- the entry of a key in this map: its key, the stored one if it is there, and its value, the map as it
-  -- is, and what that becomes with a value written under the key and with the key taken out
-  abbrev pub IsEntryOf : (K → K → Bool) → Entries K V S → K → InnerEntry K V S A H g h b w → Type 0
-  IsEntryOf same map key there = (entry_value there ≡ None → entry_key there ≡ key) × (same key (entry_key there) ≡ true)
-      × (entry_value there ≡ value_at same map.entries key)
-      × MatchEntry there (IsSome (value_at same map.entries key) × (lookup_key (same key) map.entries ≡ Some (entry_key there)))
-      (value_at same map.entries key ≡ None)
-      × ((entry_map_ref there).now.entries ≡ map.entries)
-      × ((last : V) → MatchOption (value_at same map.entries key)
-      (IsPermutation ((key, last) ∷ map.entries) (map_with_value there last).entries)
-      (λ _. (map_with_value there last).entries ≡ set_value (same key) map.entries last))
-      × ((last : V) → hasher_of (map_with_value there last) ≡ map.hasher)
-      × IsPermutation (remove_entry (same key) map.entries) (map_without_entry there).entries
-
-  -- what a map returns where the map of the standard library returns this
-  abbrev pub IsOfInner : Result (InnerEntry K V S A H g h b w) (AllocFailed K) → Result (Entry K V S A H g h b w) ArenaError → Type 0
-  IsOfInner = IsMadeOf inner_entry OutOfSystemMemory
-
   -- the entry of a key that is there, with this value
   abbrev pub with_value : OccupiedEntry K V S A H g h b w → V → OccupiedEntry K V S A H g h b w
   with_value held last = record held { entry = with_entry_value held.entry last }
 
 module _ (K V S A H : RattleType) {g : eq.Ghosts K.Denot} {h : hash.Ghosts K.Denot} {b : builder.Ghosts S.Denot H.Denot} {w : hasher.Ghosts H.Denot} (heap : alloc.Ghosts A.Denot) where
-  -- where the call failed, the table has its entries
-  abbrev pub inner_rests : {E : Type 0} → MutBor (HashMap K.Denot V.Denot S.Denot) → Result (InnerEntry K.Denot V.Denot S.Denot A.Denot H.Denot g h b w) E → Fml
-  inner_rests m r = RestsIfErr (InnerRow K V S A H g h b w heap) m (λ e. (entry_map_ref e).ghost_name) r (λ now. now.entries ≡ m.now.entries)
-
   -- the table is in the end the one without the entry's key.
   -- `remove` leaves it so.
   abbrev pub inner_without : InnerEntry K.Denot V.Denot S.Denot A.Denot H.Denot g h b w → Fml
@@ -81,11 +52,6 @@ module _ (K V S A H : RattleType) {g : eq.Ghosts K.Denot} {h : hash.Ghosts K.Den
   lends_held held value = follows (HeldType.the_row (record { mir = named 1; lft = [] }) K V S A H g h b w heap) V held.ghost_name value.ghost_name (with_value held.now)
 
 module _ (K V S A H : RattleType) (m : HashMembers K.Denot) (b : builder.Ghosts S.Denot H.Denot) (w : hasher.Ghosts H.Denot) (heap : alloc.Ghosts A.Denot) where
-  -- the map has the entries that the table has in the end
-  abbrev pub lends_inner : MutBor (Entries K.Denot V.Denot S.Denot) → MutBor (HashMap K.Denot V.Denot S.Denot) → Fml
-  lends_inner map table = Lends (MapRow K V S A H (record { eq = m.eq }) (record { hash_input = m.hash_input }) b w heap)
-      (InnerRow K V S A H (record { eq = m.eq }) (record { hash_input = m.hash_input }) b w heap) map table map_of
-
   -- the map is what the entry's table is in the end, and where there is no entry it has the entries that it had.
   -- `*map.entry(2)?.or_insert(b)? = c` on (1, a): (1, a), (2, c).
   abbrev pub lends_entry : {E : Type 0} → MutBor (Entries K.Denot V.Denot S.Denot)

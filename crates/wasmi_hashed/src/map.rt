@@ -68,7 +68,8 @@ impl<K: Eq + Hash, V, A: Allocator> Map<K, V, FixedState, A> {
 impl<K: Eq + Hash, V, S: BuildHasher, A: Allocator> Map<K, V, S, A> {
     ghost use Rattle.std.specs.Borrow.{sem};
     ghost use Rattle.wasmi_hashed.specs.Drained.{empties_map};
-    ghost use Rattle.wasmi_hashed.specs.MapEntry.{map_of, lends_inner};
+    ghost use Rattle.wasmi_hashed.specs.MapEntry.{map_of};
+    ghost use Rattle.wasmi_hashed.specs.inner.MapEntry.{lends_inner};
     ghost use Rattle.wasmi_hashed.specs.MapLend.{lends_get, lends_values};
 
     /// An empty map whose keys are hashed by `state`, which asks `alloc` for memory when an entry comes.
@@ -210,7 +211,8 @@ impl<K: Eq + Hash, V, S: BuildHasher, A: Allocator> Map<K, V, S, A> {
 
     /// Makes room for `additional` more entries. Constant time where there is room, and else linear.
     ///
-    /// Fails with `OutOfSystemMemory` if there is no memory for it, and then the map is as before.
+    /// Fails with `OutOfSystemMemory` if there is no memory for it, or the allocator can't be cloned, and
+    /// then the map is as before.
     pub fn reserve(&mut self, additional: usize) -> Result<(), ArenaError>
     where
         A: Clone,
@@ -264,7 +266,7 @@ impl<K: Eq + Hash, V, S: BuildHasher, A: Allocator> Map<K, V, S, A> {
     }
 
     // The map of the standard library, lent.
-    // proof: a call of its own, so that only the call above it is proved by hand.
+    // proof: a call of its own, so that of the two only `Map::entry` is proved by hand.
     #[inline]
     fn inner_mut(&mut self) -> &mut HashMap<K, V, S, A>
         ensures* lends { sem 𝓛 (lends_inner K.row V.row S.row A.row S.Hasher.row K.Hash S.BuildHasher S.Hasher.Hasher A.Allocator self.entry result) }
@@ -276,8 +278,8 @@ impl<K: Eq + Hash, V, S: BuildHasher, A: Allocator> Map<K, V, S, A> {
     /// Puts a value under a key, and returns the one that was there. A key that is there is kept.
     /// Amortised expected constant time; asks for memory only where the key is new.
     ///
-    /// Fails with `OutOfSystemMemory` if the key isn't there and there is no memory for it, and then the
-    /// map is as before, and the pair is dropped.
+    /// Fails with `OutOfSystemMemory` if the key isn't there and there is no memory for it, or the
+    /// allocator can't be cloned, and then the map is as before, and the pair is dropped.
     #[inline]
     pub fn insert(&mut self, key: K, value: V) -> Result<Option<V>, ArenaError>
     where
@@ -306,7 +308,7 @@ impl<K: Eq + Hash, V, S: BuildHasher, A: Allocator> Map<K, V, S, A> {
     }
 
     /// Takes a key out, and returns its value, if it is there. Never fails. A `String` is looked up by
-    /// [`remove_str`](Map::remove_str).
+    /// [`remove_str`](Map::remove_str), a vector by [`remove_slice`](Map::remove_slice).
     /// Expected constant time, no allocation.
     #[inline]
     pub fn remove(&mut self, key: &K) -> Option<V>

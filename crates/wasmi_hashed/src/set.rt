@@ -140,7 +140,8 @@ impl<T: Eq + Hash, S: BuildHasher, A: Allocator> Set<T, S, A> {
 
     /// Makes room for `additional` more elements. Constant time where there is room, and else linear.
     ///
-    /// Fails with `OutOfSystemMemory` if there is no memory for it, and then the set is as before.
+    /// Fails with `OutOfSystemMemory` if there is no memory for it, or the allocator can't be cloned, and
+    /// then the set is as before.
     pub fn reserve(&mut self, additional: usize) -> Result<(), ArenaError>
     where
         A: Clone,
@@ -175,8 +176,8 @@ impl<T: Eq + Hash, S: BuildHasher, A: Allocator> Set<T, S, A> {
     /// Puts an element in, and returns whether it is new. An element that is there is kept.
     /// Amortised expected constant time; asks for memory only where the element is new.
     ///
-    /// Fails with `OutOfSystemMemory` if it isn't there and there is no memory for it, and then the set
-    /// is as before, and the element is dropped.
+    /// Fails with `OutOfSystemMemory` if it isn't there and there is no memory for it, or the allocator
+    /// can't be cloned, and then the set is as before, and the element is dropped.
     #[inline]
     pub fn insert(&mut self, value: T) -> Result<bool, ArenaError>
     where

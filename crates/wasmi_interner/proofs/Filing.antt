@@ -17,7 +17,8 @@ use Rattle.wasmi_interner.specs.inner.Hash.{hash_of}
 use Rattle.wasmi_interner.specs.inner.Index.{hash_cmp, text_at, order_with, orders_with, IsEntryOf, IsSlotOf, IsRestOf, IsFiled, IsIndexOf, IsReady, Inserts, Carries}
 use Rattle.wasmi_interner.specs.Interner.{symbol_of, AreDistinctTexts}
 use Rattle.wasmi_interner.specs.LenOrder.{len_cmp}
-use Rattle.wasmi_interner.specs.LenOrderLaws.{len_cmp_total, len_cmp-Equal}
+use Rattle.wasmi_interner.proofs.LengthOrder.{len_cmp-Equal}
+use Rattle.wasmi_interner.specs.LenOrderLaws.{len_cmp_total}
 use Rattle.wasmi_interner.specs.inner.RestBlocks.{RestState}
 use Rattle.wasmi_interner.specs.Search.{IsSearchable}
 use Rattle.wasmi_interner.specs.inner.HashTable.{HashTableState, IsGap, IsTaken, Puts, is_empty_slot, is_marker, gap, one, rest, says, met_in, with_slot}

@@ -7,7 +7,8 @@ use Rattle.std.proofs.lemmas.Nat.{row_fits}
 use Rattle.std.proofs.lemmas.Option.{same_Some}
 use Rattle.std.specs.declared.cmp.Ordering.{Ordering}
 use Rattle.std.specs.declared.cmp.Ordering.TheVariants.{Less, Greater}
-use Rattle.wasmi_interner.specs.Search.{sorted_orders, IsInOrder, IsNarrowed, IsSearchable}
+use Rattle.wasmi_interner.specs.Search.{sorted_orders, IsSearchable}
+use Rattle.wasmi_interner.specs.inner.Search.{IsInOrder, IsNarrowed}
 
 slice_get-replicate : {A : Type 0} → (n i : ℕ) (x : A) → i < length (replicate n x) → slice_get (replicate n x) i ≡ Some x
 slice_get-replicate zero i x h = absurd (omega arith)

@@ -4,6 +4,7 @@ mod Halves
 pub mod Interning
 mod InternsEach
 mod JoinedTexts
+mod LengthOrder
 mod Meeting
 mod RestBlocks
 pub mod Symbols

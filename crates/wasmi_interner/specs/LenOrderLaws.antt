@@ -1,8 +1,8 @@
 -- The laws of the length order.
-use Rattle.std.proofs.Common.{◌≡◌, ℕ, Bool, true, false, ◌&&◌, List, length, nat_eq, Some, refl, sym, ◌∙◌, Equal, ◌↔◌, eq-eqb}
+use Rattle.std.proofs.Common.{◌≡◌, ℕ, Bool, true, false, ◌&&◌, List, length, nat_eq, Some, refl, sym, ◌∙◌, eq-eqb}
 use Rattle.std.specs.Ordering.{nat_cmp, eq_by_cmp}
-use Rattle.std.specs.Cmp.{IsPartialEquivalence, IsPartialOrder, IsTotalOrder, nat_cmp_total, on_total, then_total, partial_equiv_from_equiv, both_tied, po, Equal-is, unsigned_ties}
-use Rattle.std.specs.Cmp.Lexicographic.{pointwise, as_long, bytes_decides, slice_cmp, nat_list_eq_equiv, nat_list_cmp_total, texts_ties}
+use Rattle.std.specs.Cmp.{IsPartialEquivalence, IsPartialOrder, IsTotalOrder, nat_cmp_total, on_total, then_total, partial_equiv_from_equiv, both_tied, po, unsigned_ties}
+use Rattle.std.specs.Cmp.Lexicographic.{pointwise, as_long, slice_cmp, nat_list_eq_equiv, nat_list_cmp_total, texts_ties}
 use Rattle.wasmi_interner.specs.LenOrder.{len_cmp}
 
 pub len_cmp_total : IsTotalOrder len_cmp
@@ -24,9 +24,3 @@ texts_per = partial_equiv_from_equiv nat_list_eq_equiv
 
 pub len_po : IsPartialOrder (pointwise nat_eq) (λ x y. Some (len_cmp x y))
 len_po = po len_cmp_total len_ties
-
-pub len_cmp-Equal : (x y : List ℕ) → (len_cmp x y ≡ Equal) ↔ (x ≡ y)
-len_cmp-Equal x y =
-    let tied = Equal-is (len_cmp x y) in
-    let same = bytes_decides x y in
-    (λ e. same.0 (len_ties x y ∙ tied.1 e), λ e. tied.0 (sym (len_ties x y) ∙ same.1 e))

@@ -1,5 +1,5 @@
 -- A search in a list that is sorted, seen as how each item compares with what is sought.
-use Rattle.std.specs.Prelude.{◌≡◌, ℕ, ◌<◌, ◌≤◌, ◌⊎◌, Bool, List, [], ◌∷◌, ◌++◌, replicate, Option, Some, Result, Ok, Err, if◌then◌else◌, slice_get}
+use Rattle.std.specs.Prelude.{◌≡◌, ℕ, Bool, List, [], ◌∷◌, ◌++◌, replicate, Some, Result, Ok, Err, if◌then◌else◌, slice_get}
 use Rattle.std.specs.declared.cmp.Ordering.{Ordering}
 use Rattle.std.specs.declared.cmp.Ordering.TheVariants.{Less, Equal, Greater}
 
@@ -22,14 +22,3 @@ pub record IsSearchable (orders : List Ordering) : Type 0 where
 abbrev pub IsFound : List Ordering → Result ℕ ℕ → Type 0
 IsFound orders (Ok place) = slice_get orders place ≡ Some Equal
 IsFound orders (Err less) = (greater : ℕ) × (orders ≡ replicate less Less ++ replicate greater Greater)
-
--- of two of so many places, each with the order of its item, the earlier is `Less` or the later `Greater`
-abbrev pub IsInOrder : (ℕ → Option Ordering) → ℕ → Type 0
-IsInOrder order count = (i j : ℕ) → i < j → j < count → (order i ≡ Some Less) ⊎ (order j ≡ Some Greater)
-
--- what is sought at so many places stands or belongs from `low` on and before `high`, or belongs at `high`
-pub record IsNarrowed (order : ℕ → Option Ordering) (count low high : ℕ) : Type 0 where
-  pub ends : low ≤ high
-  pub within : high ≤ count
-  pub before : (i : ℕ) → i < low → order i ≡ Some Less
-  pub after : (i : ℕ) → high ≤ i → i < count → order i ≡ Some Greater

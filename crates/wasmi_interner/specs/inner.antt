@@ -3,3 +3,4 @@ pub mod HashTable
 pub mod Index
 pub mod RestBlocks
 pub mod Texts
+pub mod Search

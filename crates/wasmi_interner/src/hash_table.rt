@@ -16,7 +16,7 @@ pub(crate) struct HashTable<A: Allocator> {
     shift: u32,
 }
 
-// How many slots are looked at, from a home on.
+// How many slots are looked at, from a home on. `met_from` of `specs/inner/HashTable.antt` has the number too.
 const REACH: usize = 32;
 
 // By how many bits a hash is shifted to one of the fewest homes.
@@ -101,11 +101,11 @@ impl<A: Allocator> HashTable<A> {
 
     // Puts an entry into a slot.
     #[inline]
-    pub(crate) fn set(&mut self, place: usize, slot: Entry)
+    pub(crate) fn set(&mut self, place: usize, entry: Entry)
         requires { place < length self.old.slots }
-        ensures { self.new ≡ with_slot self.old place slot }
+        ensures { self.new ≡ with_slot self.old place entry }
     {
-        self.slots[place] = slot;
+        self.slots[place] = entry;
     }
 
     // Whether they are few for so many texts. They can't be doubled where a hash has no more bits.
@@ -144,17 +144,17 @@ impl<A: Allocator> HashTable<A> {
     }
 
     // Puts an entry into the slot that is met for its hash, and returns whether it is met there then.
-    pub(crate) fn put(&mut self, slot: Entry) -> bool
-        requires { is_empty_slot slot ≡ false }
-        ensures { IsTrue result → Puts self.old slot self.new }
+    pub(crate) fn put(&mut self, entry: Entry) -> bool
+        requires { is_empty_slot entry ≡ false }
+        ensures { IsTrue result → Puts self.old entry self.new }
     {
-        match self.meet(slot.hash) {
+        match self.meet(entry.hash) {
             Met::Gap(place) => {
-                self.set(place, slot);
+                self.set(place, entry);
                 true
             }
             Met::One(_) => false,
-            Met::Rest => slot.is_marker(),
+            Met::Rest => entry.is_marker(),
         }
     }
 

@@ -235,6 +235,7 @@ impl<A: Allocator> Index<A> {
         let entry = self.slots.at(place);
         self.rest.reserve()?;
         let hash = entry.hash;
+        // Where the rest had it already, which the invariant allows, nothing is put in.
         if let Err(rank) = rank_of(&self.rest, texts, &entry) {
             self.rest.insert(rank, entry);
         }
@@ -298,7 +299,7 @@ fn find_in_rest<A: Allocator>(
     }
 }
 
-// The rank of an entry of the rest, or as an error the one where it belongs.
+// The rank of an entry in the rest, or as an error the one where it belongs.
 fn rank_of<A: Allocator>(rest: &Rest<A>, texts: &Texts<A>, entry: &Entry) -> Result<usize, usize>
     requires sorted { IsRestOf texts.now rest.now.entries }
     requires entry { IsEntryOf texts.now entry.now }

@@ -78,7 +78,7 @@ impl<A: Allocator> StringInterner<A> {
     }
 
     /// Drops all texts. Symbols begin at 0 again, so those that were handed out resolve to other texts
-    /// later. Linear, no allocation.
+    /// later. The memory of the texts and of the slots is kept. Linear, no allocation.
     pub fn clear(&mut self)
         ensures { self.new ≡ [] }
     {

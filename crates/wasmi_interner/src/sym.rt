@@ -47,7 +47,7 @@ impl Sym {
         Sym(value)
     }
 
-    /// The symbol with this number, which is below 2^32. Constant time.
+    /// The symbol with this number, which is below 2^32; `ArenaKey::from_usize` tests that. Constant time.
     pub fn from_usize(value: usize) -> Self
         requires { value < 2 ^ 32 }
         ensures { result ≡ value }

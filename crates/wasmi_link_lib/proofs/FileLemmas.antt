@@ -15,7 +15,8 @@ use Rattle.wasmi_module.specs.declared.error.DecodeError.TheVariants.{NoMemory}
 use Rattle.wasmi_module.specs.Modules.{Module}
 use Rattle.wasmi_module.specs.Sections.{IsWritten}
 use Rattle.wasmi_module.specs.Valid.{IsValid}
-use Rattle.wasmi_link_lib.specs.Files.{IsIn, IsNoModule, IsRefusal, IsShortage}
+use Rattle.wasmi_link_lib.specs.Files.{IsIn, IsNoModule, IsRefusal}
+use Rattle.wasmi_link_lib.specs.inner.Files.{IsShortage}
 use Rattle.wasmi_link_lib.specs.Linking.{Named, AreValid, linked, named_of}
 
 -- one more module

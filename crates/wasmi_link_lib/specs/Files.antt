@@ -10,7 +10,6 @@ use Rattle.wasmi_link_lib.specs.declared.files.LinkError.{LinkError}
 use Rattle.wasmi_link_lib.specs.declared.files.LinkError.TheVariants.{NotAModule, Refused}
 use Rattle.wasmi_link_lib.specs.Paths.{IsModuleName}
 use Rattle.wasmi_link_lib.specs.Report.{report_text, status_of}
-use Rattle.wasmi_link_lib.specs.Lines.{Linked}
 use Rattle.wasmi_link_lib.specs.Linking.{IsPastKeys, Named, linked}
 
 -- the bytes of the file are a writing of this module, which has the name that the path tells
@@ -33,11 +32,6 @@ pub record Tells (files : List File) (text : List ℕ) (status : ℕ) : Type 0 w
 -- there is no memory
 abbrev pub IsWantOfMemory : LinkError → Type 0
 IsWantOfMemory error = error ≡ Refused OutOfSystemMemory
-
--- there is none, or what linking finds out is past the keys
-abbrev pub IsShortage : Linked → LinkError → Type 0
-IsShortage found (NotAModule place error) = ⊥
-IsShortage found (Refused error) = (error ≡ OutOfSystemMemory) ⊎ ((error ≡ NotEnoughKeys) × IsPastKeys found)
 
 -- the file at a place is no module, and those before it are modules; there is no memory; or the files are writings of
 -- modules, and what linking these finds out is past the keys

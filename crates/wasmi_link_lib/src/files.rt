@@ -1,7 +1,8 @@
 //! From the files of modules to a report.
 ghost use Rattle.std.specs.Prelude.{◌≡◌, ◌≢◌, map, IfErr, IfOk, string_bytes};
 ghost use Rattle.std.specs.List.{AllZip};
-ghost use Rattle.wasmi_link_lib.specs.Files.{IsIn, IsNoModule, IsRefusal, IsShortage, IsWantOfMemory, Tells};
+ghost use Rattle.wasmi_link_lib.specs.Files.{IsIn, IsNoModule, IsRefusal, IsWantOfMemory, Tells};
+ghost use Rattle.wasmi_link_lib.specs.inner.Files.{IsShortage};
 ghost use Rattle.wasmi_link_lib.specs.Linking.{AreValid, linked, named_of};
 ghost use Rattle.wasmi_link_lib.specs.Report.{report_text, status_of};
 

@@ -1,4 +1,4 @@
-//! Modules in files.
+//! The name of the module in a file.
 ghost use Rattle.wasmi_link_lib.specs.Paths.{IsFileName, IsModuleName, IsStem};
 
 /// The name of the module in a file: that of the file, without the folder and without the ending `.wasm`.

@@ -3,7 +3,7 @@
 use Rattle.std.proofs.Common.{◌≡◌, refl, sym, ap, subst}
 use Rattle.std.specs.Borrow.{name_if_ok}
 use Rattle.std.specs.Prelude.{Result, Ok, Err, IfOk, OnErr, IsOkUnless}
-use Rattle.wasmi_map_specs.specs.Made.{IsMadeOf}
+use Rattle.wasmi_map_specs.specs.inner.Made.{IsMadeOf}
 use base.Fml.{GName}
 use mathlib.Core.Option.{some}
 

@@ -1,7 +1,7 @@
 pub mod Errors
-pub mod Made
 pub mod Maps
 pub mod Same
 pub mod Seen
 pub mod Sets
 pub mod Values
+pub mod inner

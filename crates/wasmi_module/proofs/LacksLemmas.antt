@@ -1,5 +1,5 @@
 -- Where no text of a form stands at the front of the bytes, none stands there of a form that begins with it.
--- for src/constants.rt, src/items.rt, src/item.rt, src/sections.rt, src/values.rt
+-- for src/constants.rt, src/decoder.rt, src/items.rt, src/item.rt, src/sections.rt, src/values.rt
 use Rattle.std.proofs.Common.{◌≡◌, ◌≢◌, ℕ, ◌<◌, length, List, [], ◌∷◌, ◌++◌, refl, sym, ap, subst, ◌∙◌, append_assoc, arith, length-append, Result, Ok, Err}
 use Rattle.wasmi_module.specs.Texts.{Is, ◌⋅◌}
 use Rattle.wasmi_module.specs.inner.Reading.{Reads, Lacks, With, Only}

@@ -1,9 +1,10 @@
 -- Entries, as `HandedOn.antt` takes them, what one leaves that is used up, and the names that walks on them cite. Assumes `Logic`.
--- for src/map/entry.rt, src/map/entry/
+-- for src/map.rt, src/map/entry.rt, src/map/entry/
 pub use Rattle.std.specs.BTreeMap.{BTreeMap, IsUnchanged}
 pub use Rattle.std.specs.BTreeMap.Entry.{entry_key, entry_map_ref, entry_value, map_with_value, map_without_entry, with_entry_value, IsWritten}
 pub use Rattle.std.specs.declared.collections.btree_map.Entry.TheVariants.{Occupied, Vacant}
-pub use Rattle.wasmi_ordered.specs.MapEntry.{inner_entry, with_value, IsEntryOf, IsOfInner, inner_rests, inner_without}
+pub use Rattle.wasmi_ordered.specs.MapEntry.{inner_entry, with_value, inner_without}
+pub use Rattle.wasmi_ordered.specs.inner.MapEntry.{IsEntryOf, IsOfInner, inner_rests}
 use Rattle.std.specs.declared.alloc.Allocator as alloc
 use Rattle.std.specs.declared.cmp.Ord as ord
 use Rattle.std.specs.declared.cmp.PartialEq as eq

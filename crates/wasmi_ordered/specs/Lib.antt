@@ -1,2 +1,3 @@
 pub mod MapLend
 pub mod MapEntry
+pub mod inner

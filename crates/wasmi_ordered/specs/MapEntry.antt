@@ -2,28 +2,19 @@
 use Rattle.std.specs.declared.collections.btree_map.Entry.TheVariants as tree
 use Rattle.std.specs.declared.collections.btree_map.Entry.{Entry as InnerEntry}
 use Rattle.std.specs.declared.alloc.Allocator as alloc
-use Rattle.std.specs.declared.alloc.AllocFailed.{AllocFailed}
 use Rattle.std.specs.declared.cmp.Ord as ord
 use Rattle.std.specs.declared.cmp.PartialEq as eq
 use Rattle.std.specs.declared.cmp.PartialOrd as partial
 use Rattle.std.specs.declared.hash.Hash as hash
-use Rattle.std.specs.declared.cmp.Ordering.{Ordering}
-use Rattle.std.specs.declared.cmp.Ordering.TheVariants.{Equal}
-use Rattle.std.specs.BTreeMap.{BTreeMap, insert_entry, IsUnchanged}
-use Rattle.std.specs.BTreeMap.Entry.{entry_map_ref, entry_key, entry_value, map_with_value, map_without_entry, with_entry_value, MatchEntry}
-use Rattle.std.specs.Map.{lookup_key, remove_entry}
-use Rattle.std.specs.Ordering.{eq_by_cmp}
-use Rattle.wasmi_map_specs.specs.Made.{IsMadeOf}
-use Rattle.wasmi_map_specs.specs.Maps.{value_at}
+use Rattle.std.specs.BTreeMap.{IsUnchanged}
+use Rattle.std.specs.BTreeMap.Entry.{entry_map_ref, map_without_entry, with_entry_value}
 use Rattle.std.specs.BTreeMap.Lent.{OrdMembers}
-use Rattle.std.specs.Prelude.{◌≡◌, List, [], Result, None, Some, IsSome}
-use Rattle.std.specs.Borrow.{Fml, RattleType, MutBor, RestsIfErr, Lends, follows, follows_if, follows_so, name_if_ok}
+use Rattle.std.specs.Prelude.{List, [], Result}
+use Rattle.std.specs.Borrow.{Fml, RattleType, MutBor, follows, follows_if, follows_so, name_if_ok}
 use mathlib.Core.Option.{none}
 use Rattle.std.specs.contracts.collections.BTreeMap.{the_row as InnerRow}
 use Rattle.wasmi_ordered.specs.contracts.map.Map.{the_row as MapRow}
 use Rattle.wasmi_ordered.specs.contracts.map.entry.OccupiedEntry as HeldType
-use Rattle.wasmi_arena.specs.declared.error.ArenaError.{ArenaError}
-use Rattle.wasmi_arena.specs.declared.error.ArenaError.TheVariants.{OutOfSystemMemory}
 use Rattle.wasmi_ordered.specs.declared.map.entry.Entry.{Entry}
 use Rattle.wasmi_ordered.specs.declared.map.entry.Entry.TheVariants.{Occupied, Vacant}
 use Rattle.wasmi_ordered.specs.declared.map.entry.OccupiedEntry.{OccupiedEntry}
@@ -35,31 +26,11 @@ module _ {Key Value Heap : Type 0} {equal : eq.Ghosts Key} {total : ord.Ghosts K
   inner_entry (Occupied occupied) = tree.Occupied occupied.entry
   inner_entry (Vacant vacant) = tree.Vacant vacant.entry
 
-  -- the entry of a key in a map of these entries: its key, the stored one if it is there, and its value,
-  -- the entries as they are, and what they become with a value written under the key and with the key taken
-  -- out
-  abbrev pub IsEntryOf : (Key → Key → Ordering) → List (Key × Value) → Key → InnerEntry Key Value Heap total equal order → Type 0
-  IsEntryOf cmp entries key there = (entry_value there ≡ None → entry_key there ≡ key) × (cmp key (entry_key there) ≡ Equal)
-      × (entry_value there ≡ value_at (eq_by_cmp cmp) entries key)
-      × MatchEntry there (IsSome (value_at (eq_by_cmp cmp) entries key) × (lookup_key (eq_by_cmp cmp key) entries ≡ Some (entry_key there)))
-      (value_at (eq_by_cmp cmp) entries key ≡ None)
-      × ((entry_map_ref there).now.entries ≡ entries)
-      × ((last : Value) → (map_with_value there last).entries ≡ insert_entry cmp entries key last)
-      × ((map_without_entry there).entries ≡ remove_entry (eq_by_cmp cmp key) entries)
-
-  -- what a map returns where the map of the standard library returns this
-  abbrev pub IsOfInner : Result (InnerEntry Key Value Heap total equal order) (AllocFailed Key) → Result (Entry Key Value Heap equal total order) ArenaError → Type 0
-  IsOfInner = IsMadeOf inner_entry OutOfSystemMemory
-
   -- the entry of a key that is there, with this value
   abbrev pub with_value : OccupiedEntry Key Value Heap equal total order → Value → OccupiedEntry Key Value Heap equal total order
   with_value held last = record held { entry = with_entry_value held.entry last }
 
 module _ (K V A : RattleType) {g : ord.Ghosts K.Denot} {g' : eq.Ghosts K.Denot} {g'' : partial.Ghosts K.Denot} (heap : alloc.Ghosts A.Denot) where
-  -- where the call failed, the tree has its entries
-  abbrev pub inner_rests : {E : Type 0} → MutBor (BTreeMap K.Denot V.Denot) → Result (InnerEntry K.Denot V.Denot A.Denot g g' g'') E → Fml
-  inner_rests m r = RestsIfErr (InnerRow K V A g g' g'' heap) m (λ e. (entry_map_ref e).ghost_name) r (λ now. now.entries ≡ m.now.entries)
-
   -- the tree is in the end the one without the entry's key.
   -- `remove` leaves it so.
   abbrev pub inner_without : InnerEntry K.Denot V.Denot A.Denot g g' g'' → Fml
@@ -71,11 +42,6 @@ module _ (K V A : RattleType) {g : ord.Ghosts K.Denot} {g' : eq.Ghosts K.Denot} 
   lends_held held value = follows (HeldType.the_row (record { mir = named 1; lft = [] }) K V A g' g g'' heap) V held.ghost_name value.ghost_name (with_value held.now)
 
 module _ (K V A : RattleType) (h : hash.Ghosts K.Denot) (g : OrdMembers K.Denot) (heap : alloc.Ghosts A.Denot) where
-  -- the map has the entries that the tree has in the end
-  abbrev pub lends_inner : MutBor (List (K.Denot × V.Denot)) → MutBor (BTreeMap K.Denot V.Denot) → Fml
-  lends_inner map tree = Lends (MapRow K V A h (record { eq = g.eq }) (record { cmp = g.cmp }) (record { partial_cmp = g.partial_cmp }) heap)
-      (InnerRow K V A (record { cmp = g.cmp }) (record { eq = g.eq }) (record { partial_cmp = g.partial_cmp }) heap) map tree (λ last. last.entries)
-
   -- the map has the entries that the entry's tree has in the end, and where there is no entry it is as before.
   -- `*map.entry(2)?.or_insert(b)? = c` on (1, a): (1, a), (2, c).
   abbrev pub lends_entry : {E : Type 0} → MutBor (List (K.Denot × V.Denot)) → Result (Entry K.Denot V.Denot A.Denot (record { eq = g.eq }) (record { cmp = g.cmp }) (record { partial_cmp = g.partial_cmp })) E → Fml

@@ -56,7 +56,7 @@ impl<K: Hash + Ord, V, A: Allocator> Model for Map<K, V, A> {
 
 impl<K: Hash + Ord, V, A: Allocator> Map<K, V, A> {
     ghost use Rattle.std.specs.Borrow.{sem};
-    ghost use Rattle.wasmi_ordered.specs.MapEntry.{lends_inner};
+    ghost use Rattle.wasmi_ordered.specs.inner.MapEntry.{lends_inner};
     ghost use Rattle.wasmi_ordered.specs.MapLend.{lends_get, lends_values};
 
     /// An empty map, which asks `alloc` for memory when an entry comes. Constant time.
@@ -230,7 +230,7 @@ impl<K: Hash + Ord, V, A: Allocator> Map<K, V, A> {
     }
 
     // The map of the standard library, lent.
-    // proof: a call of its own, so that only the call above it is proved by hand.
+    // proof: a call of its own, so that of the two only `Map::entry` is proved by hand.
     #[inline]
     fn inner_mut(&mut self) -> &mut BTreeMap<K, V, A>
         ensures* lends { sem 𝓛 (lends_inner K.row V.row A.row (record { hash_input = K.hash_input }) K.Ord A.Allocator self.entry result) }
@@ -269,7 +269,7 @@ impl<K: Hash + Ord, V, A: Allocator> Map<K, V, A> {
     }
 
     /// Takes a key out, and returns its value, if it is there. Never fails. A `String` is looked up by
-    /// [`remove_str`](Map::remove_str).
+    /// [`remove_str`](Map::remove_str), a vector by [`remove_slice`](Map::remove_slice).
     /// Logarithmic, no allocation.
     #[inline]
     pub fn remove(&mut self, key: &K) -> Option<V>

@@ -1,5 +1,5 @@
 -- What a store says of an entity that isn't there, and the key of one more.
--- for src/entities.rt
+-- for src/store_commands.rt
 use Rattle.std.proofs.Common.{◌≡◌, ℕ, zero, suc, ◌<◌, ◌≤◌, List, [], ◌∷◌, ◌++◌, codes, length, Bool, true, false, cond, ltb, Option, Some, None, refl, sym, ap, ◌∙◌, inl, inr, arith}
 use Rattle.std.specs.Prelude.{◌≢◌, ◌⊎◌}
 use Rattle.std.specs.Option.{option_map}

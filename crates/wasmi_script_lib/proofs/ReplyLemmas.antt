@@ -1,5 +1,5 @@
 -- The texts that the replies are written in.
--- for src/texts.rt, src/entities.rt
+-- for src/texts.rt, src/store_commands.rt
 use Rattle.std.proofs.Common.{◌≡◌, ℕ, List, [], ◌∷◌, ◌++◌, append_assoc, codes, ap, Result, Ok, Err, OnOk, subst}
 use Rattle.std.specs.Prelude.{◌≢◌, ◌⊎◌}
 use Rattle.std.proofs.Common.{inl, inr}

@@ -16,7 +16,8 @@ use Rattle.wasmi_arena.specs.declared.error.ArenaError.{ArenaError}
 use Rattle.wasmi_arena.specs.declared.error.ArenaError.TheVariants.{DuplicateItem, KeyOutOfBounds, NotEnoughKeys, OutOfSystemMemory}
 use Rattle.wasmi_collections.specs.Interner.{symbol_of, AreDistinctTexts}
 use Rattle.wasmi_dense.specs.Components.{component_at, extent, ChangesAt}
-use Rattle.wasmi_script_lib.specs.Store.{Entity, Store, texts_with, with_new, with_entity, with_property, with_renamed, IsFullFor, KeepsEntities, entities_with_property, is_other_kind, renamed, with_renamed_kind, shown, all_shown, store_of, IsSound}
+use Rattle.wasmi_script_lib.specs.Distinct.{texts_with, with_new}
+use Rattle.wasmi_script_lib.specs.Store.{Entity, Store, with_entity, with_property, with_renamed, IsFullFor, KeepsEntities, entities_with_property, is_other_kind, renamed, with_renamed_kind, shown, all_shown, store_of, IsSound}
 use Rattle.wasmi_script_lib.specs.declared.store.Named.{Named}
 
 -- ---- texts

@@ -1,6 +1,5 @@
 pub mod Lines
 pub mod Requests
-pub mod Meanings
 pub mod Distinct
 pub mod Store
 pub mod Replies

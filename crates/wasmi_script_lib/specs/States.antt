@@ -20,11 +20,11 @@ pub record State : Type 0 where
 abbrev pub empty : State
 empty = record { kept = []; deduped = []; interned = []; store = no_entities }
 
--- how many keys the deduplicating arena has, and how many symbols an interner
+-- how many keys the deduplicating arena has
 abbrev pub keys : ℕ
 keys = 2 ^ 64
 
--- the symbols of an interner
+-- how many symbols an interner has
 abbrev pub symbols : ℕ
 symbols = 2 ^ 32
 

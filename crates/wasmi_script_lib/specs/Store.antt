@@ -5,6 +5,7 @@ use Rattle.std.specs.Str.{bytes_eq}
 use Rattle.wasmi_arena.specs.Geometry.{max_len}
 use Rattle.wasmi_collections.specs.Interner.{symbol_of}
 use Rattle.wasmi_dense.specs.Components.{component_at, extent}
+use Rattle.wasmi_script_lib.specs.Distinct.{with_new}
 use Rattle.wasmi_script_lib.specs.declared.store.Named.{Named}
 
 -- an entity: its name, its kind, and its property, if it has one
@@ -28,15 +29,6 @@ no_entities = record { names = []; kinds = []; entities = [] }
 abbrev pub IsListed : Store → Entity → Type 0
 IsListed store entity =
     IsSome (symbol_of store.names entity.name) × IsSome (symbol_of store.kinds entity.kind)
-
--- the texts, with this one at the end if it has no place among them
-abbrev pub texts_with : List (List ℕ) → List ℕ → Option ℕ → List (List ℕ)
-texts_with texts text (Some place) = texts
-texts_with texts text None = texts ++ text ∷ []
-
--- the texts, with this one at the end if it isn't among them
-abbrev pub with_new : List (List ℕ) → List ℕ → List (List ℕ)
-with_new texts text = texts_with texts text (symbol_of texts text)
 
 -- one more entity, of this name and kind
 abbrev pub with_entity : Store → List ℕ → List ℕ → Store

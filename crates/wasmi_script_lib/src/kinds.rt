@@ -1,7 +1,8 @@
 //! The kinds of entities.
 ghost use Rattle.std.specs.Prelude.{◌≡◌, ◌≢◌, ◌<◌, ◌↔◌, ◌⊎◌, [], length, map, IfOk, IfErr, OnOk, OnErr, IsErrOf, IsOk, IsOkUnless, IsSome, Some, slice_get, slice_index_or};
 ghost use Rattle.wasmi_collections.specs.Interner.{symbol_of, AreDistinctTexts};
-ghost use Rattle.wasmi_script_lib.specs.Store.{renamed, with_new};
+ghost use Rattle.wasmi_script_lib.specs.Distinct.{with_new};
+ghost use Rattle.wasmi_script_lib.specs.Store.{renamed};
 
 use std::alloc::Allocator;
 use std::marker::Model;

@@ -20,7 +20,6 @@
 //! Each of the four has keys of its own.
 #![tactic(auto)]
 
-mod entities;
 mod error;
 mod kinds;
 pub mod laws;
@@ -29,6 +28,7 @@ mod program;
 mod reply;
 mod session;
 mod store;
+mod store_commands;
 mod texts;
 
 pub use error::{ScriptError, exit_status};

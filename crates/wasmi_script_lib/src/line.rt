@@ -1,7 +1,7 @@
 //! One line of a script.
 ghost use Rattle.std.specs.Prelude.{◌≡◌};
 ghost use Rattle.std.specs.Option.{option_map};
-ghost use Rattle.wasmi_script_lib.specs.Meanings.{meaning_of};
+ghost use Rattle.wasmi_script_lib.specs.inner.Meanings.{meaning_of};
 ghost use Rattle.wasmi_script_lib.specs.Requests.{add_of, number_of, parts_of, rename_of, request_of, set_of};
 
 /// What a line of a script asks for.

@@ -3,7 +3,8 @@ ghost use Rattle.std.specs.Prelude.{◌≡◌, ◌<◌, ◌≤◌, ◌↔◌, �
 ghost use Rattle.std.specs.List.{AllByRecursion};
 ghost use Rattle.wasmi_arena.specs.Geometry.{max_len};
 ghost use Rattle.wasmi_collections.specs.Interner.{symbol_of, AreDistinctTexts};
-ghost use Rattle.wasmi_script_lib.specs.Store.{Entity, IsFullFor, IsListed, IsOtherKind, KeepsEntities, RenamesKind, with_entity, with_new, with_property};
+ghost use Rattle.wasmi_script_lib.specs.Distinct.{with_new};
+ghost use Rattle.wasmi_script_lib.specs.Store.{Entity, IsFullFor, IsListed, IsOtherKind, KeepsEntities, RenamesKind, with_entity, with_property};
 
 use crate::kinds::Kinds;
 use std::alloc::{Allocator, Global};

@@ -1,5 +1,5 @@
 //! The names that modules export, each of which a linker takes once.
-ghost use Rattle.std.specs.Prelude.{◌≡◌, ◌≢◌, None, [], ◌∷◌, ◌++◌, length, not, true, false, is_some, IfOk, IfSome, IfNone, OnErr, Some, slice_get};
+ghost use Rattle.std.specs.Prelude.{◌≡◌, ◌≢◌, ◌≤◌, ◌^◌, ◌↔◌, None, [], ◌∷◌, ◌++◌, length, not, true, false, is_some, IfOk, IfSome, IfNone, OnErr, IsErrOf, Ok, Some, slice_get};
 ghost use Rattle.wasmi_collections.specs.Interner.{symbol_of};
 
 use std::alloc::Allocator;
@@ -17,6 +17,9 @@ pub fn export<A: Allocator + Clone>(
     ensures was_new { IfOk result (λ was_new. was_new ≡ not (is_some (symbol_of names.old name.now))) }
     ensures added { IfOk result (λ was_new. was_new ≡ true → names.new ≡ names.old ++ name.now ∷ []) }
     ensures kept { IfOk result (λ was_new. was_new ≡ false → names.new ≡ names.old) }
+    ensures there { IfSome (symbol_of names.old name.now) (λ _. result ≡ Ok false) }
+    ensures full { IsErrOf result ArenaError.NotEnoughKeys
+        ↔ ((symbol_of names.old name.now ≡ None) × (2 ^ 32 ≤ length names.old)) }
     ensures err { OnErr result (names.new ≡ names.old) }
 {
     if names.get(name).is_some() {
@@ -67,9 +70,12 @@ pub fn symbol_of_new<A: Allocator + Clone>(
     name: &str,
 ) -> Result<Option<Sym>, ArenaError>
     ensures new { IfOk result (λ symbol. IfSome symbol (λ number. number ≡ length names.old)) }
-    ensures added { IfOk result (λ symbol. IfSome symbol (λ number. names.new ≡ names.old ++ name.now ∷ [])) }
+    ensures added { IfOk result (λ symbol. IfSome symbol (λ _. names.new ≡ names.old ++ name.now ∷ [])) }
     ensures known { IfOk result (λ symbol. IfNone symbol (symbol_of names.old name.now ≢ None)) }
     ensures kept { IfOk result (λ symbol. IfNone symbol (names.new ≡ names.old)) }
+    ensures there { IfSome (symbol_of names.old name.now) (λ _. result ≡ Ok None) }
+    ensures full { IsErrOf result ArenaError.NotEnoughKeys
+        ↔ ((symbol_of names.old name.now ≡ None) × (2 ^ 32 ≤ length names.old)) }
     ensures err { OnErr result (names.new ≡ names.old) }
 {
     appended_texts();

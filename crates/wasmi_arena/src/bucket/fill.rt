@@ -3,7 +3,8 @@
 ghost use Rattle.std.specs.Prelude.{◌≡◌, ◌+◌, ◌≤◌, [], length, IsOk, OnOk, IfSome};
 ghost use Rattle.std.specs.Iterator.{IsFinite, UpTo, size as count};
 ghost use Rattle.std.specs.List.{All, AllZip};
-ghost use Rattle.wasmi_arena.specs.Growth.{AppendsMany, TakesSome};
+ghost use Rattle.wasmi_arena.specs.Growth.{AppendsMany};
+ghost use Rattle.wasmi_arena.specs.inner.Growth.{TakesSome};
 
 use super::Bucket;
 use std::alloc::{AllocError, Allocator};

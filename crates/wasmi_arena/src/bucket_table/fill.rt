@@ -6,7 +6,7 @@ ghost use Rattle.std.specs.Iterator.{IsFinite, UpTo, size as count};
 ghost use Rattle.std.specs.Option.{ForSome};
 ghost use Rattle.wasmi_arena.specs.inner.Apart.{AreOpenApart};
 ghost use Rattle.wasmi_arena.specs.Geometry.{size};
-ghost use Rattle.wasmi_arena.specs.Growth.{Came};
+ghost use Rattle.wasmi_arena.specs.inner.Growth.{Came};
 ghost use Rattle.wasmi_arena.specs.inner.Table.{items_in, bucket_with, FillsBucket};
 
 use crate::geometry::{BUCKETS, bucket_size};

@@ -34,10 +34,8 @@ pub(crate) fn pop_from<T: Drop, A: Allocator>(
     ensures item { slice_get (items_in (slice_index_or buckets.old place.0 None)) place.1 ≡ Some result }
 {
     if place.1 == 0 {
-        match buckets[place.0].take() {
-            Some(mut emptied) => emptied.pop(0),
-            None => unreachable!(),
-        }
+        let mut emptied = take_bucket(buckets, place.0);
+        emptied.pop(0)
     } else {
         unwrap_mut(&mut buckets[place.0]).pop(place.1)
     }

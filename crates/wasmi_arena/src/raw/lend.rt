@@ -19,7 +19,7 @@ impl<T, A: Allocator> StableVec<T, A> {
         ensures buckets { HasBuckets self.old result.buckets }
     {
         ItemsLoan {
-            first: &raw mut self.table.buckets as *mut Option<Bucket<T, A>>,
+            start: &raw mut self.table.buckets as *mut Option<Bucket<T, A>>,
             marker: PhantomData,
         }
     }
@@ -35,7 +35,7 @@ impl<Key: ArenaKey, T, A: Allocator> StableArena<Key, T, A> {
         ensures buckets { HasBuckets self.old result.buckets }
     {
         ItemsLoan {
-            first: &raw mut self.items.table.buckets as *mut Option<Bucket<T, A>>,
+            start: &raw mut self.items.table.buckets as *mut Option<Bucket<T, A>>,
             marker: PhantomData,
         }
     }

@@ -16,7 +16,7 @@ use std::marker::{Model, PhantomData};
 /// Whatever is written, each bucket keeps its slots and its number of items, so the vector agrees again
 /// when the loan ends.
 pub struct ItemsLoan<'a, T, A: Allocator> {
-    pub(crate) first: *mut Option<Bucket<T, A>>,
+    pub(crate) start: *mut Option<Bucket<T, A>>,
     pub(crate) marker: PhantomData<&'a mut Option<Bucket<T, A>>>,
     // The buckets as they were lent.
     ghost buckets: { List (Option (Bucket T)) },
@@ -26,7 +26,7 @@ pub struct ItemsLoan<'a, T, A: Allocator> {
 }
 
 impl<'a, T, A: Allocator> Model for ItemsLoan<'a, T, A> {
-    ghost also_owns = { λ l. loan_owns T.row A.row A.Allocator 'a l.first l.buckets l.name };
+    ghost also_owns = { λ l. loan_owns T.row A.row A.Allocator 'a l.start l.buckets l.name };
 
     ghost also_shares = { λ _ _ _. ftrue };
 }
@@ -34,7 +34,7 @@ impl<'a, T, A: Allocator> Model for ItemsLoan<'a, T, A> {
 impl<'a, T, A: Allocator> Drop for ItemsLoan<'a, T, A> {
     fn drop(self) {
         let ItemsLoan {
-            first: _,
+            start: _,
             marker: _,
         } = self;
     }

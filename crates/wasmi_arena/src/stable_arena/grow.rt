@@ -4,7 +4,8 @@ ghost use Rattle.std.specs.Mem.{type_size};
 ghost use Rattle.std.specs.Iterator.{IsFinite, IsFiniteIterable, UpTo, size as count};
 ghost use Rattle.wasmi_arena.specs.Geometry.{max_len, room};
 ghost use Rattle.wasmi_arena.specs.Arena.{stable_limit};
-ghost use Rattle.wasmi_arena.specs.Growth.{RefusesOneMore, TakesAll, TakesSome, TakesUntilRefused, AppendsMany};
+ghost use Rattle.wasmi_arena.specs.Growth.{RefusesOneMore, TakesAll, TakesUntilRefused, AppendsMany};
+ghost use Rattle.wasmi_arena.specs.inner.Growth.{TakesSome};
 
 use crate::{ArenaError, ArenaKey, MAX_LEN, StableArena};
 use std::alloc::Allocator;

@@ -1,8 +1,9 @@
 //! Two items of a stable arena at once.
 ghost use Rattle.std.specs.Prelude.{◌≡◌, ◌≢◌, ◌<◌, ◌≤◌, ◌↔◌, ◌⊎◌, [], ◌∷◌, length, IfOk, IfErr, IsErrOf, slice_get, Some};
 ghost use Rattle.std.specs.Borrow.{sem};
-ghost use Rattle.wasmi_arena.specs.Pairs.{PairAnswer, AreNumbers};
-ghost use Rattle.wasmi_arena.specs.ArenaLend.{lends_two, lends_pair, lends_both};
+ghost use Rattle.wasmi_arena.specs.ArenaLend.{lends_both};
+ghost use Rattle.wasmi_arena.specs.inner.Pairs.{PairAnswer, AreNumbers};
+ghost use Rattle.wasmi_arena.specs.inner.ArenaLend.{lends_two, lends_pair};
 
 use super::StableArena;
 use crate::{ArenaError, ArenaKey};
@@ -48,8 +49,8 @@ impl<Key: ArenaKey, T, A: Allocator> StableArena<Key, T, A> {
     }
 
     // The arena itself, with its length and the numbers of the two keys.
-    // proof: a call of its own, so that only the call above it is proved by hand.
-    fn asked(&mut self, keys: [Key; 2]) -> (&mut Self, usize, usize, usize)
+    // proof: a call of its own, so that of the two only `get_disjoint_mut` is proved by hand.
+    fn with_numbers(&mut self, keys: [Key; 2]) -> (&mut Self, usize, usize, usize)
         ensures same { result.0.ghost_name ≡ self.entry.ghost_name }
         ensures arena { result.0.now ≡ self.old }
         ensures len { result.1 ≡ length self.old }
@@ -79,7 +80,7 @@ impl<Key: ArenaKey, T, A: Allocator> StableArena<Key, T, A> {
         ensures errors { IfErr result (λ error. (error ≡ ArenaError.AliasingPairAccess)
             ⊎ (error ≡ ArenaError.KeyOutOfBounds)) }
     {
-        let (arena, len, first, second) = self.asked(keys);
+        let (arena, len, first, second) = self.with_numbers(keys);
         arena.checked_pair(len, first, second)
     }
 }

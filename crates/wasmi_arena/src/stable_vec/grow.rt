@@ -3,7 +3,8 @@ ghost use Rattle.std.specs.Prelude.{◌≡◌, ◌+◌, ◌<◌, ◌≤◌, List
 ghost use Rattle.std.specs.Mem.{type_size};
 ghost use Rattle.std.specs.Iterator.{IsFinite, IsFiniteIterable, UpTo, size as count};
 ghost use Rattle.wasmi_arena.specs.Geometry.{size, max_len, fewest, slots, room};
-ghost use Rattle.wasmi_arena.specs.Growth.{RefusesOneMore, TakesAll, TakesSome, TakesUntilRefused};
+ghost use Rattle.wasmi_arena.specs.Growth.{RefusesOneMore, TakesAll, TakesUntilRefused};
+ghost use Rattle.wasmi_arena.specs.inner.Growth.{TakesSome};
 
 use crate::bucket_table::fill::fill_bucket_from;
 use crate::geometry::{place_in_last, start_of};

@@ -1,9 +1,10 @@
 //! Two items of a stable vector at once.
 ghost use Rattle.std.specs.Prelude.{◌≡◌, ◌≢◌, ◌<◌, ◌≤◌, ◌↔◌, ◌⊎◌, ℕ, [], ◌∷◌, length, IfOk, IfErr, OnOk, OnErr, IsErrOf, slice_get, Some};
 ghost use Rattle.std.specs.Borrow.{sem};
-ghost use Rattle.wasmi_arena.specs.Pairs.{PairAnswer, AreNumbers};
+ghost use Rattle.wasmi_arena.specs.inner.Pairs.{PairAnswer, AreNumbers};
 ghost use Rattle.std.specs.List.{swap};
-ghost use Rattle.wasmi_arena.specs.VecLend.{lends_two, lends_pair, lends_both};
+ghost use Rattle.wasmi_arena.specs.VecLend.{lends_both};
+ghost use Rattle.wasmi_arena.specs.inner.VecLend.{lends_two, lends_pair};
 
 use super::StableVec;
 use crate::ArenaError;
@@ -73,8 +74,8 @@ impl<T, A: Allocator> StableVec<T, A> {
     }
 
     // The vector itself, with its length and the two indices.
-    // proof: a call of its own, so that only the call above it is proved by hand.
-    fn asked(&mut self, indices: [usize; 2]) -> (&mut Self, usize, usize, usize)
+    // proof: a call of its own, so that of the two only `get_disjoint_mut` is proved by hand.
+    fn with_numbers(&mut self, indices: [usize; 2]) -> (&mut Self, usize, usize, usize)
         ensures same { result.0.ghost_name ≡ self.entry.ghost_name }
         ensures vec { result.0.now ≡ self.old }
         ensures len { result.1 ≡ length self.old }
@@ -102,7 +103,7 @@ impl<T, A: Allocator> StableVec<T, A> {
         ensures errors { IfErr result (λ error. (error ≡ ArenaError.AliasingPairAccess)
             ⊎ (error ≡ ArenaError.KeyOutOfBounds)) }
     {
-        let (vec, len, first, second) = self.asked(indices);
+        let (vec, len, first, second) = self.with_numbers(indices);
         vec.checked_pair(len, first, second)
     }
 }

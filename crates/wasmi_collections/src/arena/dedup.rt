@@ -124,7 +124,8 @@ impl<Key: ArenaKey, T: Eq + Hash, A: Allocator> DedupArena<Key, T, A> {
         self.items.next_key()
     }
 
-    /// Drops all items and all values handed in. Keys begin at 0 again. Linear, no allocation.
+    /// Drops all items and all values handed in. The memory is kept, and keys begin at 0 again. Linear, no
+    /// allocation.
     pub fn clear(&mut self)
     where
         T: Drop,
@@ -139,8 +140,8 @@ impl<Key: ArenaKey, T: Eq + Hash, A: Allocator> DedupArena<Key, T, A> {
     ///
     /// A value that is there is never refused, and nothing is cloned or allocated for it. For a new one
     /// it fails with `NotEnoughKeys` if there is no key for one more, and then with `OutOfSystemMemory`
-    /// if there is no memory, or the clone of the value fails. After an error the arena is as before, and
-    /// the value is dropped. Expected constant time, but for growths.
+    /// if there is no memory, or the clone of the value or of the allocator fails. After an error the
+    /// arena is as before, and the value is dropped. Expected constant time, but for growths.
     pub fn alloc(&mut self, value: T) -> Result<Key, ArenaError>
     where
         T: Clone,
@@ -171,7 +172,8 @@ impl<Key: ArenaKey, T: Eq + Hash, A: Allocator> DedupArena<Key, T, A> {
         self.hand_in(key, value)
     }
 
-    // Hands a value in that is new, under the next key.
+    // Hands a value in that is new, under the next key. Room and clone come first: once the value is in the index
+    // nothing fails.
     fn hand_in(&mut self, key: Key, value: T) -> Result<Key, ArenaError>
     where
         T: Clone,

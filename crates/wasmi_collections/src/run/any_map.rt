@@ -21,7 +21,7 @@ pub trait AnyMap<K, V> {
     /// Puts a value under a key, and returns the one that was there.
     ///
     /// Fails only with `OutOfSystemMemory`, and only where the key isn't there. After an error the map is
-    /// as before.
+    /// as before, and the pair is dropped.
     fn insert(&mut self, key: K, value: V) -> Result<Option<V>, ArenaError>
         ensures ok { IfOk result (λ old. PutsValue eq (entries self.old) key value old (entries self.new)) }
         ensures err { IfErr result (λ error. RefusesKey eq (entries self.old) key error
@@ -35,7 +35,7 @@ pub trait AnyMap<K, V> {
     fn has(&self, key: &K) -> bool
         ensures { result ≡ is_some (value_at eq (entries self.now) key.now) };
 
-    /// Puts a value under a key if there is none, and returns whether there was one.
+    /// Puts a value under a key if there is none, and returns whether there was one, where the pair is dropped.
     ///
     /// Fails as [`insert`](AnyMap::insert) does.
     fn or_insert(&mut self, key: K, value: V) -> Result<bool, ArenaError>

@@ -21,7 +21,7 @@ pub trait AnySet<T> {
     /// Puts an element in, and returns whether it is new.
     ///
     /// Fails only with `OutOfSystemMemory`, and only where the element isn't there. After an error the
-    /// set is as before.
+    /// set is as before, and the element is dropped.
     fn insert(&mut self, element: T) -> Result<bool, ArenaError>
         ensures ok { IfOk result (λ added. PutsElement eq (elements self.old) element added (elements self.new)) }
         ensures err { IfErr result (λ error. RefusesElement eq (elements self.old) element error

@@ -64,7 +64,7 @@ fn double<T, A: Allocator>(items: &mut Vec<T, A>) -> Result<(), AllocError>
 }
 
 impl<Key: ArenaKey, T: Drop, A: Allocator> Arena<Key, T, A> {
-    // Puts an item at the end, as `alloc` does, in a block that grows by `double`.
+    // Puts an item at the end, as `alloc` does, in a block that grows by `double`, to exactly twice its length.
     fn add(&mut self, item: T) -> Result<(), ArenaError>
         ensures ok { OnOk result (self.new.items ≡ self.old.items ++ item ∷ []) }
         ensures block { OnOk result (FillsBlock (length self.old.items + self.old.room)

@@ -1,7 +1,8 @@
 //! Two items of an arena in one vector at once.
 ghost use Rattle.std.specs.Prelude.{◌≡◌, ◌<◌, ◌≤◌, ◌↔◌, ◌⊎◌, [], ◌∷◌, length, IfOk, IfErr, IsErrOf, slice_get, slice_set, Some};
 ghost use Rattle.std.specs.Borrow.{sem, Array};
-ghost use Rattle.wasmi_arena.specs.Pairs.{AreNumbers, LendsBothIfOk};
+ghost use Rattle.wasmi_arena.specs.Pairs.{LendsBothIfOk};
+ghost use Rattle.wasmi_arena.specs.inner.Pairs.{AreNumbers};
 ghost use Rattle.wasmi_dense.specs.ArenaLend.{lends_all};
 ghost use Rattle.wasmi_dense.specs.ArenaPair.{lends_both};
 
@@ -41,8 +42,8 @@ fn checked_pair<T>(
 }
 
 // The numbers of two keys.
-// proof: a call of its own, so that only the call above it is proved by hand.
-fn asked<Key: ArenaKey>(keys: [Key; 2]) -> (usize, usize)
+// proof: a call of its own, so that of the two only `get_disjoint_mut` is proved by hand.
+fn numbers_of<Key: ArenaKey>(keys: [Key; 2]) -> (usize, usize)
     ensures { AreNumbers Key.keys.number keys result.0 result.1 }
 {
     let [first, second] = keys;
@@ -51,7 +52,7 @@ fn asked<Key: ArenaKey>(keys: [Key; 2]) -> (usize, usize)
 
 impl<Key: ArenaKey, T, A: Allocator> Arena<Key, T, A> {
     // All items.
-    // proof: a call of its own, so that only the call above it is proved by hand.
+    // proof: a call of its own, so that of the two only `get_disjoint_mut` is proved by hand.
     fn items_mut(&mut self) -> &mut [T]
         ensures* writes_back { sem 𝓛 (lends_all Key.row T.row A.row Key.ArenaKey A.Allocator self.entry result.ghost_name) }
         ensures items { result.now ≡ self.old.items }
@@ -59,7 +60,7 @@ impl<Key: ArenaKey, T, A: Allocator> Arena<Key, T, A> {
         self.items.as_mut_slice()
     }
 
-    /// The items under two keys to write to.
+    /// The items under two keys to write to, in the order of the keys.
     ///
     /// Fails with `KeyOutOfBounds` if there is no item under one, and then with `AliasingPairAccess` if
     /// the keys are equal. After an error the arena is as before. Constant time.
@@ -79,7 +80,7 @@ impl<Key: ArenaKey, T, A: Allocator> Arena<Key, T, A> {
         ensures errors { IfErr result (λ error. (error ≡ ArenaError.KeyOutOfBounds)
             ⊎ (error ≡ ArenaError.AliasingPairAccess)) }
     {
-        let (one, other) = asked(keys);
+        let (one, other) = numbers_of(keys);
         checked_pair(self.items_mut(), one, other)
     }
 }

@@ -10,7 +10,8 @@ ghost use Rattle.std.specs.Map.Calls.{ModifiesValue};
 ghost use Rattle.std.specs.Option.{UnwrapsOrElse};
 ghost use Rattle.wasmi_map_specs.specs.Errors.{FailsOnlyForMemory};
 ghost use Rattle.wasmi_map_specs.specs.Maps.{value_at};
-ghost use Rattle.wasmi_hashed.specs.MapEntry.{inner_entry, map_of, IsEntryOf, IsOfInner, lends_entry, inner_rests};
+ghost use Rattle.wasmi_hashed.specs.MapEntry.{inner_entry, map_of, lends_entry};
+ghost use Rattle.wasmi_hashed.specs.inner.MapEntry.{IsEntryOf, IsOfInner, inner_rests};
 
 mod occupied;
 mod vacant;
@@ -89,7 +90,7 @@ impl<K: Eq + Hash, V, S: BuildHasher, A: Allocator> Map<K, V, S, A> {
 }
 
 // The entry of a key in the map of the standard library.
-// proof: a call of its own, so that only the call above it is proved by hand.
+// proof: a call of its own, so that of the two only `Map::entry` is proved by hand.
 #[inline]
 fn entry_in<'a, K: Eq + Hash + Drop, V, S: BuildHasher, A: Allocator + Clone>(
     inner: &'a mut HashMap<K, V, S, A>,
@@ -106,7 +107,7 @@ fn entry_in<'a, K: Eq + Hash + Drop, V, S: BuildHasher, A: Allocator + Clone>(
 }
 
 // What a map returns where the map of the standard library returns this.
-// proof: a call of its own, so that only the call above it is proved by hand.
+// proof: a call of its own, so that of the two only `Map::entry` is proved by hand.
 #[inline]
 fn of_inner<'a, K: Eq + Hash + Drop, V, S: BuildHasher, A: Allocator>(
     there: Result<hash_map::Entry<'a, K, V, S, A>, AllocFailed<K>>,
@@ -135,7 +136,7 @@ impl<'a, K: Eq + Hash, V, S: BuildHasher, A: Allocator> Entry<'a, K, V, S, A> {
     }
 
     // The same entry, as one of the standard library.
-    // proof: a call of its own, so that only the call above it is proved by hand.
+    // proof: a call of its own, so that only its callers are proved by hand.
     #[inline]
     fn into_inner(self) -> hash_map::Entry<'a, K, V, S, A>
         ensures { result ≡ inner_entry self.entry }

@@ -13,7 +13,8 @@ use wasmi_arena::ArenaError;
 
 impl<K: Eq + Hash, V, S: BuildHasher, A: Allocator> Map<K, V, S, A> {
     /// Puts a value under a key that isn't there. Where the key is there nothing changes, and the value comes
-    /// back in `Ok(Err(value))`. The key is hashed once; asks for memory only where it is new.
+    /// back in `Ok(Err(value))`. Amortised expected constant time; the key is hashed once, and memory is asked for
+    /// only where it is new.
     ///
     /// Fails with `OutOfSystemMemory` if the key isn't there and there is no memory for it, or the
     /// allocator can't be cloned, and then the map has the entries that it had, and the pair is dropped.

@@ -11,7 +11,8 @@ ghost use Rattle.std.specs.Ordering.{eq_by_cmp};
 ghost use Rattle.std.specs.declared.cmp.Ordering.TheVariants.{Equal};
 ghost use Rattle.wasmi_map_specs.specs.Errors.{FailsOnlyForMemory};
 ghost use Rattle.wasmi_map_specs.specs.Maps.{value_at};
-ghost use Rattle.wasmi_ordered.specs.MapEntry.{inner_entry, IsEntryOf, IsOfInner, lends_entry, inner_rests};
+ghost use Rattle.wasmi_ordered.specs.MapEntry.{inner_entry, lends_entry};
+ghost use Rattle.wasmi_ordered.specs.inner.MapEntry.{IsEntryOf, IsOfInner, inner_rests};
 
 mod occupied;
 mod vacant;
@@ -82,7 +83,7 @@ impl<K: Hash + Ord, V, A: Allocator> Map<K, V, A> {
 }
 
 // The entry of a key in the map of the standard library.
-// proof: a call of its own, so that only the call above it is proved by hand.
+// proof: a call of its own, so that of the two only `Map::entry` is proved by hand.
 #[inline]
 fn entry_in<'a, K: Hash + Ord + Drop, V, A: Allocator + Clone>(
     inner: &'a mut BTreeMap<K, V, A>,
@@ -97,7 +98,7 @@ fn entry_in<'a, K: Hash + Ord + Drop, V, A: Allocator + Clone>(
 }
 
 // What a map returns where the map of the standard library returns this.
-// proof: a call of its own, so that only the call above it is proved by hand.
+// proof: a call of its own, so that of the two only `Map::entry` is proved by hand.
 #[inline]
 fn of_inner<'a, K: Hash + Ord + Drop, V, A: Allocator>(
     there: Result<btree_map::Entry<'a, K, V, A>, AllocFailed<K>>,
@@ -123,7 +124,7 @@ impl<'a, K: Hash + Ord, V, A: Allocator> Entry<'a, K, V, A> {
     }
 
     // The same entry, as one of the standard library.
-    // proof: a call of its own, so that only the call above it is proved by hand.
+    // proof: a call of its own, so that only its callers are proved by hand.
     #[inline]
     fn into_inner(self) -> btree_map::Entry<'a, K, V, A>
         ensures { result ≡ inner_entry self.entry }

@@ -14,7 +14,7 @@ use wasmi_arena::ArenaError;
 
 impl<K: Hash + Ord, V, A: Allocator> Map<K, V, A> {
     /// Puts a value under a key that isn't there. Where the key is there nothing changes, and the value comes
-    /// back in `Ok(Err(value))`. One search; asks for memory only where the key is new.
+    /// back in `Ok(Err(value))`. Logarithmic, one search; asks for memory only where the key is new.
     ///
     /// Fails with `OutOfSystemMemory` if the key isn't there and there is no memory for it, or the
     /// allocator can't be cloned, and then the map is as before, and the pair is dropped.

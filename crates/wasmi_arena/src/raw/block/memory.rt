@@ -14,10 +14,10 @@ use std::mem::{align_of, size_of};
 // proof: the contract alone reads the allocator.
 pub(crate) fn without_block<T, A: Allocator>(
     _alloc: &A,
-    slots: usize,
+    count: usize,
 ) -> Option<(BlockPtr<T>, Slots<T>, DeallocRight<T, A>)>
     ensures some { IsSome result ↔ (type_size T.row ≡ 0) }
-    ensures new { IfSome result (λ block. IsNewBlock block.0 block.1 block.2 slots _alloc.now) }
+    ensures new { IfSome result (λ block. IsNewBlock block.0 block.1 block.2 count _alloc.now) }
 {
     if size_of::<T>() != 0 {
         return None;
@@ -40,13 +40,13 @@ pub(crate) fn without_block<T, A: Allocator>(
 // A block of that many free slots.
 pub(crate) fn allocate<T, A: Allocator>(
     alloc: &A,
-    slots: usize,
+    count: usize,
 ) -> Result<(BlockPtr<T>, Slots<T>, DeallocRight<T, A>), AllocError>
-    requires fits { FitsInBlock T.row slots }
-    requires sized { IsTrue (takes_memory T.row slots) }
-    ensures { IfOk result (λ block. IsNewBlock block.0 block.1 block.2 slots alloc.now) }
+    requires fits { FitsInBlock T.row count }
+    requires sized { IsTrue (takes_memory T.row count) }
+    ensures { IfOk result (λ block. IsNewBlock block.0 block.1 block.2 count alloc.now) }
 {
-    match alloc.allocate(slots * size_of::<T>(), align_of::<T>()) {
+    match alloc.allocate(count * size_of::<T>(), align_of::<T>()) {
         Ok(block) => {
             let ptr = BlockPtr {
                 start: block as *mut T,

@@ -29,10 +29,10 @@ impl<'a, T, A: Allocator> ItemsLoan<'a, T, A> {
         ensures second { slice_get (items_in (slice_index_or self.entry.buckets other_bucket None)) other_slot
             ≡ Some result.1.now }
     {
-        let ItemsLoan { first, marker: _ } = self;
+        let ItemsLoan { start, marker: _ } = self;
         unsafe {
-            let one = block_of!(first, bucket);
-            let other = block_of!(first, other_bucket);
+            let one = block_of!(start, bucket);
+            let other = block_of!(start, other_bucket);
             (&mut *one.add(slot), &mut *other.add(other_slot))
         }
     }

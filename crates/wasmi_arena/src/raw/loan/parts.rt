@@ -17,15 +17,15 @@ impl<'a, T, A: Allocator> ItemsLoan<'a, T, A> {
         requires { count ≤ length self.buckets }
         ensures { IsCut self.entry result.0 result.1 count }
     {
-        let ItemsLoan { first, marker: _ } = self;
-        let rest = unsafe { first.add(count) };
+        let ItemsLoan { start, marker: _ } = self;
+        let rest = unsafe { start.add(count) };
         (
             ItemsLoan {
-                first,
+                start,
                 marker: PhantomData,
             },
             ItemsLoan {
-                first: rest,
+                start: rest,
                 marker: PhantomData,
             },
         )
@@ -37,8 +37,8 @@ impl<'a, T, A: Allocator> ItemsLoan<'a, T, A> {
         ensures* writes_back { sem 𝓛 (lends_bucket T.row A.row self.entry bucket result) }
         ensures value { result.now ≡ items_in (slice_index_or self.entry.buckets bucket None) }
     {
-        let ItemsLoan { first, marker: _ } = self;
-        items_mut(unsafe { &mut *first.add(bucket) })
+        let ItemsLoan { start, marker: _ } = self;
+        items_mut(unsafe { &mut *start.add(bucket) })
     }
 
     // The items of the one bucket of the loan.

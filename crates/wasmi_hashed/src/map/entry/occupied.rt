@@ -12,7 +12,7 @@ use std::hash::{BuildHasher, Hash};
 
 impl<'a, K: Eq + Hash, V, S: BuildHasher, A: Allocator> OccupiedEntry<'a, K, V, S, A> {
     // The same entry, as one of the standard library.
-    // proof: a call of its own, so that only the call above it is proved by hand.
+    // proof: a call of its own, so that only its callers are proved by hand.
     #[inline]
     fn into_inner(self) -> hash_map::OccupiedEntry<'a, K, V, S, A>
         ensures { result ≡ self.entry.entry }

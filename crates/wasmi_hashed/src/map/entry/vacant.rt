@@ -13,7 +13,7 @@ use wasmi_arena::ArenaError;
 
 impl<'a, K: Eq + Hash, V, S: BuildHasher, A: Allocator> VacantEntry<'a, K, V, S, A> {
     // The same entry, as one of the standard library.
-    // proof: a call of its own, so that only the call above it is proved by hand.
+    // proof: a call of its own, so that only its callers are proved by hand.
     #[inline]
     fn into_inner(self) -> hash_map::VacantEntry<'a, K, V, S, A>
         ensures { result ≡ self.entry.entry }

@@ -1,5 +1,5 @@
 use Rattle.wasmi_interner.specs.LenOrder.{text_of}
-use Rattle.wasmi_interner.specs.LenOrderLaws.{len_cmp-Equal}
+use Rattle.wasmi_interner.proofs.LengthOrder.{len_cmp-Equal}
 use Rattle.wasmi_interner.proofs.laws.ordered_by_length.Goals as goal
 
 pub returns-clause-equal : goal.returns-clause-equal

@@ -1,7 +1,7 @@
 use Rattle.std.proofs.Common.{◌+◌, ◌-◌, ◌∙◌, arith, ap, refl, slice_get, subst, sym}
 use Rattle.wasmi_interner.proofs.BinaryDigits.{digits_le, digits_double, digits_least}
 use Rattle.wasmi_interner.proofs.Halves.{in_order, narrowed_low, narrowed_high, none_left}
-use Rattle.wasmi_interner.specs.Search.{IsInOrder, IsNarrowed}
+use Rattle.wasmi_interner.specs.inner.Search.{IsInOrder, IsNarrowed}
 use Rattle.wasmi_interner.proofs.probe.search.Goals as goal
 
 pub look-requires-clause-countable : goal.look-requires-clause-countable

@@ -1,6 +1,6 @@
 use Rattle.std.proofs.Common.{◌≡◌, ◌+◌, ◌<◌, ◌≤◌, slice_get}
 use Rattle.wasmi_interner.specs.BinaryDigits.{digits}
-use Rattle.wasmi_interner.specs.Search.{IsNarrowed}
+use Rattle.wasmi_interner.specs.inner.Search.{IsNarrowed}
 use Rattle.wasmi_interner.proofs.probe.search.Given as goal
 
 -- each look so far took a digit from what is left, and no more than one

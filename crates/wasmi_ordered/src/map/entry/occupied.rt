@@ -12,7 +12,7 @@ use std::hash::Hash;
 
 impl<'a, K: Hash + Ord, V, A: Allocator> OccupiedEntry<'a, K, V, A> {
     // The same entry, as one of the standard library.
-    // proof: a call of its own, so that only the call above it is proved by hand.
+    // proof: a call of its own, so that only its callers are proved by hand.
     #[inline]
     fn into_inner(self) -> btree_map::OccupiedEntry<'a, K, V, A>
         ensures { result ≡ self.entry.entry }

@@ -13,7 +13,7 @@ use wasmi_arena::ArenaError;
 
 impl<'a, K: Hash + Ord, V, A: Allocator> VacantEntry<'a, K, V, A> {
     // The same entry, as one of the standard library.
-    // proof: a call of its own, so that only the call above it is proved by hand.
+    // proof: a call of its own, so that only its callers are proved by hand.
     #[inline]
     fn into_inner(self) -> btree_map::VacantEntry<'a, K, V, A>
         ensures { result ≡ self.entry.entry }

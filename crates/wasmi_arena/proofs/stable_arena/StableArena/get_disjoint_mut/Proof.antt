@@ -31,7 +31,8 @@ use denote.Triple.Table.{framed}
 use denote.Triple.Walked.{Stays, walk_of, stay_dropped, Goes-spent_ref, Goes-dropped, ends_at}
 use Rattle.core.proofs.alloc.Calls.{Al}
 use Rattle.core.proofs.mem.Param.{El}
-use Rattle.wasmi_arena.specs.Pairs.{PairAnswer, AreNumbers, names_if_ok, with_both}
+use Rattle.wasmi_arena.specs.Pairs.{names_if_ok, with_both}
+use Rattle.wasmi_arena.specs.inner.Pairs.{PairAnswer, AreNumbers}
 use Rattle.wasmi_arena.specs.declared.error.ArenaError.{ArenaError}
 use Rattle.wasmi_arena.specs.contracts.stable_arena.StableArena.get_disjoint_mut as F
 use Rattle.wasmi_arena.specs.contracts.stable_arena.StableArena.checked_pair as Call
@@ -47,8 +48,8 @@ use denote.Struct.Declared as Declared
 use denote.Struct.Struct.{Struct-Tells}
 use denote.Struct.Tuple.{Tuple, tuple_type}
 use Rattle.wasmi_arena.proofs.Answered.{Items, Aliasing, Bounds, Errors, asked-items, asked-aliasing, asked-bounds, asked-writes, answered-errors}
-use Rattle.wasmi_arena.specs.contracts.stable_arena.StableArena.asked as Asks
-use Rattle.wasmi_arena.proofs.stable_arena.StableArena.asked.Met as Asked
+use Rattle.wasmi_arena.specs.contracts.stable_arena.StableArena.with_numbers as Asks
+use Rattle.wasmi_arena.proofs.stable_arena.StableArena.with_numbers.Met as Asked
 
 pub get_disjoint_mut_spec : {M : Type 1} → statement M
 get_disjoint_mut_spec 𝓤 𝓛 𝓜 𝓡 wired K X Y LK LX LY copy keys kd clone cd g d dd k_met c_met met md =
@@ -71,7 +72,7 @@ get_disjoint_mut_spec 𝓤 𝓛 𝓜 𝓡 wired K X Y LK LX LY copy keys kd clon
     qed 𝓛 ((alive ⊛ ‵ (Ref.own_val a.0 vs) ⊛ ‵ (Keys.own_val both (w ∷ [])) ⊛ ‵ ftrue)
     ∷ (raw (fact 𝓤 (κs.1.0 ⊑ K.lives)) ⊛ raw (fact 𝓤 (κs.1.1.0 ⊑ X.lives)) ⊛ raw (fact 𝓤 (κs.1.1.1.0 ⊑ Y.lives)) ⊛ raw (fact 𝓤 (size (layout Self) < 2 ^ 63)) ⊛ raw (fact 𝓤 (size (layout Keys) < 2 ^ 63)) ⊛ ‵ ftrue) ∷ []) ∵
     move ! (1 ∷ []) $ split ! $ heard ! _ (λ in_K. split ! $ heard ! _ (λ in_T. split ! $ heard ! _ (λ in_A. split ! $ heard ! _ (λ small. split ! $ heard ! _ (λ small_keys. drop ! $
-    -- [what is owned, which is what `asked` takes]
+    -- [what is owned, which is what `with_numbers` takes]
     enter ! _ _ _ _ _ $ alloc_all ! (λ l. pass_all ! refl ((tt, tt), (typed, tt)) $
     sets ! (addr ! (through ! refl (stop !))) refl (tt, tt) $ sets ! (of_opd ! (get ! refl)) refl typed $
     let G₁ = triple_of 𝓛 (Asks.signature K X Y keys kd clone cd g d dd) (Asks.spec K X Y keys kd clone cd g d dd 𝓛 𝓜.mem 𝓡.returns) in let z₁ : G₁.Ghost = ((κs, qs, bounds, a, (vs, (w ∷ [], tt))), tt) in
@@ -80,7 +81,7 @@ get_disjoint_mut_spec 𝓤 𝓛 𝓜 𝓡 wired K X Y LK LX LY copy keys kd clon
     use0 𝓛 (raw (fact 𝓤 (κs.1.1.1.0 ⊑ Y.lives))) (fact_i 𝓤 _ (emp 𝓤) in_A) $ join ! $ use0 𝓛 (raw (fact 𝓤 (κs.1.1.0 ⊑ X.lives))) (fact_i 𝓤 _ (emp 𝓤) in_T) $ join ! $
     use0 𝓛 (raw (fact 𝓤 (κs.1.0 ⊑ K.lives))) (fact_i 𝓤 _ (emp 𝓤) in_K) $ join ! $
     move ! (1 ∷ 0 ∷ []) $ use2 𝓛 (raw (G₁.pre z₁)) (id⊢ 𝓤 _) $
-    calls_at ! (framed 𝓤 𝓛.H 𝓜 𝓣) G₁ (Asked.met 𝓤 𝓛 𝓜 𝓡 (code.calls-wasmi_arena::stable_arena::StableArena::asked 𝓡.env wired) K X Y LK LX LY copy keys kd clone cd g d dd k_met c_met met md) z₁
+    calls_at ! (framed 𝓤 𝓛.H 𝓜 𝓣) G₁ (Asked.met 𝓤 𝓛 𝓜 𝓡 (code.calls-wasmi_arena::stable_arena::StableArena::with_numbers 𝓡.env wired) K X Y LK LX LY copy keys kd clone cd g d dd k_met c_met met md) z₁
     (and_then ! (get ! refl) (and_then ! (get ! refl) (no_more !))) (λ v₁.
     use1 𝓛 (later (some (λ (t : Four.Denot). (alive ⊛ ‵ (Four.own_val t (v₁ ∷ []))) ⊛
     some (λ (ws : Unit {0} × (Unit {0} × Unit {0})). ‵ (lasts (Asks.ended K X Y keys kd clone cd g d dd) κs a ws) ⊛ raw (fact 𝓤 (t.0.ghost_name ≡ γ)) ⊛ raw (fact 𝓤 (t.0.now ≡ items))

@@ -39,7 +39,8 @@ use denote.Triple.Table.{framed}
 use denote.Triple.Walked.{Stays, walk_of, says, stay_dropped, Goes-spent_ref, Goes-dropped, ends_at}
 use Rattle.core.proofs.alloc.Calls.{Al}
 use Rattle.core.proofs.mem.Param.{El, R}
-use Rattle.wasmi_arena.specs.Pairs.{PairAnswer, names_if_ok}
+use Rattle.wasmi_arena.specs.Pairs.{names_if_ok}
+use Rattle.wasmi_arena.specs.inner.Pairs.{PairAnswer}
 use Rattle.wasmi_arena.specs.declared.error.ArenaError.{ArenaError}
 use Rattle.wasmi_arena.specs.declared.error.ArenaError.TheVariants.{KeyOutOfBounds, AliasingPairAccess}
 use Rattle.wasmi_arena.specs.contracts.stable_vec.StableVec.checked_pair as F

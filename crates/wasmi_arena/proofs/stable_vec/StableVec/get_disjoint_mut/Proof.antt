@@ -31,7 +31,8 @@ use denote.Triple.Table.{framed}
 use denote.Triple.Walked.{Stays, walk_of, stay_dropped, Goes-spent_ref, Goes-dropped, ends_at}
 use Rattle.core.proofs.alloc.Calls.{Al}
 use Rattle.core.proofs.mem.Param.{El, R}
-use Rattle.wasmi_arena.specs.Pairs.{PairAnswer, AreNumbers, names_if_ok, with_both}
+use Rattle.wasmi_arena.specs.Pairs.{names_if_ok, with_both}
+use Rattle.wasmi_arena.specs.inner.Pairs.{PairAnswer, AreNumbers}
 use Rattle.wasmi_arena.specs.declared.error.ArenaError.{ArenaError}
 use Rattle.wasmi_arena.specs.contracts.stable_vec.StableVec.get_disjoint_mut as F
 use Rattle.wasmi_arena.specs.contracts.stable_vec.StableVec.checked_pair as Call
@@ -50,8 +51,8 @@ use denote.Struct.Laws.{usize-laws, usize-copy}
 use denote.Struct.Struct.{Struct-Tells}
 use denote.Struct.Tuple.{Tuple, tuple_type}
 use Rattle.wasmi_arena.proofs.Answered.{Items, Aliasing, Bounds, Errors, asked-items, asked-aliasing, asked-bounds, asked-writes, answered-errors}
-use Rattle.wasmi_arena.specs.contracts.stable_vec.StableVec.asked as Asks
-use Rattle.wasmi_arena.proofs.stable_vec.StableVec.asked.Met as Asked
+use Rattle.wasmi_arena.specs.contracts.stable_vec.StableVec.with_numbers as Asks
+use Rattle.wasmi_arena.proofs.stable_vec.StableVec.with_numbers.Met as Asked
 
 usize_row_laws : Laws usize
 usize_row_laws = of_field usize-field usize-laws refl (copy_shared usize-field usize-copy)
@@ -77,14 +78,14 @@ get_disjoint_mut_spec 𝓤 𝓛 𝓜 𝓡 wired X Y LX LY g d dd met md =
     qed 𝓛 ((alive ⊛ ‵ (Ref.own_val a.0 vs) ⊛ ‵ (Indices.own_val indices (w ∷ [])) ⊛ ‵ ftrue)
     ∷ (raw (fact 𝓤 (κs.1.0 ⊑ X.lives)) ⊛ raw (fact 𝓤 (κs.1.1.0 ⊑ Y.lives)) ⊛ raw (fact 𝓤 (size (layout Self) < 2 ^ 63)) ⊛ ‵ ftrue) ∷ []) ∵
     move ! (1 ∷ []) $ split ! $ heard ! _ (λ in_T. split ! $ heard ! _ (λ in_A. split ! $ heard ! _ (λ small. drop ! $
-    -- [what is owned, which is what `asked` takes]
+    -- [what is owned, which is what `with_numbers` takes]
     enter ! _ _ _ _ _ $ alloc_all ! (λ l. pass_all ! refl ((tt, tt), (typed, tt)) $
     sets ! (addr ! (through ! refl (stop !))) refl (tt, tt) $
     let G₁ = triple_of 𝓛 (Asks.signature X Y g d dd) (Asks.spec X Y g d dd 𝓛 𝓜.mem 𝓡.returns) in let z₁ : G₁.Ghost = ((κs, qs, bounds, a, (vs, (w ∷ [], tt))), tt) in
     nothing ! $ use0 𝓛 (raw (fact 𝓤 (size (layout Self) < 2 ^ 63))) (fact_i 𝓤 _ (emp 𝓤) small) $ join ! $
     use0 𝓛 (raw (fact 𝓤 (κs.1.1.0 ⊑ Y.lives))) (fact_i 𝓤 _ (emp 𝓤) in_A) $ join ! $ use0 𝓛 (raw (fact 𝓤 (κs.1.0 ⊑ X.lives))) (fact_i 𝓤 _ (emp 𝓤) in_T) $ join ! $
     move ! (1 ∷ 0 ∷ []) $ use2 𝓛 (raw (G₁.pre z₁)) (id⊢ 𝓤 _) $
-    calls_at ! (framed 𝓤 𝓛.H 𝓜 𝓣) G₁ (Asked.met 𝓤 𝓛 𝓜 𝓡 (code.calls-wasmi_arena::stable_vec::StableVec::asked 𝓡.env wired) X Y LX LY g d dd met md) z₁
+    calls_at ! (framed 𝓤 𝓛.H 𝓜 𝓣) G₁ (Asked.met 𝓤 𝓛 𝓜 𝓡 (code.calls-wasmi_arena::stable_vec::StableVec::with_numbers 𝓡.env wired) X Y LX LY g d dd met md) z₁
     (and_then ! (get ! refl) (and_then ! (get ! refl) (no_more !))) (λ v₁.
     use1 𝓛 (later (some (λ (t : Four.Denot). (alive ⊛ ‵ (Four.own_val t (v₁ ∷ []))) ⊛
     some (λ (ws : Unit {0} × (Unit {0} × Unit {0})). ‵ (lasts (Asks.ended X Y g d dd) κs a ws) ⊛ raw (fact 𝓤 (t.0.ghost_name ≡ γ)) ⊛ raw (fact 𝓤 (t.0.now ≡ items))

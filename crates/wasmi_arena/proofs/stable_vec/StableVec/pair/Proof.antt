@@ -86,8 +86,8 @@ pair_spec 𝓤 𝓛 𝓜 𝓡 wired X Y LX LY g d dd met md =
     some (λ (ws : Unit {0} × Unit {0}). ‵ (lasts (All.ended X Y g d dd) κs (a.0, tt) ws) ⊛ ‵ (follows Self Self γ it.whole With) ⊛ raw (fact 𝓤 (it.name ≡ it.whole)) ⊛ raw (fact 𝓤 (HasBuckets items it.buckets)))))) (id⊢ 𝓤 _) $
     await ! tt $ pick ! (λ it. split ! $ split ! $ move ! (2 ∷ []) $ pick ! (λ ws₁. split3 ! $ drop ! $ move ! (1 ∷ []) $ split ! $ heard ! _ (λ one_name. heard ! _ (λ has. move ! (2 ∷ []) $
     peeks ! Loan _ (shows 𝓛 Loan) it (v₁ ∷ []) (λ seen₁.
-    let loan = loan_val ℓ E Z it.first in let e₁ : v₁ ≡ loan = ap only (loan_tells ℓ E Z it (v₁ ∷ []) seen₁) in
-    lands_as ! e₁ refl (loan_good ℓ E Z it.first) $ rewrite ! 0 (λ (w : Val). ‵ (Loan.own_val it (w ∷ []))) e₁ refl $ sets ! (of_opd ! (get ! refl)) refl (loan_good ℓ E Z it.first) $
+    let loan = loan_val ℓ E Z it.start in let e₁ : v₁ ≡ loan = ap only (loan_tells ℓ E Z it (v₁ ∷ []) seen₁) in
+    lands_as ! e₁ refl (loan_good ℓ E Z it.start) $ rewrite ! 0 (λ (w : Val). ‵ (Loan.own_val it (w ∷ []))) e₁ refl $ sets ! (of_opd ! (get ! refl)) refl (loan_good ℓ E Z it.start) $
     -- [the loan; what the vector is afterwards; the tokens]
     -- two of them
     let are_items = HasBuckets-items items it.buckets has in let own = HasBuckets-own items it.buckets has in

@@ -42,14 +42,15 @@ use Rattle.wasmi_arena.proofs.Answered.{asked-writes}
 use Rattle.wasmi_arena.proofs.Frame.{let_go, gone}
 use Rattle.wasmi_arena.proofs.PairResults.{PairOr}
 use Rattle.wasmi_dense.specs.ArenaLoan.{written}
-use Rattle.wasmi_arena.specs.Pairs.{AreNumbers, names_if_ok, with_both}
+use Rattle.wasmi_arena.specs.Pairs.{names_if_ok, with_both}
+use Rattle.wasmi_arena.specs.inner.Pairs.{AreNumbers}
 use Rattle.wasmi_dense.specs.contracts.arena.Arena.{the_row}
 use Rattle.wasmi_dense.specs.contracts.arena.Arena.get_disjoint_mut as F
 use Rattle.wasmi_dense.specs.contracts.arena.Arena.items_mut as All
-use Rattle.wasmi_dense.specs.contracts.arena.pairs.asked as Numbers
+use Rattle.wasmi_dense.specs.contracts.arena.pairs.numbers_of as Numbers
 use Rattle.wasmi_dense.specs.contracts.arena.pairs.checked_pair as Two
 use Rattle.wasmi_dense.proofs.arena.Arena.items_mut.Met as LendsAll
-use Rattle.wasmi_dense.proofs.arena.pairs.asked.Met as Numbered
+use Rattle.wasmi_dense.proofs.arena.pairs.numbers_of.Met as Numbered
 use Rattle.wasmi_dense.proofs.arena.pairs.checked_pair.Met as LendsTwo
 use Rattle.wasmi_dense.proofs.arena.Arena.get_disjoint_mut.Statement.{statement}
 use Rattle.wasmi_dense.proofs.arena.Arena.get_disjoint_mut.Code as code
@@ -88,7 +89,7 @@ get_disjoint_mut_spec 𝓤 𝓛 𝓜 𝓡 wired K X Y LK LX LY copy gk dk gc dc 
     move ! (2 ∷ []) $ split3 ! $ nothing ! $ move ! (4 ∷ 0 ∷ []) $ join ! $ nothing ! $ move ! (3 ∷ 0 ∷ []) $ join ! $ join ! $
     nothing ! $ use0 𝓛 (raw (fact 𝓤 (size (layout Keys) < 2 ^ 63))) (fact_i 𝓤 _ (emp 𝓤) small) $ join ! $ use0 𝓛 (raw (fact 𝓤 (κs.1.0 ⊑ K.lives))) (fact_i 𝓤 _ (emp 𝓤) in_K) $ join ! $
     move ! (1 ∷ 0 ∷ []) $ use2 𝓛 (raw (G₁.pre z₁)) (id⊢ 𝓤 _) $
-    calls_at ! (framed 𝓤 𝓛.H 𝓜 𝓣) G₁ (Numbered.met 𝓤 𝓛 𝓜 𝓡 (code.calls-wasmi_dense::arena::pairs::asked 𝓡.env wired) K LK copy gk dk gc dc metk metc) z₁
+    calls_at ! (framed 𝓤 𝓛.H 𝓜 𝓣) G₁ (Numbered.met 𝓤 𝓛 𝓜 𝓡 (code.calls-wasmi_dense::arena::pairs::numbers_of 𝓡.env wired) K LK copy gk dk gc dc metk metc) z₁
     (and_then ! (get ! refl) (no_more !)) (λ v₁.
     use1 𝓛 (later (some (λ (n : ℕ × ℕ). ((‵ (flft κs.1.0 qs.1.0) ⊛ ‵ ftrue) ⊛ ‵ (Both.own_val n (v₁ ∷ []))) ⊛
     some (λ (ws : Unit {0} × Unit {0}). ‵ (lasts (Numbers.ended K gk dk gc dc) κs₁ (keys, tt) ws) ⊛ raw (fact 𝓤 (AreNumbers gk.keys.number keys n.0 n.1)))))) (id⊢ 𝓤 _) $

@@ -1,7 +1,7 @@
 use Rattle.std.proofs.Common.{◌∙◌, sym}
 use Rattle.std.proofs.lemmas.Slice.Eq.{bytes_eq-Decides}
 use Rattle.wasmi_interner.specs.LenOrder.{len_cmp}
-use Rattle.wasmi_interner.specs.LenOrderLaws.{len_cmp-Equal}
+use Rattle.wasmi_interner.proofs.LengthOrder.{len_cmp-Equal}
 use Rattle.wasmi_interner.proofs.Filing.{order_of_text}
 use Rattle.wasmi_interner.proofs.sought.Sought.compare.Goals as goal
 

@@ -64,18 +64,18 @@ bucket_spec 𝓤 𝓛 𝓜 𝓡 wired X Y LX LY g d dd met md =
     let Item = MaybeBucket E Z 27 in let Items = Array (R E) 0 in
     proved 𝓛 call stayed c 𝓜 𝓡 (Goes-blank 𝓛 3 (plain (λ κs. LoanRow (named_lft 3 0 tt κs) E Z)) no (λ κs x w. tt), (Goes-dropped 𝓛 3 (plain (λ _. usize)) yes (λ κs x w. refl), tt))
     (F.Key.name args) function (code.unfolded 𝓤 𝓛.H 𝓜 𝓡 wired (X, (Y, tt)) d dd)
-    (λ κs. ((λ l. loan_val (named_lft 3 0 tt κs) E Z l.first ∷ []), (uint_vals w64, tt))) (λ κs. (loan_tells (named_lft 3 0 tt κs) E Z, (uint_Tells w64, tt)))
+    (λ κs. ((λ l. loan_val (named_lft 3 0 tt κs) E Z l.start ∷ []), (uint_vals w64, tt))) (λ κs. (loan_tells (named_lft 3 0 tt κs) E Z, (uint_Tells w64, tt)))
     (λ κs qs bounds a _ are.
     let ℓ = named_lft 3 0 tt κs in let it = a.0 in let k = a.1.0 in let κ = κs.0 in let q = qs.0 in let l-q = Share.left q in let r-q = Share.right q in let s = bucket_size E Z 𝓛 0 in
-    let y : W.Ghost = ((κs, qs, bounds, a, (loan_val ℓ E Z it.first ∷ [], (uint_vals w64 k, tt))), tt) in
+    let y : W.Ghost = ((κs, qs, bounds, a, (loan_val ℓ E Z it.start ∷ [], (uint_vals w64 k, tt))), tt) in
     let others_alive = ‵ (flft κs.1.0 qs.1.0) ⊛ ‵ (flft κs.1.1.0 qs.1.1.0) ⊛ ‵ ftrue in
-    qed 𝓛 (((‵ (flft κ q) ⊛ others_alive) ⊛ ‵ ((LoanRow ℓ E Z).own_val it (loan_val ℓ E Z it.first ∷ [])) ⊛ ‵ (usize.own_val k (uint_vals w64 k)) ⊛ ‵ ftrue)
+    qed 𝓛 (((‵ (flft κ q) ⊛ others_alive) ⊛ ‵ ((LoanRow ℓ E Z).own_val it (loan_val ℓ E Z it.start ∷ [])) ⊛ ‵ (usize.own_val k (uint_vals w64 k)) ⊛ ‵ ftrue)
     ∷ (raw (fact 𝓤 (κs.1.0 ⊑ X.lives)) ⊛ raw (fact 𝓤 (κs.1.1.0 ⊑ Y.lives)) ⊛ raw (fact 𝓤 (IsSome (get_or it.buckets k None)))) ∷ []) ∵
     move ! (1 ∷ []) $ split ! $ heard ! _ (λ in_T. split ! $ heard ! _ (λ in_A. heard ! _ (λ is_open.
     let inside : k < length it.buckets = open_inside it.buckets k is_open in
     split ! $ split ! $ move ! (2 ∷ []) $ split ! $ fsplit ! $ keep ! (1 ∷ 3 ∷ 4 ∷ []) $
-    enter ! _ _ _ _ _ $ alloc_all ! (λ l. pass_all ! refl (loan_good ℓ E Z it.first, ((tt, record { fits = are.1.0.1 }), tt)) $
-    in_a_block ! it.first (λ p. loan_owns (R E) (P E Z) g κ p it.buckets it.name) (id⊢ 𝓤 (never 𝓤)) (λ b o at. fsplit ! $ flt_l ! (λ small. fsplit ! $
+    enter ! _ _ _ _ _ $ alloc_all ! (λ l. pass_all ! refl (loan_good ℓ E Z it.start, ((tt, record { fits = are.1.0.1 }), tt)) $
+    in_a_block ! it.start (λ p. loan_owns (R E) (P E Z) g κ p it.buckets it.name) (id⊢ 𝓤 (never 𝓤)) (λ b o at. fsplit ! $ flt_l ! (λ small. fsplit ! $
     let part : k * s ≤ length it.buckets * s = mul-le-mul_right s (omega arith) in let bytes : k * s < 2 ^ 64 = omega arith in
     -- [the loan, in two entries; the token; the other tokens]
     sets ! (is ! (of_opd ! (get_in ! (fld ! refl (stop !)) (sub ! 0 refl (whole !)))) (ap ptr_val at)) refl (tt, tt) $ first ! $ blocks ! $

@@ -62,10 +62,10 @@ pair_spec 𝓤 𝓛 𝓜 𝓡 wired X Y LX LY g d dd met md =
     let number = Goes-dropped 𝓛 3 (plain (λ _. usize)) yes (λ κs x w. refl) in
     proved 𝓛 call stayed c 𝓜 𝓡 (Goes-blank 𝓛 3 (plain (λ κs. LoanRow (named_lft 3 0 tt κs) E Z)) no (λ κs x w. tt), (number, (number, tt)))
     (F.Key.name args) function (code.unfolded 𝓤 𝓛.H 𝓜 𝓡 wired (X, (Y, tt)) d dd)
-    (λ κs. ((λ l. loan_val (named_lft 3 0 tt κs) E Z l.first ∷ []), (uint_vals w64, (uint_vals w64, tt)))) (λ κs. (loan_tells (named_lft 3 0 tt κs) E Z, (uint_Tells w64, (uint_Tells w64, tt))))
+    (λ κs. ((λ l. loan_val (named_lft 3 0 tt κs) E Z l.start ∷ []), (uint_vals w64, (uint_vals w64, tt)))) (λ κs. (loan_tells (named_lft 3 0 tt κs) E Z, (uint_Tells w64, (uint_Tells w64, tt))))
     (λ κs qs bounds a _ are.
     let ℓ = named_lft 3 0 tt κs in let it = a.0 in let i = a.1.0 in let j = a.1.1.0 in let κ = κs.0 in let q = qs.0 in
-    let items = items_of it.buckets in let loan = loan_val ℓ E Z it.first in let Two : Type 0 = MutBor X.Denot × MutBor X.Denot in
+    let items = items_of it.buckets in let loan = loan_val ℓ E Z it.start in let Two : Type 0 = MutBor X.Denot × MutBor X.Denot in
     let y : W.Ghost = ((κs, qs, bounds, a, (loan ∷ [], (uint_vals w64 i, (uint_vals w64 j, tt)))), tt) in
     let alive = ‵ (flft κ q) ⊛ ‵ (flft κs.1.0 qs.1.0) ⊛ ‵ (flft κs.1.1.0 qs.1.1.0) ⊛ ‵ ftrue in
     let Final = λ (x y : X.Denot). set (set items i x) j y in
@@ -78,7 +78,7 @@ pair_spec 𝓤 𝓛 𝓜 𝓡 wired X Y LX LY g d dd met md =
     move ! (1 ∷ []) $ split ! $ heard ! _ (λ in_T. split ! $ heard ! _ (λ in_A. split ! $ heard ! _ (λ has. split ! $ heard ! _ (λ apart. split ! $ heard ! _ (λ one_in. heard ! _ (λ other_in.
     split ! $ move ! (1 ∷ []) $ split ! $ keep ! (0 ∷ 2 ∷ []) $
     -- [the loan; the tokens]
-    enter ! _ _ _ _ _ $ alloc_all ! (λ l. let here = env function.locals l in pass_all ! refl (loan_good ℓ E Z it.first, ((tt, record { fits = are.1.0.1 }), ((tt, record { fits = are.1.1.0.1 }), tt))) $
+    enter ! _ _ _ _ _ $ alloc_all ! (λ l. let here = env function.locals l in pass_all ! refl (loan_good ℓ E Z it.start, ((tt, record { fits = are.1.0.1 }), ((tt, record { fits = are.1.1.0.1 }), tt))) $
     let low : i < max_len = below_max it.buckets has i one_in in let high : j < max_len = below_max it.buckets has j other_in in
     let G₁ = triple_of 𝓛 Places.signature (Places.spec 𝓛 𝓜.mem 𝓡.returns) in let Four = Tuple (usize ∷ usize ∷ usize ∷ usize ∷ []) in
     let z₁ : G₁.Ghost = ((tt, tt, tt, (i, (j, tt)), (uint_vals w64 i, (uint_vals w64 j, tt))), tt) in
@@ -104,7 +104,7 @@ pair_spec 𝓤 𝓛 𝓜 𝓡 wired X Y LX LY g d dd met md =
     let one = get_or it.buckets b None in let other = get_or it.buckets e None in
     let s_in = filled it.buckets has i b s place_i one_in in let t_in = filled it.buckets has j e t place_j other_in in
     let at_i = reads it.buckets has i b s place_i one_in in let at_j = reads it.buckets has j e t place_j other_in in
-    sets ! (of_opd ! (get ! refl)) refl (loan_good ℓ E Z it.first) $
+    sets ! (of_opd ! (get ! refl)) refl (loan_good ℓ E Z it.start) $
     let G₂ = triple_of 𝓛 (Slots.signature X Y g d dd) (Slots.spec X Y g d dd 𝓛 𝓜.mem 𝓡.returns) in
     let z₂ : G₂.Ghost = ((κs, qs, bounds, (it, (b, (s, (e, (t, tt))))), (loan ∷ [], (uint_vals w64 b, (uint_vals w64 s, (uint_vals w64 e, (uint_vals w64 t, tt)))))), tt) in
     nothing ! $ owned ! usize _ (uint_Makes 𝓛 w64) t _ (refl, fits₄) $ join ! $ owned ! usize _ (uint_Makes 𝓛 w64) e _ (refl, fits₃) $ join ! $ owned ! usize _ (uint_Makes 𝓛 w64) s _ (refl, fits₂) $ join ! $

@@ -65,21 +65,21 @@ pair_slots_spec 𝓤 𝓛 𝓜 𝓡 wired X Y LX LY g d dd met md =
     let number = Goes-dropped 𝓛 3 (plain (λ _. usize)) yes (λ κs x w. refl) in
     proved 𝓛 call stayed c 𝓜 𝓡 (Goes-blank 𝓛 3 (plain (λ κs. LoanRow (named_lft 3 0 tt κs) E Z)) no (λ κs x w. tt), (number, (number, (number, (number, tt)))))
     (F.Key.name args) function (code.unfolded 𝓤 𝓛.H 𝓜 𝓡 wired (X, (Y, tt)) d dd)
-    (λ κs. ((λ l. loan_val (named_lft 3 0 tt κs) E Z l.first ∷ []), (uint_vals w64, (uint_vals w64, (uint_vals w64, (uint_vals w64, tt))))))
+    (λ κs. ((λ l. loan_val (named_lft 3 0 tt κs) E Z l.start ∷ []), (uint_vals w64, (uint_vals w64, (uint_vals w64, (uint_vals w64, tt))))))
     (λ κs. (loan_tells (named_lft 3 0 tt κs) E Z, (uint_Tells w64, (uint_Tells w64, (uint_Tells w64, (uint_Tells w64, tt))))))
     (λ κs qs bounds a _ are.
     let ℓ = named_lft 3 0 tt κs in let it = a.0 in let κ = κs.0 in let q = qs.0 in let w = bucket_size E Z 𝓛 0 in let size = type_size (R E) in
     let i = a.1.0 in let s = a.1.1.0 in let j = a.1.1.1.0 in let t = a.1.1.1.1.0 in
-    let y : W.Ghost = ((κs, qs, bounds, a, (loan_val ℓ E Z it.first ∷ [], (uint_vals w64 i, (uint_vals w64 s, (uint_vals w64 j, (uint_vals w64 t, tt)))))), tt) in
+    let y : W.Ghost = ((κs, qs, bounds, a, (loan_val ℓ E Z it.start ∷ [], (uint_vals w64 i, (uint_vals w64 s, (uint_vals w64 j, (uint_vals w64 t, tt)))))), tt) in
     let others_alive = ‵ (flft κs.1.0 qs.1.0) ⊛ ‵ (flft κs.1.1.0 qs.1.1.0) ⊛ ‵ ftrue in
     let one : Item.Denot = get_or it.buckets i None in let other : Item.Denot = get_or it.buckets j None in
-    qed 𝓛 (((‵ (flft κ q) ⊛ others_alive) ⊛ ‵ ((LoanRow ℓ E Z).own_val it (loan_val ℓ E Z it.first ∷ [])) ⊛ ‵ (usize.own_val i (uint_vals w64 i)) ⊛ ‵ (usize.own_val s (uint_vals w64 s))
+    qed 𝓛 (((‵ (flft κ q) ⊛ others_alive) ⊛ ‵ ((LoanRow ℓ E Z).own_val it (loan_val ℓ E Z it.start ∷ [])) ⊛ ‵ (usize.own_val i (uint_vals w64 i)) ⊛ ‵ (usize.own_val s (uint_vals w64 s))
     ⊛ ‵ (usize.own_val j (uint_vals w64 j)) ⊛ ‵ (usize.own_val t (uint_vals w64 t)) ⊛ ‵ ftrue)
     ∷ (raw (fact 𝓤 (κs.1.0 ⊑ X.lives)) ⊛ raw (fact 𝓤 (κs.1.1.0 ⊑ Y.lives)) ⊛ raw (fact 𝓤 (i ≡ j → s ≢ t)) ⊛ raw (fact 𝓤 (s < length (items_in one))) ⊛ raw (fact 𝓤 (t < length (items_in other)))) ∷ []) ∵
     move ! (1 ∷ []) $ split ! $ drop ! $ split ! $ drop ! $ split ! $ heard ! _ (λ apart. split ! $ heard ! _ (λ low. heard ! _ (λ high.
     split ! $ split ! $ move ! (2 ∷ []) $ split ! $ fsplit ! $ keep ! (1 ∷ 3 ∷ 4 ∷ []) $
-    enter ! _ _ _ _ _ $ alloc_all ! (λ l. pass_all ! refl (loan_good ℓ E Z it.first, ((tt, record { fits = are.1.0.1 }), ((tt, record { fits = are.1.1.0.1 }), ((tt, record { fits = are.1.1.1.0.1 }), ((tt, record { fits = are.1.1.1.1.0.1 }), tt))))) $
-    in_a_block ! it.first (λ p. loan_owns (R E) (P E Z) g κ p it.buckets it.name) (id⊢ 𝓤 (never 𝓤)) (λ b o at. fsplit ! $ flt_l ! (λ small. fsplit ! $
+    enter ! _ _ _ _ _ $ alloc_all ! (λ l. pass_all ! refl (loan_good ℓ E Z it.start, ((tt, record { fits = are.1.0.1 }), ((tt, record { fits = are.1.1.0.1 }), ((tt, record { fits = are.1.1.1.0.1 }), ((tt, record { fits = are.1.1.1.1.0.1 }), tt))))) $
+    in_a_block ! it.start (λ p. loan_owns (R E) (P E Z) g κ p it.buckets it.name) (id⊢ 𝓤 (never 𝓤)) (λ b o at. fsplit ! $ flt_l ! (λ small. fsplit ! $
     let i_in = filled_inside it.buckets i s low in let j_in = filled_inside it.buckets j t high in
     let few_i : i * w ≤ length it.buckets * w = mul-le-mul_right w (omega (arith, i_in)) in let bytes_i : i * w < 2 ^ 64 = omega arith in
     let few_j : j * w ≤ length it.buckets * w = mul-le-mul_right w (omega (arith, j_in)) in let bytes_j : j * w < 2 ^ 64 = omega arith in
