@@ -1,5 +1,5 @@
 -- What a stable arena is once a `&mut` to an item of it has ended.
-use Rattle.std.specs.Prelude.{ℕ, List, Result, length, slice_set}
+use Rattle.std.specs.Prelude.{List, Result, length, slice_set}
 use Rattle.std.specs.List.{refill}
 use Rattle.std.specs.Borrow.{Fml, GName, RattleType, MutBor, Lends, LendsIfOk, follows}
 use Rattle.std.specs.declared.alloc.Allocator as alloc

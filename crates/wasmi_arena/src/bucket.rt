@@ -137,11 +137,18 @@ impl<T, A: Allocator> Bucket<T, A> {
         } = self;
         BucketItems::of_block(ptr, len, capacity, slots, right, alloc)
     }
+
+    // Drops the items, first to last, and gives the block back to the allocator that it is of.
+    pub(crate) fn close(self)
+    where
+        T: Drop,
+    {
+        let _items = self.into_items();
+    }
 }
 
-// Drops the items, first to last, and gives the block back to the allocator that it is of.
 impl<T: Drop, A: Allocator> Drop for Bucket<T, A> {
     fn drop(self) {
-        let _items = self.into_items();
+        self.close();
     }
 }

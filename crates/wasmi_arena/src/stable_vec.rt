@@ -32,7 +32,6 @@ pub use iter_mut::StableVecIterMut;
 pub use slices::StableVecSlices;
 pub use slices_mut::StableVecSlicesMut;
 use std::alloc::{Allocator, Global};
-use std::array;
 use std::marker::{Model, PhantomData};
 
 /// A vector whose items stay where they are: a push never moves an item that is there.
@@ -91,9 +90,7 @@ impl<T, A: Allocator> StableVec<T, A> {
         ensures { result ≡ [] }
     {
         StableVec {
-            table: BucketTable {
-                buckets: array::from_fn(|_| None),
-            },
+            table: BucketTable::new(),
             open_buckets: 0,
             slots: 0,
             len: 0,

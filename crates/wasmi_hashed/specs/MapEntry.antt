@@ -36,14 +36,18 @@ module _ {K V S A H : Type 0} {g : eq.Ghosts K} {h : hash.Ghosts K} {b : builder
   with_value held last = record held { entry = with_entry_value held.entry last }
 
 module _ (K V S A H : RattleType) {g : eq.Ghosts K.Denot} {h : hash.Ghosts K.Denot} {b : builder.Ghosts S.Denot H.Denot} {w : hasher.Ghosts H.Denot} (heap : alloc.Ghosts A.Denot) where
+  -- the entry of the standard library's map
+  abbrev Inner : Type 0
+  Inner = InnerEntry K.Denot V.Denot S.Denot A.Denot H.Denot g h b w
+
   -- the table is in the end the one without the entry's key.
   -- `remove` leaves it so.
-  abbrev pub inner_without : InnerEntry K.Denot V.Denot S.Denot A.Denot H.Denot g h b w → Fml
+  abbrev pub inner_without : Inner → Fml
   inner_without there = follows_so (InnerRow K V S A H g h b w heap) V (entry_map_ref there).ghost_name none (λ _ _. Unit {0}) (IsUnchanged (map_without_entry there))
 
   -- the table is in the end as the entry has it.
   -- `into_key` leaves it so.
-  abbrev pub inner_stays : InnerEntry K.Denot V.Denot S.Denot A.Denot H.Denot g h b w → Fml
+  abbrev pub inner_stays : Inner → Fml
   inner_stays there = follows_if (InnerRow K V S A H g h b w heap) V (entry_map_ref there).ghost_name none (map_with_value there) (entry_map_ref there).now
 
   -- the entry of a key that is there has the value that was written last through the reference, whose lifetime is the

@@ -158,7 +158,7 @@ impl<A: Allocator> Index<A> {
     #[inline]
     pub(crate) fn reserve(
         &mut self,
-        place: Vacancy,
+        vacancy: Vacancy,
         symbol: Sym,
         sought: &Sought<'_, A>,
     ) -> Result<Vacancy, ArenaError>
@@ -166,14 +166,14 @@ impl<A: Allocator> Index<A> {
         A: Clone,
         requires indexed { IsIndexOf sought.now.texts.now self.old.slots self.old.rest.entries }
         requires absent { symbol_of sought.now.texts.now sought.now.text.now ≡ None }
-        requires belongs { BelongsAt sought.now.texts.now self.old.slots self.old.rest.entries sought.now.hash sought.now.text.now place }
+        requires belongs { BelongsAt sought.now.texts.now self.old.slots self.old.rest.entries sought.now.hash sought.now.text.now vacancy }
         requires next { symbol ≡ length sought.now.texts.now }
         requires few { length sought.now.texts.now < 2 ^ 32 }
         ensures ready { IfOk result (λ place. IsReady sought.now.texts.now self.new.slots self.new.rest sought.now.hash sought.now.text.now place) }
         ensures indexed { IsIndexOf sought.now.texts.now self.new.slots self.new.rest.entries }
         ensures errors { IsOkUnless result ArenaError.OutOfSystemMemory }
     {
-        match place {
+        match vacancy {
             Vacancy::Gap(place) => {
                 if Entry::fits(symbol) {
                     return Ok(Vacancy::Gap(place));
@@ -245,11 +245,11 @@ impl<A: Allocator> Index<A> {
 
     // Puts an entry to a place, where there is room.
     #[inline]
-    pub(crate) fn insert(&mut self, place: Vacancy, entry: Entry)
-        requires { (texts : List (List ℕ)) × (hash : ℕ) × (text : List ℕ) × IsReady texts self.old.slots self.old.rest hash text place }
-        ensures { Inserts self.old.slots self.old.rest.entries place entry self.new.slots self.new.rest.entries }
+    pub(crate) fn insert(&mut self, vacancy: Vacancy, entry: Entry)
+        requires { (texts : List (List ℕ)) × (hash : ℕ) × (text : List ℕ) × IsReady texts self.old.slots self.old.rest hash text vacancy }
+        ensures { Inserts self.old.slots self.old.rest.entries vacancy entry self.new.slots self.new.rest.entries }
     {
-        match place {
+        match vacancy {
             Vacancy::Gap(place) => self.slots.set(place, entry),
             Vacancy::Rest(rank) => self.rest.insert(rank, entry),
             Vacancy::Beside(_) => unreachable!(),

@@ -1,5 +1,5 @@
 -- How a stable vector lays out its items: in a table of buckets, each open or not.
-use Rattle.std.specs.Prelude.{◌≡◌, ℕ, zero, suc, ◌+◌, ◌*◌, ◌<◌, ◌≤◌, List, [], ◌∷◌, ◌++◌, length, take, drop, slice_set, slice_index_or, Option, Some, None}
+use Rattle.std.specs.Prelude.{◌≡◌, ℕ, zero, suc, ◌*◌, ◌<◌, ◌≤◌, List, [], ◌∷◌, ◌++◌, length, take, drop, slice_set, slice_index_or, Option, Some, None}
 use Rattle.std.specs.List.{refill}
 use Rattle.wasmi_arena.specs.Geometry.{size, start, bucket_count, max_len, fewest}
 use Rattle.wasmi_arena.specs.Bucket.{Bucket}

@@ -10,7 +10,6 @@ use crate::bucket_table::take::take_bucket;
 use crate::geometry::{BUCKETS, buckets_for, place_in_last};
 use crate::{ArenaError, Bucket, BucketTable, StableVec};
 use std::alloc::Allocator;
-use std::array;
 
 impl<T: Default + Drop, A: Allocator + Clone> StableVec<T, A> {
     // Fills free slots of the last bucket with values of `T::default()`, at most `amount` of them, and
@@ -63,9 +62,7 @@ impl<T: Default + Drop, A: Allocator + Clone> StableVec<T, A> {
             return Ok(());
         }
         let needed = buckets_for(self.len + amount);
-        let mut apart: BucketTable<T, A, BUCKETS> = BucketTable {
-            buckets: array::from_fn(|_| None),
-        };
+        let mut apart: BucketTable<T, A, BUCKETS> = BucketTable::new();
         open_apart(
             &mut apart.buckets[..],
             self.open_buckets,

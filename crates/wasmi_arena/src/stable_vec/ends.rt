@@ -5,7 +5,6 @@ use crate::bucket_table::take::pop_from;
 use crate::geometry::{buckets_before, place, start_of};
 use crate::{BucketTable, StableVec};
 use std::alloc::Allocator;
-use std::array;
 
 impl<T, A: Allocator> StableVec<T, A> {
     /// The first item, if there is one. Constant time.
@@ -55,9 +54,7 @@ impl<T, A: Allocator> StableVec<T, A> {
         T: Drop,
         ensures { self.new ≡ [] }
     {
-        self.table = BucketTable {
-            buckets: array::from_fn(|_| None),
-        };
+        self.table = BucketTable::new();
         self.open_buckets = 0;
         self.slots = 0;
         self.len = 0;
