@@ -25,29 +25,25 @@ use mir.Syntax.{named}
 abbrev pub map_of : {K V S : Type 0} → HashMap K V S → Entries K V S
 map_of table = record { entries = table.entries; hasher = hasher_of table }
 
-module _ {K V S A H : Type 0} {g : eq.Ghosts K} {h : hash.Ghosts K} {b : builder.Ghosts S H} {w : hasher.Ghosts H} where
+module _ {Key Value State Heap Hasher : Type 0} {equal : eq.Ghosts Key} {hashed : hash.Ghosts Key} {builds : builder.Ghosts State Hasher} {feeds : hasher.Ghosts Hasher} where
   -- the entry in the table
-  abbrev pub inner_entry : Entry K V S A H g h b w → InnerEntry K V S A H g h b w
+  abbrev pub inner_entry : Entry Key Value State Heap Hasher equal hashed builds feeds → InnerEntry Key Value State Heap Hasher equal hashed builds feeds
   inner_entry (Occupied occupied) = table.Occupied occupied.entry
   inner_entry (Vacant vacant) = table.Vacant vacant.entry
 
   -- the entry of a key that is there, with this value
-  abbrev pub with_value : OccupiedEntry K V S A H g h b w → V → OccupiedEntry K V S A H g h b w
+  abbrev pub with_value : OccupiedEntry Key Value State Heap Hasher equal hashed builds feeds → Value → OccupiedEntry Key Value State Heap Hasher equal hashed builds feeds
   with_value held last = record held { entry = with_entry_value held.entry last }
 
 module _ (K V S A H : RattleType) {g : eq.Ghosts K.Denot} {h : hash.Ghosts K.Denot} {b : builder.Ghosts S.Denot H.Denot} {w : hasher.Ghosts H.Denot} (heap : alloc.Ghosts A.Denot) where
-  -- the entry of the standard library's map
-  abbrev Inner : Type 0
-  Inner = InnerEntry K.Denot V.Denot S.Denot A.Denot H.Denot g h b w
-
   -- the table is in the end the one without the entry's key.
   -- `remove` leaves it so.
-  abbrev pub inner_without : Inner → Fml
+  abbrev pub inner_without : InnerEntry K.Denot V.Denot S.Denot A.Denot H.Denot g h b w → Fml
   inner_without there = follows_so (InnerRow K V S A H g h b w heap) V (entry_map_ref there).ghost_name none (λ _ _. Unit {0}) (IsUnchanged (map_without_entry there))
 
   -- the table is in the end as the entry has it.
   -- `into_key` leaves it so.
-  abbrev pub inner_stays : Inner → Fml
+  abbrev pub inner_stays : InnerEntry K.Denot V.Denot S.Denot A.Denot H.Denot g h b w → Fml
   inner_stays there = follows_if (InnerRow K V S A H g h b w heap) V (entry_map_ref there).ghost_name none (map_with_value there) (entry_map_ref there).now
 
   -- the entry of a key that is there has the value that was written last through the reference, whose lifetime is the
