@@ -1,12 +1,24 @@
 //! Items dropped and cloned once, handed back or dropped where they are refused, and blocks given back.
-use std::alloc::{AllocError, Global};
+use crate::items::{are_keys_but, are_tallied, number_of, tallied, tallied_arena};
+use std::alloc::{Allocator, Global};
+use std::process::Abort;
 use wasmi_arena::{
-    ArenaCommand, ArenaError, ArenaKey, ArenaReply, StableArena, StableVec, run_arena,
+    ArenaCommand, ArenaError, ArenaKey, ArenaReply, StableArena, StableVec, StableVecIntoIter,
+    run_arena,
 };
 use wasmi_vectors::assert_equal;
 use wasmi_vectors::few_keys::FewKeys;
 use wasmi_vectors::observed::{Log, Observed};
 use wasmi_vectors::tally::{Item, Tally};
+
+// Takes the next item from one of both ends, and says whether there was one.
+fn takes(items: &mut StableVecIntoIter<u32, Observed<'_>>, from_front: bool) -> bool {
+    if from_front {
+        items.next().is_some()
+    } else {
+        items.next_back().is_some()
+    }
+}
 
 // Each end gives a bucket back as it goes on to the next.
 #[test]
@@ -17,19 +29,9 @@ fn a_bucket_that_is_left_is_given_back(rt: HostRuntime) {
         vec.extend(0..224u32).expect(&rt, "");
         let mut items = vec.into_iter();
         for taken in 0..224u32 {
-            let item = if from_front {
-                items.next()
-            } else {
-                items.next_back()
-            };
-            let left = if taken < first {
-                0
-            } else if taken < second {
-                1
-            } else {
-                2
-            };
-            assert_equal!(rt; (item.is_some(), log.returned()), (true, left), "at {taken}");
+            let is_some = takes(&mut items, from_front);
+            let left = (first <= taken) as u64 + (second <= taken) as u64;
+            assert_equal!(rt; (is_some, log.returned()), (true, left), "at {taken}");
         }
     }
 }
@@ -51,7 +53,7 @@ fn a_hundred_items_are_cloned_and_dropped_once(rt: HostRuntime) {
     tally.refuse_clone_of(99);
     assert_equal!(rt; vec.clone().err(), Some(ArenaError::OutOfSystemMemory));
     assert_equal!(rt; (tally.cloned(), tally.dropped().0), (299, 299));
-    assert!(rt; vec.iter().map(Item::number).eq(0..100));
+    assert_equal!(rt; are_tallied(&vec, 0..100), true);
     drop(vec);
     assert_equal!(rt; (tally.dropped(), log.amiss()), ((399, 100), 0));
 }
@@ -59,9 +61,7 @@ fn a_hundred_items_are_cloned_and_dropped_once(rt: HostRuntime) {
 #[test]
 fn a_hundred_items_of_an_arena_are_cloned_and_dropped_once(rt: HostRuntime) {
     let (log, tally) = (Log::new(), Tally::new());
-    let items = (0..100).map(|number| Item::new(&tally, number));
-    let heap = Observed::new(rt.alloc(), &log);
-    let made = StableArena::<usize, Item<'_>, Observed<'_>>::from_iter(heap, items);
+    let made = tallied_arena::<usize>(rt.alloc(), &log, &tally, 0..100);
     let mut arena = made.expect(&rt, "");
     assert_equal!(rt; arena.clone().expect(&rt, "").len(), 100);
     assert_equal!(rt; arena.clone_in(Observed::new(rt.alloc(), &log)).expect(&rt, "").len(), 100);
@@ -69,7 +69,7 @@ fn a_hundred_items_of_an_arena_are_cloned_and_dropped_once(rt: HostRuntime) {
     tally.refuse_clone_of(50);
     let refused = arena.clone_in(Observed::new(rt.alloc(), &log)).err();
     assert_equal!(rt; (refused, tally.cloned()), (Some(ArenaError::OutOfSystemMemory), 250));
-    assert!(rt; arena.values().map(Item::number).eq(0..100));
+    assert_equal!(rt; are_tallied(arena.items(), 0..100), true);
     arena.clear();
     assert_equal!(rt; (tally.dropped(), arena.next_key()), ((350, 100), Ok(0)));
     assert_equal!(rt; (log.returned(), arena.len()), (log.given(), 0));
@@ -81,8 +81,7 @@ fn a_hundred_items_of_an_arena_are_cloned_and_dropped_once(rt: HostRuntime) {
 #[test]
 fn a_pop_at_the_edge_closes_a_bucket(rt: HostRuntime) {
     let (log, tally) = (Log::new(), Tally::new());
-    let items = (0..34).map(|number| Item::new(&tally, number));
-    let mut vec = StableVec::from_iter(Observed::new(rt.alloc(), &log), items).expect(&rt, "");
+    let mut vec = tallied(rt.alloc(), &log, &tally, 0..34).expect(&rt, "");
     for (len, open, slots, returned) in [(33, 2, 96, 0), (32, 1, 32, 1), (31, 1, 32, 1)] {
         let item = vec.pop().expect(&rt, "no item");
         assert_equal!(rt; (item.number(), tally.dropped().0), (len, 33u64.wrapping_sub(len)));
@@ -91,7 +90,7 @@ fn a_pop_at_the_edge_closes_a_bucket(rt: HostRuntime) {
         assert_equal!(rt; (vec.open_buckets(), vec.slots()), (open, slots));
     }
     assert_equal!(rt; vec.push(Item::new(&tally, 31)), Ok(31));
-    assert_equal!(rt; (vec.last().map(Item::number), log.requests()), (Some(31), 2));
+    assert_equal!(rt; (number_of(vec.last()), log.requests()), (Some(31), 2));
     drop(vec);
     assert_equal!(rt; (tally.dropped(), log.amiss()), ((35, 32), 0));
 }
@@ -102,21 +101,30 @@ fn items_that_do_not_come_in_are_dropped(rt: HostRuntime) {
     let (kept, refused) = (Tally::new(), Tally::new());
     let mut vec = StableVec::new(rt.alloc());
     vec.push(Item::new(&refused, 9)).expect(&rt, "");
-    assert_equal!(rt; vec.put(0, Item::new(&kept, 0)).map(|item| item.number()), Ok(9));
+    let there = vec.put(0, Item::new(&kept, 0)).expect(&rt, "");
+    assert_equal!(rt; there.number(), 9);
+    drop(there);
     assert_equal!(rt; refused.dropped().0, 1);
     let error = vec.put(1, Item::new(&refused, 9)).err();
     assert_equal!(rt; (error, refused.dropped().0), (Some(ArenaError::KeyOutOfBounds), 2));
-    let items = (0..4).map(|number| Item::new(&kept, number));
-    let made = StableArena::<FewKeys<4>, Item<'_>>::from_iter(rt.alloc(), items);
+    let log = Log::new();
+    let made = tallied_arena::<FewKeys<4>>(rt.alloc(), &log, &kept, 0..4);
     let mut arena = made.expect(&rt, "");
     let error = arena.alloc(Item::new(&refused, 9)).err();
     assert_equal!(rt; (error, refused.dropped().0), (Some(ArenaError::NotEnoughKeys), 3));
-    let five = (0..5).map(|number| Item::new(&refused, number));
-    let more = StableArena::<FewKeys<4>, Item<'_>>::from_iter(rt.alloc(), five);
+    let more = tallied_arena::<FewKeys<4>>(rt.alloc(), &log, &refused, 0..5);
     assert_equal!(rt; more.err(), Some(ArenaError::NotEnoughKeys));
     assert_equal!(rt; (refused.dropped().0, kept.dropped().0), (8, 0));
     drop((vec, arena));
     assert_equal!(rt; (kept.dropped(), refused.dropped().0), ((5, 4), 8));
+}
+
+// The key of an entry, whose item is dropped.
+fn key_of(entry: Option<(usize, Item<'_>)>) -> Option<usize> {
+    match entry {
+        Some((key, _item)) => Some(key),
+        None => None,
+    }
 }
 
 // Buckets of 32, 64 and 128 slots, the last with 4 items. Each goes back once an end is past it.
@@ -131,16 +139,14 @@ fn entries_are_taken_out_of_an_arena(rt: HostRuntime) {
         (0, 69, 2, (None, Some(31))),
     ] {
         let (log, tally) = (Log::new(), Tally::new());
-        let items = (0..100).map(|number| Item::new(&tally, number));
-        let handle = Observed::new(rt.alloc(), &log);
-        let made = StableArena::<usize, Item<'_>, Observed<'_>>::from_iter(handle, items);
+        let made = tallied_arena::<usize>(rt.alloc(), &log, &tally, 0..100);
         let mut entries = made.expect(&rt, "").into_iter();
         let (mut first, mut last) = (None, None);
         for _ in 0..front {
-            first = entries.next().map(|(key, _item)| key);
+            first = key_of(entries.next());
         }
         for _ in 0..back {
-            last = entries.next_back().map(|(key, _item)| key);
+            last = key_of(entries.next_back());
         }
         assert_equal!(rt; ((first, last), log.returned()), (keys, returned), "{front} {back}");
         let taken = tally.dropped().0;
@@ -150,52 +156,50 @@ fn entries_are_taken_out_of_an_arena(rt: HostRuntime) {
     }
 }
 
-// A command for each number, to put an item of it there.
-fn allocs<'a, Key: ArenaKey>(
+// What a run replies that puts items of the numbers below `len` at the end of an arena.
+fn replies<'a, Key: ArenaKey, A: Allocator + Clone>(
     alloc: Global,
+    arena: &mut StableArena<Key, Item<'a>, A>,
     tally: &'a Tally,
     len: u64,
-) -> Result<Vec<ArenaCommand<Key, Item<'a>>>, AllocError> {
-    (0..len)
-        .map(|number| ArenaCommand::Alloc(Item::new(tally, number)))
-        .collect(alloc)
+) -> Result<Vec<ArenaReply<Key, Item<'a>>>, ArenaError> {
+    let mut commands = Vec::new(alloc);
+    for number in 0..len {
+        commands.push(ArenaCommand::Alloc(Item::new(tally, number)))?;
+    }
+    run_arena(alloc, arena, commands)
 }
 
-// What is replied to an `Alloc`: the number of a key, or an error.
-fn told<Key: ArenaKey, T>(reply: &ArenaReply<Key, T>) -> Option<Result<usize, ArenaError>> {
-    match reply {
-        ArenaReply::Key(key) => Some(Ok(key.into_usize())),
-        ArenaReply::Refused(error) => Some(Err(*error)),
-        _ => None,
-    }
+fn refused_for_want_of_memory(rt: &impl Abort, alloc: Global) {
+    let (log, tally) = (Log::new(), Tally::new());
+    let handle = Observed::new(alloc, &log);
+    let mut arena: StableArena<usize, Item<'_>, Observed<'_>> = StableArena::new(handle);
+    log.refuse_once(2);
+    let told = replies(alloc, &mut arena, &tally, 34).expect(rt, "");
+    let is_told = are_keys_but(told.as_slice(), &[32], ArenaError::OutOfSystemMemory);
+    assert_equal!(*rt; (told.len(), is_told, tally.dropped()), (34, true, (1, 0)));
+    assert_equal!(*rt; (arena.len(), number_of(arena.last())), (33, Some(33)));
+    assert_equal!(*rt; arena.items().iter().take(32).map(Item::number).eq(0..32), true);
+    drop(arena);
+    assert_equal!(*rt; (tally.dropped(), log.amiss()), ((34, 32), 0));
+}
+
+fn refused_for_want_of_keys(rt: &impl Abort, alloc: Global) {
+    let tally = Tally::new();
+    let mut arena: StableArena<FewKeys<4>, Item<'_>> = StableArena::new(alloc);
+    let told = replies(alloc, &mut arena, &tally, 6).expect(rt, "");
+    let is_told = are_keys_but(told.as_slice(), &[4, 5], ArenaError::NotEnoughKeys);
+    assert_equal!(*rt; (told.len(), is_told), (6, true));
+    assert_equal!(*rt; (arena.len(), tally.dropped()), (4, (2, 0)));
+    drop(arena);
+    assert_equal!(*rt; tally.dropped(), (6, 4));
 }
 
 // The second bucket is opened for item 32, which is refused, and then for item 33. A fifth item has no key.
 #[test]
 fn a_run_drops_the_items_that_it_refuses(rt: HostRuntime) {
-    let (log, tally) = (Log::new(), Tally::new());
-    let commands = allocs(rt.alloc(), &tally, 34).expect(&rt, "");
-    let handle = Observed::new(rt.alloc(), &log);
-    let mut arena: StableArena<usize, Item<'_>, Observed<'_>> = StableArena::new(handle);
-    log.refuse_once(2);
-    let replies = run_arena(rt.alloc(), &mut arena, commands).expect(&rt, "");
-    let keys = (0..32).map(|key| Some(Ok(key)));
-    let more = [Some(Err(ArenaError::OutOfSystemMemory)), Some(Ok(32))];
-    assert!(rt; replies.iter().map(told).eq(keys.chain(more)));
-    assert!(rt; arena.values().map(Item::number).eq((0..32).chain([33])));
-    assert_equal!(rt; tally.dropped(), (1, 0));
-    drop(arena);
-    assert_equal!(rt; (tally.dropped(), log.amiss()), ((34, 32), 0));
-    let tally = Tally::new();
-    let commands = allocs(rt.alloc(), &tally, 6).expect(&rt, "");
-    let mut arena: StableArena<FewKeys<4>, Item<'_>> = StableArena::new(rt.alloc());
-    let replies = run_arena(rt.alloc(), &mut arena, commands).expect(&rt, "");
-    let refused = Some(Err(ArenaError::NotEnoughKeys));
-    let keys = (0..4).map(|key| Some(Ok(key)));
-    assert!(rt; replies.iter().map(told).eq(keys.chain([refused, refused])));
-    assert_equal!(rt; (arena.len(), tally.dropped()), (4, (2, 0)));
-    drop(arena);
-    assert_equal!(rt; tally.dropped(), (6, 4));
+    refused_for_want_of_memory(&rt, rt.alloc());
+    refused_for_want_of_keys(&rt, rt.alloc());
 }
 
 // One that makes way comes back in its reply. One that is put under a key of no item is dropped.
@@ -222,7 +226,7 @@ fn a_run_hands_back_what_makes_way(rt: HostRuntime) {
     .expect(&rt, "");
     log.refuse_from(1);
     assert_equal!(rt; run_arena(handle, &mut arena, commands).err(), Some(ArenaError::OutOfSystemMemory));
-    assert!(rt; arena.values().map(Item::number).eq([2]));
+    assert_equal!(rt; (arena.len(), number_of(arena.last())), (1, Some(2)));
     assert_equal!(rt; tally.dropped(), (4, 2));
     drop(arena);
     assert_equal!(rt; (tally.dropped(), log.amiss()), ((5, 3), 0));

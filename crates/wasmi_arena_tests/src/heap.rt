@@ -1,4 +1,5 @@
 //! Vectors over a heap of fixed size: the buckets fit, and nothing is copied as a vector grows.
+use crate::items::{are_counted, are_same};
 use linked_list_allocator::LocalHeap;
 use std::ops::Range;
 use wasmi_arena::{ArenaError, StableArena, StableVec};
@@ -20,7 +21,7 @@ fn ninety_six_items_fit(rt: HostRuntime) {
         assert_equal!(rt; vec.push(96), Err(ArenaError::OutOfSystemMemory));
         assert_equal!(rt; (vec.len(), vec.open_buckets(), vec.slots(), vec.get(95)), (96, 2, 96, Some(&95)));
         let mut copy = vec.clone_in(rt.alloc()).expect(&rt, "");
-        assert!(rt; copy.iter().eq(vec.iter()));
+        assert_equal!(rt; (are_counted(&vec, 96), are_counted(&copy, 96)), (true, true));
         assert_equal!(rt; copy.push(96), Ok(96));
         drop(vec);
         assert_equal!(rt; heap.used(), before);
@@ -37,5 +38,5 @@ fn a_refused_call_keeps_no_block(rt: HostRuntime) {
     let keys: Range<usize> = arena.alloc_many(64).expect(&rt, "");
     assert_equal!(rt; (keys.start, keys.end), (32, 96));
     let copy = arena.clone_in(rt.alloc()).expect(&rt, "");
-    assert!(rt; copy.values().eq(arena.values()));
+    assert_equal!(rt; are_same(copy.items(), arena.items()), true);
 }

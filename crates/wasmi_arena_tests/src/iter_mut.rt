@@ -1,7 +1,20 @@
 //! Items that are written one after another.
-use crate::arenas::numbered;
-use crate::vectors::counted;
+use crate::items::{are_ranges, counted, numbered};
+use std::alloc::Global;
+use std::process::Abort;
+use wasmi_arena::StableVec;
 use wasmi_vectors::assert_equal;
+
+// Whether a walk gives so many items, which are 1, 3, 5 and so on.
+fn are_odd(vec: &StableVec<u32>, len: u32) -> bool {
+    let mut items = vec.iter();
+    for index in 0..len {
+        if items.next() != Some(&index.wrapping_mul(2).wrapping_add(1)) {
+            return false;
+        }
+    }
+    items.next().is_none()
+}
 
 #[test]
 fn each_item_is_written_in_place(rt: HostRuntime) {
@@ -14,39 +27,48 @@ fn each_item_is_written_in_place(rt: HostRuntime) {
         for item in vec.iter_mut().rev() {
             *item = item.wrapping_add(1);
         }
-        let wanted = (0..len).map(|n| n.wrapping_mul(2).wrapping_add(1));
-        assert!(rt; vec.iter().copied().eq(wanted));
+        assert_equal!(rt; are_odd(&vec, len), true, "at {len}");
         assert_equal!(rt; (vec.open_buckets(), vec.slots()), (open_buckets, slots), "at {len}");
     }
 }
 
-#[test]
-fn an_iterator_that_is_left_early(rt: HostRuntime) {
-    let mut vec = counted(rt.alloc(), 100).expect(&rt, "");
+fn vector_left_early(rt: &impl Abort, alloc: Global) {
+    let mut vec = counted(alloc, 100).expect(rt, "");
     {
         let mut items = vec.iter_mut();
         for _ in 0..3 {
-            *items.next().expect(&rt, "front") = 7;
+            *items.next().expect(rt, "front") = 7;
         }
         for _ in 0..2 {
-            *items.next_back().expect(&rt, "back") = 7;
+            *items.next_back().expect(rt, "back") = 7;
         }
-        assert_equal!(rt; items.len(), 95);
+        assert_equal!(*rt; items.len(), 95);
     }
-    let wanted = [7; 3].into_iter().chain(3..98).chain([7; 2]);
-    assert!(rt; vec.iter().copied().eq(wanted));
-    assert_equal!(rt; (vec.push(5), vec.open_buckets()), (Ok(100), 3));
-    let mut arena = numbered(rt.alloc(), 300).expect(&rt, "");
+    let seven = (7, 8);
+    let is_written = are_ranges(&vec, &[seven, seven, seven, (3, 98), seven, seven]);
+    assert_equal!(*rt; is_written, true);
+    assert_equal!(*rt; (vec.push(5), vec.open_buckets()), (Ok(100), 3));
+}
+
+fn arena_left_early(rt: &impl Abort, alloc: Global) {
+    let mut arena = numbered(alloc, 300).expect(rt, "");
     {
         let mut entries = arena.iter_mut();
-        let (first, item) = entries.next().expect(&rt, "first");
+        let (first, item) = entries.next().expect(rt, "first");
         *item = 1000;
-        let (last, item) = entries.next_back().expect(&rt, "last");
+        let (last, item) = entries.next_back().expect(rt, "last");
         *item = 2000;
-        assert_equal!(rt; (first, last, entries.len()), (0, 299, 298));
+        assert_equal!(*rt; (first, last, entries.len()), (0, 299, 298));
     }
-    let wanted = [1000].into_iter().chain(1..299).chain([2000]);
-    assert!(rt; arena.values().copied().eq(wanted));
+    // No other item was written.
+    assert_equal!(*rt; (arena.put(0, 0), arena.put(299, 299)), (Ok(1000), Ok(2000)));
+    assert_equal!(*rt; &arena, &numbered(alloc, 300).expect(rt, ""));
+}
+
+#[test]
+fn an_iterator_that_is_left_early(rt: HostRuntime) {
+    vector_left_early(&rt, rt.alloc());
+    arena_left_early(&rt, rt.alloc());
 }
 
 // Adds to the item of an end, if there is one.
@@ -71,21 +93,47 @@ fn both_ends_meet(rt: HostRuntime) {
     }
     assert_equal!(rt; (items.next(), items.next_back(), items.len()), (None, None, 0));
     drop(items);
-    assert!(rt; vec.iter().copied().eq((1000..1114).chain(2114..2225)));
+    assert_equal!(rt; are_ranges(&vec, &[(1000, 1114), (2114, 2225)]), true);
+}
+
+// The length of a slice.
+fn len_of(part: Option<&[u32]>) -> Option<usize> {
+    match part {
+        Some(part) => Some(part.len()),
+        None => None,
+    }
+}
+
+// What is under an index where the first slice was filled with 8 and the last with 9.
+fn filled(index: u32) -> u32 {
+    match index {
+        0..32 => 8,
+        32..224 => index,
+        _ => 9,
+    }
 }
 
 #[test]
 fn slices_are_written_from_both_ends(rt: HostRuntime) {
     let mut vec = counted(rt.alloc(), 300).expect(&rt, "");
-    assert!(rt; vec.slices().map(|part| part.len()).eq([32, 64, 128, 76]));
-    let lens = vec.slices().rev().map(|part| part.len());
-    assert!(rt; lens.eq([76, 128, 64, 32]));
+    for (nth, len) in [32, 64, 128, 76].iter().enumerate() {
+        assert_equal!(rt; len_of(vec.slices().nth(nth)), Some(*len), "at {nth}");
+        assert_equal!(rt; len_of(vec.slices().rev().nth(3 - nth)), Some(*len), "at {nth}");
+    }
+    let ends = (
+        vec.slices().nth(4).is_none(),
+        vec.slices().rev().nth(4).is_none(),
+    );
+    assert_equal!(rt; ends, (true, true));
     let mut slices = vec.slices_mut();
     assert_equal!(rt; slices.len(), 4);
     slices.next_back().expect(&rt, "last").fill(9);
     slices.next().expect(&rt, "first").fill(8);
-    assert_equal!(rt; slices.next_back().map(|part| part.len()), Some(128));
+    assert_equal!(rt; slices.next_back().expect(&rt, "third").len(), 128);
     drop(slices);
-    let ends = ((0..32).map(|_| 8), (0..76).map(|_| 9));
-    assert!(rt; vec.iter().copied().eq(ends.0.chain(32..224).chain(ends.1)));
+    let mut items = vec.iter();
+    for index in 0..300 {
+        assert_equal!(rt; items.next(), Some(&filled(index)), "at {index}");
+    }
+    assert_equal!(rt; items.next(), None);
 }

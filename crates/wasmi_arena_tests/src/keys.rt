@@ -45,20 +45,33 @@ fn keys_that_differ_hash_apart(rt: HostRuntime) {
 
 #[test]
 fn texts_of_the_errors(rt: HostRuntime) {
-    let errors = [
-        (OutOfSystemMemory, "ran out of system memory"),
-        (KeyOutOfBounds, "encounteded out of bounds key"),
-        (NotEnoughKeys, "ran out of valid keys"),
-        (AliasingPairAccess, "tried to access aliasing item pair"),
-        (DuplicateItem, "item is already in the arena"),
-    ];
-    for (error, text) in errors {
+    for (error, text, name) in [
+        (
+            OutOfSystemMemory,
+            "ran out of system memory",
+            "OutOfSystemMemory",
+        ),
+        (
+            KeyOutOfBounds,
+            "encounteded out of bounds key",
+            "KeyOutOfBounds",
+        ),
+        (NotEnoughKeys, "ran out of valid keys", "NotEnoughKeys"),
+        (
+            AliasingPairAccess,
+            "tried to access aliasing item pair",
+            "AliasingPairAccess",
+        ),
+        (
+            DuplicateItem,
+            "item is already in the arena",
+            "DuplicateItem",
+        ),
+    ] {
         let shown = format!(in rt.alloc(); "{error}").expect(&rt, "");
-        assert_equal!(rt; (error.text(), shown.as_str()), (text, text));
+        let debug = format!(in rt.alloc(); "{error:?}").expect(&rt, "");
+        let texts = (error.text(), shown.as_str(), debug.as_str());
+        assert_equal!(rt; texts, (text, text, name));
     }
-    let [out, bounds, keys, pair, item] = errors.map(|(error, _)| error);
-    let shown = format!(in rt.alloc(); "{out:?} {bounds:?} {keys:?} {pair:?} {item:?}");
-    let names = "OutOfSystemMemory KeyOutOfBounds NotEnoughKeys AliasingPairAccess DuplicateItem";
-    assert_equal!(rt; shown.expect(&rt, "").as_str(), names);
     assert_equal!(rt; ArenaError::from(AllocError), OutOfSystemMemory);
 }

@@ -1,9 +1,11 @@
 //! Many items, and items of many sizes: past the twelfth growth, refused once each, dropped once each, and
 //! calls that would take minutes if they went over the items.
-use crate::arenas::numbered;
-use crate::vectors::counted;
+use crate::items::{
+    are_all, are_counted, are_keys_but, are_tallied, counted, number_of, numbered, tallied,
+};
 use std::alloc::Global;
-use wasmi_arena::{ArenaCommand, ArenaError, ArenaReply, StableArena, StableVec, run_arena};
+use std::process::Abort;
+use wasmi_arena::{ArenaCommand, ArenaError, StableArena, StableVec, run_arena};
 use wasmi_vectors::assert_equal;
 use wasmi_vectors::observed::{Log, Observed};
 use wasmi_vectors::tally::{Item, Tally};
@@ -30,7 +32,7 @@ fn each_bucket_of_a_vector_is_refused_once(rt: HostRuntime) {
         let error = vec.push(Item::new(&refused, 0)).err();
         assert_equal!(rt; error, Some(ArenaError::OutOfSystemMemory), "at {len}");
         assert_equal!(rt; (vec.slots() as u64, vec.open_buckets()), (*len, open), "at {len}");
-        assert!(rt; vec.iter().map(Item::number).eq(0..*len), "at {len}");
+        assert_equal!(rt; are_tallied(&vec, 0..*len), true, "at {len}");
     }
     assert_equal!(rt; vec.push(Item::new(&tally, 131_040)), Ok(131_040));
     assert_equal!(rt; (vec.len(), vec.open_buckets(), vec.slots()), (131_041, 13, SLOTS));
@@ -40,24 +42,35 @@ fn each_bucket_of_a_vector_is_refused_once(rt: HostRuntime) {
     assert_equal!(rt; (tally.dropped(), log.amiss()), ((131_041, 131_041), 0));
 }
 
+fn many_defaults(rt: &impl Abort, alloc: Global) {
+    let log = Log::new();
+    let handle = Observed::new(alloc, &log);
+    let mut arena: StableArena<usize, u64, Observed<'_>> = StableArena::new(handle);
+    let keys = arena.alloc_many(131_041).expect(rt, "");
+    assert_equal!(*rt; (keys.start, keys.end, log.requests()), (0, 131_041, 13));
+    let copy = arena.clone().expect(rt, "");
+    assert_equal!(*rt; (copy == arena, are_all(arena.items(), &0)), (true, true));
+    assert_equal!(*rt; (log.requests(), log.given()), (26, 26));
+    drop((arena, copy));
+    assert_equal!(*rt; log.amiss(), 0);
+}
+
+fn many_of_an_iterator(rt: &impl Abort, alloc: Global) {
+    let log = Log::new();
+    let mut vec = StableVec::new(Observed::new(alloc, &log));
+    assert_equal!(*rt; vec.extend(0..131_041u64), Ok(()));
+    let other = vec.clone_in(alloc).expect(rt, "");
+    assert_equal!(*rt; (are_counted(&vec, 131_041), are_counted(&other, 131_041)), (true, true));
+    assert_equal!(*rt; (log.requests(), log.given()), (13, 13));
+    drop(vec);
+    assert_equal!(*rt; log.amiss(), 0);
+}
+
 // All that one call adds.
 #[test]
 fn many_items_at_once(rt: HostRuntime) {
-    let log = Log::new();
-    let handle = Observed::new(rt.alloc(), &log);
-    let mut arena: StableArena<usize, u64, Observed<'_>> = StableArena::new(handle);
-    let keys = arena.alloc_many(131_041).expect(&rt, "");
-    assert_equal!(rt; (keys.start, keys.end, log.requests()), (0, 131_041, 13));
-    let copy = arena.clone().expect(&rt, "");
-    assert!(rt; copy == arena && arena.values().all(|item| *item == 0));
-    let mut vec = StableVec::new(Observed::new(rt.alloc(), &log));
-    assert_equal!(rt; vec.extend(0..131_041u64), Ok(()));
-    assert!(rt; vec.iter().copied().eq(0..131_041));
-    let other = vec.clone_in(rt.alloc()).expect(&rt, "");
-    assert!(rt; other.iter().copied().eq(0..131_041));
-    assert_equal!(rt; (log.requests(), log.given()), (39, 39));
-    drop((arena, copy, vec));
-    assert_equal!(rt; log.amiss(), 0);
+    many_defaults(&rt, rt.alloc());
+    many_of_an_iterator(&rt, rt.alloc());
 }
 
 // Cleared; popped; taken out, some by value from both ends.
@@ -65,23 +78,22 @@ fn many_items_at_once(rt: HostRuntime) {
 fn many_items_go_as_they_should(rt: HostRuntime) {
     for (way, in_turn) in [(0, 131_041), (1, 1), (2, 131_040)] {
         let (log, tally) = (Log::new(), Tally::new());
-        let items = (0..131_041u64).map(|number| Item::new(&tally, number));
-        let mut vec = StableVec::from_iter(Observed::new(rt.alloc(), &log), items).expect(&rt, "");
+        let mut vec = tallied(rt.alloc(), &log, &tally, 0..131_041).expect(&rt, "");
         assert_equal!(rt; (log.given(), log.bytes()), (13, BYTES));
         match way {
             0 => vec.clear(),
             1 => {
                 for number in (0..131_041u64).rev() {
-                    assert_equal!(rt; vec.pop().as_ref().map(Item::number), Some(number));
+                    assert_equal!(rt; number_of(vec.pop().as_ref()), Some(number));
                 }
             }
             _ => {
                 let none = StableVec::new(Observed::new(rt.alloc(), &log));
                 let mut items = std::mem::replace(&mut vec, none).into_iter();
                 for number in 0..70_000 {
-                    assert_equal!(rt; items.next().as_ref().map(Item::number), Some(number));
+                    assert_equal!(rt; number_of(items.next().as_ref()), Some(number));
                 }
-                assert_equal!(rt; items.next_back().as_ref().map(Item::number), Some(131_040));
+                assert_equal!(rt; number_of(items.next_back().as_ref()), Some(131_040));
             }
         }
         assert_equal!(rt; (vec.len(), vec.open_buckets(), log.returned()), (0, 0, 13));
@@ -93,7 +105,7 @@ fn many_items_go_as_they_should(rt: HostRuntime) {
 
 // Whether a vector has a hundred items, each the same.
 fn has_hundred<T: PartialEq>(vec: &StableVec<T, Observed<'_>>, item: &T) -> bool {
-    vec.len() == 100 && vec.iter().all(|there| there == item)
+    vec.len() == 100 && are_all(vec, item)
 }
 
 // Whether a vector and an arena, and their clones, hold a hundred such items in three blocks each.
@@ -111,12 +123,15 @@ fn holds<T: Copy + PartialEq + Drop>(
         arena.alloc(item)?;
     }
     let (second, other) = (vec.clone()?, arena.clone()?);
-    let is_there = has_hundred(&vec, &item)
-        && has_hundred(&second, &item)
-        && has_hundred(arena.items(), &item)
-        && has_hundred(other.items(), &item);
+    let are_there = [
+        has_hundred(&vec, &item),
+        has_hundred(&second, &item),
+        has_hundred(arena.items(), &item),
+        has_hundred(other.items(), &item),
+    ];
     let blocks = if size == 0 { 0 } else { 12 };
-    Ok(is_there && (log.requests(), log.bytes()) == (blocks, size.wrapping_mul(896)))
+    let asked = (log.requests(), log.bytes());
+    Ok((are_there, asked) == ([true; 4], (blocks, size.wrapping_mul(896))))
 }
 
 // Of no byte, one, 16 that are aligned to 16, and 4,096.
@@ -136,42 +151,50 @@ fn a_run_of_many_commands(rt: HostRuntime) {
     let mut arena: StableArena<usize, usize> = StableArena::new(rt.alloc());
     let replies = run_arena(rt.alloc(), &mut arena, commands).expect(&rt, "");
     assert_equal!(rt; (replies.len(), arena.len()), (150_000, 150_000));
-    let is_key = |(number, reply): (usize, &ArenaReply<usize, usize>)| *reply
-        == ArenaReply::Key(number);
-    assert!(rt; replies.iter().enumerate().all(is_key));
-    assert!(rt; arena.values().copied().eq(0..150_000));
+    let are_keys = are_keys_but(replies.as_slice(), &[], ArenaError::NotEnoughKeys);
+    assert_equal!(rt; are_keys, true);
+    assert_equal!(rt; &arena, &numbered(rt.alloc(), 150_000).expect(&rt, ""));
+}
+
+fn calls_of_a_vector(rt: &impl Abort, alloc: Global) {
+    let mut vec = counted(alloc, 131_072).expect(rt, "");
+    for turn in 0..262_144usize {
+        let index = turn % 131_072;
+        let sizes = (vec.len(), vec.room(), vec.is_empty(), vec.iter().len());
+        assert_equal!(*rt; sizes, (131_072, 131_040, false, 131_072));
+        let read = (
+            vec.get(index).is_some(),
+            vec.first().is_some(),
+            vec.last().is_some(),
+        );
+        assert_equal!(*rt; (read, vec.get_mut(index).is_some()), ((true, true, true), true));
+        let written = (vec.put(index, 7).is_ok(), vec.swap(index, 131_071 - index));
+        assert_equal!(*rt; (written, vec.iter_mut().next_back().is_some()), ((true, Ok(())), true));
+        assert_equal!(*rt; (vec.pop().is_some(), vec.push(7)), (true, Ok(131_071)));
+    }
+}
+
+fn calls_of_an_arena(rt: &impl Abort, alloc: Global) {
+    let mut arena = numbered(alloc, 131_072).expect(rt, "");
+    for turn in 0..262_144usize {
+        let index = turn % 131_072;
+        let read = (
+            arena.len(),
+            arena.is_empty(),
+            arena.get(index).is_ok(),
+            arena.has(index),
+        );
+        assert_equal!(*rt; read, (131_072 + turn, false, true, true));
+        let ends = (arena.last().is_some(), arena.iter().next_back().is_some());
+        assert_equal!(*rt; (ends, arena.put(index, 7).is_ok()), ((true, true), true));
+        assert_equal!(*rt; arena.alloc(7), Ok(131_072 + turn));
+    }
 }
 
 #[test]
 fn calls_take_constant_time(rt: HostRuntime) {
-    let mut vec = counted(rt.alloc(), 131_072).expect(&rt, "");
-    let mut arena = numbered(rt.alloc(), 131_072).expect(&rt, "");
-    let mut turns = 0u32;
-    for turn in 0..262_144usize {
-        let index = turn % 131_072;
-        let of_vec = (vec.len(), vec.room(), vec.is_empty()) == (131_072, 131_040, false)
-            && vec.get(index).is_some()
-            && vec.first().is_some()
-            && vec.last().is_some()
-            && vec.get_mut(index).is_some()
-            && vec.put(index, 7).is_ok()
-            && vec.swap(index, 131_071 - index).is_ok()
-            && vec.iter().len() == 131_072
-            && vec.iter_mut().next_back().is_some()
-            && vec.pop().is_some()
-            && vec.push(7) == Ok(131_071);
-        let of_arena = (arena.len(), arena.is_empty()) == (131_072 + turn, false)
-            && arena.get(index).is_ok()
-            && arena.last().is_some()
-            && arena.put(index, 7).is_ok()
-            && arena.has(index)
-            && arena.iter().next_back().is_some()
-            && arena.alloc(7) == Ok(131_072 + turn);
-        if of_vec && of_arena {
-            turns = turns.wrapping_add(1);
-        }
-    }
-    assert_equal!(rt; turns, 262_144);
+    calls_of_a_vector(&rt, rt.alloc());
+    calls_of_an_arena(&rt, rt.alloc());
 }
 
 // The 24th bucket of numbers takes 2 GiB. It is asked for, and refused.

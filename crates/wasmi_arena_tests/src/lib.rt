@@ -10,6 +10,8 @@ mod dropped;
 #[cfg(test)]
 mod heap;
 #[cfg(test)]
+mod items;
+#[cfg(test)]
 mod iter_mut;
 #[cfg(test)]
 mod keys;

@@ -1,32 +1,46 @@
 //! Calls that ask for no memory, with every request refused.
+use std::alloc::Global;
+use std::process::Abort;
 use wasmi_arena::{ArenaError, StableArena, StableVec};
 use wasmi_vectors::assert_equal;
 use wasmi_vectors::observed::{Log, Observed};
 
-#[test]
-fn nothing_needs_no_memory(rt: HostRuntime) {
+fn no_vector(rt: &impl Abort, alloc: Global) {
     let log = Log::new();
     log.refuse_from(1);
-    let handle = Observed::new(rt.alloc(), &log);
-    let none = StableVec::<u64, Observed<'_>>::from_iter(handle.clone().expect(&rt, ""), 0..0);
-    let mut vec = none.expect(&rt, "");
+    let handle = Observed::new(alloc, &log);
+    let none = StableVec::<u64, Observed<'_>>::from_iter(handle, 0..0);
+    let mut vec = none.expect(rt, "");
     let copies = (
-        vec.clone().expect(&rt, ""),
-        vec.clone_in(rt.alloc()).expect(&rt, ""),
+        vec.clone().expect(rt, ""),
+        vec.clone_in(alloc).expect(rt, ""),
     );
-    assert_equal!(rt; (copies.0.len(), copies.1.len(), vec.extend(0..0)), (0, 0, Ok(())));
+    assert_equal!(*rt; (copies.0.len(), copies.1.len(), vec.extend(0..0)), (0, 0, Ok(())));
     vec.clear();
-    assert_equal!(rt; (vec.pop(), vec.into_iter().len()), (None, 0));
+    assert_equal!(*rt; (vec.pop(), vec.into_iter().len()), (None, 0));
+    assert_equal!(*rt; log.requests(), 0);
+}
+
+fn no_arena(rt: &impl Abort, alloc: Global) {
+    let log = Log::new();
+    log.refuse_from(1);
+    let handle = Observed::new(alloc, &log);
     let none = StableArena::<usize, u64, Observed<'_>>::from_iter(handle, 0..0);
-    let mut arena = none.expect(&rt, "");
+    let mut arena = none.expect(rt, "");
     let copies = (
-        arena.clone().expect(&rt, ""),
-        arena.clone_in(rt.alloc()).expect(&rt, ""),
+        arena.clone().expect(rt, ""),
+        arena.clone_in(alloc).expect(rt, ""),
     );
-    assert_equal!(rt; (copies.0.len(), copies.1.len()), (0, 0));
-    assert_equal!(rt; arena.alloc_many(0).expect(&rt, "").end, 0);
+    assert_equal!(*rt; (copies.0.len(), copies.1.len()), (0, 0));
+    assert_equal!(*rt; arena.alloc_many(0).expect(rt, "").end, 0);
     arena.clear();
-    assert_equal!(rt; (arena.into_iter().len(), log.requests()), (0, 0));
+    assert_equal!(*rt; (arena.into_iter().len(), log.requests()), (0, 0));
+}
+
+#[test]
+fn nothing_needs_no_memory(rt: HostRuntime) {
+    no_vector(&rt, rt.alloc());
+    no_arena(&rt, rt.alloc());
 }
 
 // Of 95 items in 96 slots, of which one is free.
@@ -42,7 +56,7 @@ fn a_vector_with_room_needs_no_memory(rt: HostRuntime) {
     assert_equal!(rt; (refused, vec.get_mut(0)), (Some(ArenaError::KeyOutOfBounds), Some(&mut 7)));
     let (items, parts) = (vec.iter_mut().count(), vec.slices().len());
     assert_equal!(rt; (items, parts, vec.slices_mut().len()), (96, 2, 2));
-    assert!(rt; vec == vec && vec.cmp(&vec).is_eq());
+    assert_equal!(rt; (vec == vec, vec.cmp(&vec).is_eq()), (true, true));
     assert_equal!(rt; (vec.first(), vec.get(95), vec.last()), (Some(&7), Some(&0), Some(&0)));
     assert_equal!(rt; log.requests(), 2);
     assert_equal!(rt; (vec.into_iter().next_back(), log.requests()), (Some(0), 2));
@@ -57,7 +71,7 @@ fn an_arena_with_room_needs_no_memory(rt: HostRuntime) {
     log.refuse_from(1);
     let keys = arena.alloc_many(30).expect(&rt, "");
     assert_equal!(rt; (keys.start, keys.end, arena.next_key()), (1, 31, Ok(31)));
-    assert_equal!(rt; (arena.alloc(31), arena.alloc_many(0).map(|keys| keys.end)), (Ok(31), Ok(32)));
+    assert_equal!(rt; (arena.alloc(31), arena.alloc_many(0).expect(&rt, "").end), (Ok(31), 32));
     assert_equal!(rt; (arena.put(0, 7), arena.swap(0, 31)), (Ok(0), Ok(())));
     assert_equal!(rt; arena.get_disjoint_mut([0, 31]).expect(&rt, ""), (&mut 31, &mut 7));
     let refused = arena.get_disjoint_mut([31, 31]).err();
@@ -71,24 +85,41 @@ fn an_arena_with_room_needs_no_memory(rt: HostRuntime) {
     assert_equal!(rt; (arena.len(), log.requests(), log.returned()), (0, 2, 1));
 }
 
-#[test]
-fn items_without_size_need_no_memory(rt: HostRuntime) {
+fn vector_without_size(rt: &impl Abort, alloc: Global) {
     let log = Log::new();
     log.refuse_from(1);
-    let handle = Observed::new(rt.alloc(), &log);
-    let mut vec = StableVec::new(handle.clone().expect(&rt, ""));
+    let handle = Observed::new(alloc, &log);
+    let mut vec = StableVec::new(handle.clone().expect(rt, ""));
     for index in 0..40 {
-        assert_equal!(rt; vec.push(()), Ok(index));
+        assert_equal!(*rt; vec.push(()), Ok(index));
     }
-    assert_equal!(rt; (vec.len(), vec.open_buckets(), vec.slots()), (40, 2, 96));
-    assert_equal!(rt; vec.get_disjoint_mut([39, 0]).expect(&rt, ""), (&mut (), &mut ()));
-    let made = StableVec::from_iter(handle.clone().expect(&rt, ""), (0..41).map(|_| ()));
-    let longer = made.expect(&rt, "");
-    assert!(rt; vec != longer && vec < longer);
-    assert_equal!(rt; (vec.extend([()]), vec.iter_mut().count()), (Ok(()), 41));
-    assert_equal!(rt; &vec.clone().expect(&rt, ""), &longer);
-    assert!(rt; vec.slices().map(|part| part.len()).eq([32, 9]));
+    assert_equal!(*rt; (vec.len(), vec.open_buckets(), vec.slots()), (40, 2, 96));
+    assert_equal!(*rt; vec.get_disjoint_mut([39, 0]).expect(rt, ""), (&mut (), &mut ()));
+    let made = StableVec::from_iter(handle.clone().expect(rt, ""), [(); 41]);
+    let longer = made.expect(rt, "");
+    assert_equal!(*rt; (vec == longer, vec < longer), (false, true));
+    assert_equal!(*rt; (vec.extend([()]), vec.iter_mut().count()), (Ok(()), 41));
+    assert_equal!(*rt; &vec.clone().expect(rt, ""), &longer);
+    let mut parts = vec.slices();
+    let lens = (
+        parts.next().expect(rt, "").len(),
+        parts.next().expect(rt, "").len(),
+    );
+    assert_equal!(*rt; (lens, parts.next().is_none()), ((32, 9), true));
+    assert_equal!(*rt; log.requests(), 0);
+}
+
+fn arena_without_size(rt: &impl Abort, alloc: Global) {
+    let log = Log::new();
+    log.refuse_from(1);
+    let handle = Observed::new(alloc, &log);
     let mut arena: StableArena<usize, (), Observed<'_>> = StableArena::new(handle);
-    assert_equal!(rt; (arena.alloc(()), arena.alloc_many(40).expect(&rt, "").end), (Ok(0), 41));
-    assert_equal!(rt; (arena.clone().expect(&rt, "").len(), log.requests()), (41, 0));
+    assert_equal!(*rt; (arena.alloc(()), arena.alloc_many(40).expect(rt, "").end), (Ok(0), 41));
+    assert_equal!(*rt; (arena.clone().expect(rt, "").len(), log.requests()), (41, 0));
+}
+
+#[test]
+fn items_without_size_need_no_memory(rt: HostRuntime) {
+    vector_without_size(&rt, rt.alloc());
+    arena_without_size(&rt, rt.alloc());
 }

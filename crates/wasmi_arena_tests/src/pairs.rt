@@ -1,6 +1,5 @@
 //! Two items that are written at once, or exchanged.
-use crate::arenas::numbered;
-use crate::vectors::counted;
+use crate::items::{counted, numbered};
 use wasmi_arena::{ArenaError, StableArena, StableVec};
 use wasmi_vectors::assert_equal;
 
@@ -11,6 +10,17 @@ fn writes(pair: (&mut usize, &mut usize), first: usize, second: usize) -> bool {
     *one = 111;
     *other = 999;
     reads
+}
+
+// What is under an index after that.
+fn written(index: usize, first: usize, second: usize) -> usize {
+    if index == first {
+        111
+    } else if index == second {
+        999
+    } else {
+        index
+    }
 }
 
 // In one bucket, in two that lie side by side or far apart, and at the ends of buckets.
@@ -25,13 +35,7 @@ fn two_items_are_written_and_no_other(rt: HostRuntime) {
         assert!(rt; writes(of_arena, first, second));
         assert_equal!(rt; (vec.len(), arena.len()), (300, 300));
         for (index, (of_vec, of_arena)) in vec.iter().zip(arena.values()).enumerate() {
-            let wanted = if index == first {
-                111
-            } else if index == second {
-                999
-            } else {
-                index
-            };
+            let wanted = written(index, first, second);
             assert_equal!(rt; (*of_vec, *of_arena), (wanted, wanted), "at {index} of {first}, {second}");
         }
         assert_equal!(rt; (vec.swap(first, second), arena.swap(second, first)), (Ok(()), Ok(())));
@@ -59,6 +63,7 @@ fn errors(
 fn equal_indices_are_refused_before_those_out_of_bounds(rt: HostRuntime) {
     let mut vec = counted(rt.alloc(), 3).expect(&rt, "");
     let mut arena = numbered(rt.alloc(), 3).expect(&rt, "");
+    let (same_vec, same_arena) = (vec.clone().expect(&rt, ""), arena.clone().expect(&rt, ""));
     for (indices, error) in [
         ([1, 1], ArenaError::AliasingPairAccess),
         ([3, 3], ArenaError::AliasingPairAccess),
@@ -69,7 +74,7 @@ fn equal_indices_are_refused_before_those_out_of_bounds(rt: HostRuntime) {
         ([3, 4], ArenaError::KeyOutOfBounds),
     ] {
         assert_equal!(rt; errors(&mut vec, &mut arena, indices), [Some(error); 4]);
-        assert!(rt; vec.iter().copied().eq(0..3) && arena.values().copied().eq(0..3));
+        assert_equal!(rt; (&vec, &arena), (&same_vec, &same_arena));
     }
 }
 
@@ -78,6 +83,7 @@ fn equal_indices_are_refused_before_those_out_of_bounds(rt: HostRuntime) {
 fn a_refused_pair_changes_no_item(rt: HostRuntime) {
     let mut vec = counted(rt.alloc(), 100).expect(&rt, "");
     let mut arena = numbered(rt.alloc(), 100).expect(&rt, "");
+    let (same_vec, same_arena) = (vec.clone().expect(&rt, ""), arena.clone().expect(&rt, ""));
     for index in [0, 2, 5, 31, 32, 33, 95, 96, 99] {
         for (indices, error) in [
             ([index, index], ArenaError::AliasingPairAccess),
@@ -85,7 +91,7 @@ fn a_refused_pair_changes_no_item(rt: HostRuntime) {
             ([100, index], ArenaError::KeyOutOfBounds),
         ] {
             assert_equal!(rt; errors(&mut vec, &mut arena, indices), [Some(error); 4]);
-            assert!(rt; vec.iter().copied().eq(0..100) && arena.values().copied().eq(0..100));
+            assert_equal!(rt; (&vec, &arena), (&same_vec, &same_arena));
         }
     }
 }

@@ -1,4 +1,5 @@
 //! Each request for memory of a call refused in turn, and then the call made again.
+use crate::items::{logged, number_of, tallied};
 use std::cell::Cell;
 use wasmi_arena::{ArenaCommand, ArenaError, ArenaReply, StableArena, StableVec, run_arena};
 use wasmi_vectors::assert_equal;
@@ -25,10 +26,13 @@ const CALLS: [(Call, u64, usize); 5] = [
 
 // The number of items, if these are 0, 1 and so on, and from index `zeros` on 0.
 fn len_of(items: &StableVec<u64, Observed<'_>>, zeros: usize) -> Option<usize> {
-    let is_item = |(index, item): (usize, &u64)| {
-        *item == if index < zeros { index as u64 } else { 0 }
-    };
-    items.iter().enumerate().all(is_item).then_some(items.len())
+    for (index, item) in items.iter().enumerate() {
+        let want = if index < zeros { index as u64 } else { 0 };
+        if *item != want {
+            return None;
+        }
+    }
+    Some(items.len())
 }
 
 fn call_vector<'a>(
@@ -123,8 +127,7 @@ fn an_arena_goes_on_after_each_refusal(rt: HostRuntime) {
 #[test]
 fn a_full_bucket_and_then_no_memory(rt: HostRuntime) {
     let log = Log::new();
-    let made = StableVec::from_iter(Observed::new(rt.alloc(), &log), 0..31u64);
-    let mut vec = made.expect(&rt, "");
+    let mut vec = logged(rt.alloc(), &log, 31).expect(&rt, "");
     log.refuse_from(1);
     let refused = Err(ArenaError::OutOfSystemMemory);
     assert_equal!(rt; (vec.push(31), vec.push(32)), (Ok(31), refused));
@@ -142,15 +145,19 @@ fn a_refused_extend_goes_as_far_as_its_buckets(rt: HostRuntime) {
     // buckets then, the last is refused.
     for (held, more, came, dropped, found) in [(30, 5, 2, 3, (32, 1)), (32, 100, 64, 36, (96, 2))] {
         let (log, kept, added) = (Log::new(), Tally::new(), Tally::new());
-        let first = (0..held).map(|number| Item::new(&kept, number));
-        let made = StableVec::from_iter(Observed::new(rt.alloc(), &log), first);
-        let mut vec = made.expect(&rt, "");
+        let mut vec = tallied(rt.alloc(), &log, &kept, 0..held).expect(&rt, "");
         log.refuse_from(found.1);
-        let items = (0..more).map(|number| Item::new(&added, number));
-        let items: Vec<Item<'_>> = items.collect(rt.alloc()).expect(&rt, "");
+        let mut items = Vec::new(rt.alloc());
+        for number in 0..more {
+            items.push(Item::new(&added, number)).expect(&rt, "");
+        }
         assert_equal!(rt; vec.extend(items), Err(ArenaError::OutOfSystemMemory));
         assert_equal!(rt; (vec.len() as u64, vec.open_buckets() as u64), found);
-        assert!(rt; vec.iter().map(Item::number).eq((0..held).chain(0..came)));
+        let mut items = vec.iter();
+        for number in (0..held).chain(0..came) {
+            assert_equal!(rt; number_of(items.next()), Some(number));
+        }
+        assert_equal!(rt; number_of(items.next()), None);
         assert_equal!(rt; (kept.dropped().0, added.dropped().0), (0, dropped));
         drop(vec);
         assert_equal!(rt; (kept.dropped(), added.dropped().0, log.amiss()), ((held, held), more, 0));
@@ -200,8 +207,8 @@ fn alloc_many_adds_all_or_none(rt: HostRuntime) {
             assert_equal!(rt; (arena.items().open_buckets(), arena.items().slots()), (3, 224));
         }
         for (index, item) in (0u64..).zip(arena.values()) {
-            let wanted = if index < 31 { Some(index) } else { None };
-            assert_equal!(rt; item.as_ref().map(Item::number), wanted);
+            let wanted = (index < 31).then_some(index);
+            assert_equal!(rt; number_of(item.as_ref()), wanted);
         }
         drop(arena);
         assert_equal!(rt; (tally.dropped(), log.amiss()), ((31, 31), 0));
@@ -246,8 +253,12 @@ fn a_run_goes_on_after_each_refusal(rt: HostRuntime) {
         let again = replies(commands_in, Observed::new(rt.alloc(), &log), &mut arena);
         let wanted = [ArenaReply::Key(len), ArenaReply::Has(true)];
         assert_equal!(rt; again.expect(&rt, "").as_slice(), wanted.as_slice(), "at {nth}");
-        let items = (0..32u8).chain((32..=len).map(|_| 1));
-        assert!(rt; arena.values().copied().eq(items));
+        let mut items = arena.values();
+        for index in 0..=len {
+            let item = if index < 32 { index as u8 } else { 1 };
+            assert_equal!(rt; items.next(), Some(&item), "{index} at {nth}");
+        }
+        assert_equal!(rt; items.next(), None, "at {nth}");
         drop(arena);
         assert_equal!(rt; (log.amiss(), other.amiss()), (0, 0));
     }
@@ -257,8 +268,7 @@ fn a_run_goes_on_after_each_refusal(rt: HostRuntime) {
 #[test]
 fn a_handle_that_cannot_be_cloned_opens_no_bucket(rt: HostRuntime) {
     let log = Log::new();
-    let made = StableVec::from_iter(Observed::new(rt.alloc(), &log), 0..31u64);
-    let mut vec = made.expect(&rt, "");
+    let mut vec = logged(rt.alloc(), &log, 31).expect(&rt, "");
     log.refuse_clones();
     let refused = Err(ArenaError::OutOfSystemMemory);
     assert_equal!(rt; (vec.push(31), vec.push(32)), (Ok(31), refused));

@@ -1,15 +1,12 @@
 //! Vectors: worked places, lengths and walks, the Rust crate's own cases, and texts.
+use crate::items::counted;
 use std::alloc::Global;
 use std::cmp::Ordering;
 use std::hash::{DefaultHasher, Hash, Hasher};
+use std::process::Abort;
 use wasmi_arena::{ArenaError, StableArena, StableVec};
 use wasmi_vectors::assert_equal;
 use wasmi_vectors::noted::{Noted, Notes};
-
-/// A vector of 0, 1 and so on.
-pub fn counted(alloc: Global, len: u32) -> Result<StableVec<u32>, ArenaError> {
-    StableVec::from_iter(alloc, 0..len)
-}
 
 #[test]
 fn places_are_those_of_the_table(rt: HostRuntime) {
@@ -60,35 +57,51 @@ fn two_hundred_pushes(rt: HostRuntime) {
         let open = vec.bucket(bucket).expect(&rt, "not open");
         assert_equal!(rt; (open.slice().len(), open.capacity()), (len, capacity));
     }
-    assert!(rt; vec.bucket(3).is_none() && vec.bucket(27).is_none());
-    assert!(rt; (0..200usize).all(|i| vec.get(i) == Some(&i)));
+    assert_equal!(rt; (vec.bucket(3).is_none(), vec.bucket(27).is_none()), (true, true));
+    for i in 0..200usize {
+        assert_equal!(rt; vec.get(i), Some(&i));
+    }
 }
 
 #[test]
 fn an_empty_vector_has_no_item(rt: HostRuntime) {
     let vec: StableVec<u32> = StableVec::new(rt.alloc());
     assert_equal!(rt; (vec.len(), vec.is_empty(), vec.iter().len()), (0, true, 0));
-    assert!(rt; vec.get(0).is_none() && vec.first().is_none() && vec.last().is_none());
-    assert!(rt; vec.iter().next().is_none());
-    assert!(rt; vec.iter().next_back().is_none());
+    let ends = (vec.first().is_none(), vec.last().is_none());
+    assert_equal!(rt; (vec.get(0).is_none(), ends), (true, (true, true)));
+    let walks = (
+        vec.iter().next().is_none(),
+        vec.iter().next_back().is_none(),
+    );
+    assert_equal!(rt; walks, (true, true));
+}
+
+fn ends_meet(rt: &impl Abort, alloc: Global) {
+    let vec = counted(alloc, 100).expect(rt, "");
+    let mut items = vec.iter();
+    assert_equal!(*rt; (items.len(), items.next()), (100, Some(&0)));
+    assert_equal!(*rt; (items.next_back(), items.len()), (Some(&99), 98));
+    for front in 1..50u32 {
+        assert_equal!(*rt; (items.next(), items.next_back()), (Some(&front), Some(&(99 - front))));
+    }
+    assert_equal!(*rt; (items.len(), items.next(), items.next_back()), (0, None, None));
+}
+
+fn ends_in_two_buckets(rt: &impl Abort, alloc: Global) {
+    // The front has left the first bucket when the back comes from the third.
+    let three = counted(alloc, 97).expect(rt, "");
+    let mut ends = three.iter();
+    for wanted in 0..32u32 {
+        assert_equal!(*rt; ends.next(), Some(&wanted));
+    }
+    assert_equal!(*rt; (ends.next_back(), ends.next()), (Some(&96), Some(&32)));
+    assert_equal!(*rt; (ends.next_back(), ends.len()), (Some(&95), 62));
 }
 
 #[test]
 fn walks_from_both_ends(rt: HostRuntime) {
-    let vec = counted(rt.alloc(), 100).expect(&rt, "");
-    let mut items = vec.iter();
-    assert_equal!(rt; (items.len(), items.next()), (100, Some(&0)));
-    assert_equal!(rt; (items.next_back(), items.len()), (Some(&99), 98));
-    for front in 1..50u32 {
-        assert_equal!(rt; (items.next(), items.next_back()), (Some(&front), Some(&(99 - front))));
-    }
-    assert_equal!(rt; (items.len(), items.next(), items.next_back()), (0, None, None));
-    // The front has left the first bucket when the back comes from the third.
-    let three = counted(rt.alloc(), 97).expect(&rt, "");
-    let mut ends = three.iter();
-    assert!(rt; (0..32u32).all(|wanted| ends.next() == Some(&wanted)));
-    assert_equal!(rt; (ends.next_back(), ends.next()), (Some(&96), Some(&32)));
-    assert_equal!(rt; (ends.next_back(), ends.len()), (Some(&95), 62));
+    ends_meet(&rt, rt.alloc());
+    ends_in_two_buckets(&rt, rt.alloc());
 }
 
 // By value, from the front and the back in turn, within a bucket and across buckets.
@@ -110,23 +123,50 @@ fn both_ends_give_items_away(rt: HostRuntime) {
     }
 }
 
-// What is written by `get_mut`, and by a loop, is read by a walk and backward.
-#[test]
-fn items_are_doubled_in_place(rt: HostRuntime) {
-    let mut vec = counted(rt.alloc(), 100).expect(&rt, "");
+// Whether a walk gives a hundred items, which are 0, 2, 4 and so on.
+fn are_doubled(vec: &StableVec<u32>) -> bool {
+    let mut items = vec.iter();
+    for index in 0..100u32 {
+        if items.next() != Some(&index.wrapping_mul(2)) {
+            return false;
+        }
+    }
+    items.next().is_none()
+}
+
+// The same from the last one on.
+fn are_doubled_backward(vec: &StableVec<u32>) -> bool {
+    let mut items = vec.iter().rev();
+    for index in (0..100u32).rev() {
+        if items.next() != Some(&index.wrapping_mul(2)) {
+            return false;
+        }
+    }
+    items.next().is_none()
+}
+
+fn doubled_by_index(rt: &impl Abort, alloc: Global) {
+    let mut vec = counted(alloc, 100).expect(rt, "");
     for index in 0..100 {
-        let item = vec.get_mut(index).expect(&rt, "no item");
+        let item = vec.get_mut(index).expect(rt, "no item");
         *item = item.wrapping_mul(2);
     }
-    let wanted = (0..100u32).map(|number| number.wrapping_mul(2));
-    assert!(rt; vec.iter().copied().eq(wanted));
-    assert_equal!(rt; vec.get_mut(100), None);
-    let mut vec = counted(rt.alloc(), 100).expect(&rt, "");
+    assert_equal!(*rt; (are_doubled(&vec), vec.get_mut(100)), (true, None));
+}
+
+fn doubled_by_a_loop(rt: &impl Abort, alloc: Global) {
+    let mut vec = counted(alloc, 100).expect(rt, "");
     for item in vec.iter_mut() {
         *item = item.wrapping_mul(2);
     }
-    let wanted = (0..100u32).map(|number| number.wrapping_mul(2));
-    assert!(rt; vec.iter().rev().copied().eq(wanted.rev()));
+    assert_equal!(*rt; are_doubled_backward(&vec), true);
+}
+
+// What is written by `get_mut`, and by a loop, is read by a walk and backward.
+#[test]
+fn items_are_doubled_in_place(rt: HostRuntime) {
+    doubled_by_index(&rt, rt.alloc());
+    doubled_by_a_loop(&rt, rt.alloc());
 }
 
 #[test]
@@ -154,7 +194,7 @@ fn a_clone_equals_its_source(rt: HostRuntime) {
     assert_equal!(rt; (&copy, hash_of(&copy)), (&vec, hash_of(&vec)));
     assert!(rt; vec != counted(rt.alloc(), 99).expect(&rt, ""));
     assert_equal!(rt; copy.push(100), Ok(100));
-    assert!(rt; copy != vec && hash_of(&copy) != hash_of(&vec));
+    assert_equal!(rt; (copy == vec, hash_of(&copy) == hash_of(&vec)), (false, false));
 }
 
 #[test]
@@ -162,19 +202,32 @@ fn ord_is_lexicographic(rt: HostRuntime) {
     let a = StableVec::from_iter(rt.alloc(), [1, 2, 3]).expect(&rt, "");
     let b = StableVec::from_iter(rt.alloc(), [1, 2, 4]).expect(&rt, "");
     let c = StableVec::from_iter(rt.alloc(), [1, 2]).expect(&rt, "");
-    assert!(rt; a < b && c < a);
+    assert_equal!(rt; (a < b, c < a), (true, true));
     assert_equal!(rt; (a.cmp(&b), c.cmp(&a)), (Ordering::Less, Ordering::Less));
     assert_equal!(rt; a.cmp(&a.clone().expect(&rt, "")), Ordering::Equal);
     assert_equal!(rt; format!(in rt.alloc(); "{a:?}").expect(&rt, "").as_str(), "[1, 2, 3]");
 }
 
+// A vector of the numbers below `len`, and one more.
+fn noted<'a>(
+    alloc: Global,
+    notes: &'a Notes,
+    len: u32,
+    last: u32,
+) -> Result<StableVec<Noted<'a>>, ArenaError> {
+    let mut vec = StableVec::new(alloc);
+    for number in 0..len {
+        vec.push(Noted::new(number, notes))?;
+    }
+    vec.push(Noted::new(last, notes))?;
+    Ok(vec)
+}
+
 #[test]
 fn lists_of_two_lengths_compare_no_item(rt: HostRuntime) {
     let notes = Notes::new();
-    let few = (0..96).map(|number| Noted::new(number, &notes));
-    let vec = StableVec::from_iter(rt.alloc(), few).expect(&rt, "");
-    let more = (0..97).map(|number| Noted::new(number, &notes));
-    let longer = StableVec::from_iter(rt.alloc(), more).expect(&rt, "");
+    let vec = noted(rt.alloc(), &notes, 95, 95).expect(&rt, "");
+    let longer = noted(rt.alloc(), &notes, 96, 96).expect(&rt, "");
     assert_equal!(rt; (vec == longer, notes.compared()), (false, 0));
 }
 
@@ -182,10 +235,8 @@ fn lists_of_two_lengths_compare_no_item(rt: HostRuntime) {
 #[test]
 fn each_pair_is_compared_once(rt: HostRuntime) {
     let notes = Notes::new();
-    let items = (0..97).map(|number| Noted::new(number, &notes));
-    let one = StableVec::from_iter(rt.alloc(), items).expect(&rt, "");
-    let items = (0..97).map(|number| Noted::new(number % 96, &notes));
-    let other = StableVec::from_iter(rt.alloc(), items).expect(&rt, "");
+    let one = noted(rt.alloc(), &notes, 96, 96).expect(&rt, "");
+    let other = noted(rt.alloc(), &notes, 96, 0).expect(&rt, "");
     assert_equal!(rt; (one == other, notes.compared()), (false, 97));
     assert_equal!(rt; (one.cmp(&other), notes.compared()), (Ordering::Greater, 97));
     assert_equal!(rt; (one.partial_cmp(&other), notes.compared()), (Some(Ordering::Greater), 97));

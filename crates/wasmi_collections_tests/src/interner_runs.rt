@@ -85,24 +85,40 @@ fn refused_of(
     (interner.len() == next as usize).then_some(refused)
 }
 
+// A run that hands in each name.
+fn run<'l>(
+    alloc: Global,
+    log: &'l Log,
+    interner: &mut StringInterner<Logged<'l>>,
+    refused: u64,
+) -> Result<Vec<InternReply, Logged<'l>>, ArenaError> {
+    let handle = Logged::new(alloc, log);
+    let commands = hand_ins(alloc, handle)?;
+    log.refuse_once(refused);
+    run_interner(handle, interner, commands)
+}
+
+// Whether one was refused at most.
+fn are_few(refused: Option<usize>) -> bool {
+    match refused {
+        Some(refused) => refused < 2,
+        None => false,
+    }
+}
+
 // Each request of a run refused in turn. The first is for the replies.
 #[test]
 fn a_run_goes_on_after_a_refusal(rt: HostRuntime) {
     for nth in 1..20 {
         let log = Log::new();
-        let handle = Logged::new(rt.alloc(), &log);
-        let mut interner = StringInterner::new(handle);
-        let commands = hand_ins(rt.alloc(), handle).expect(&rt, "");
-        log.refuse_once(nth);
-        match run_interner(handle, &mut interner, commands) {
-            Ok(replies) => assert!(rt;
-                refused_of(&interner, replies).is_some_and(|refused| refused < 2),
-                "at {nth}"
-            ),
+        let mut interner = StringInterner::new(Logged::new(rt.alloc(), &log));
+        match run(rt.alloc(), &log, &mut interner, nth) {
+            Ok(replies) => {
+                assert_equal!(rt; are_few(refused_of(&interner, replies)), true, "at {nth}");
+            }
             Err(error) => {
                 assert_equal!(rt; (nth, error, interner.len()), (1, ArenaError::OutOfSystemMemory, 0));
-                let again = hand_ins(rt.alloc(), handle).expect(&rt, "");
-                let replies = run_interner(handle, &mut interner, again).expect(&rt, "");
+                let replies = run(rt.alloc(), &log, &mut interner, 0).expect(&rt, "");
                 assert_equal!(rt; refused_of(&interner, replies), Some(0));
             }
         }

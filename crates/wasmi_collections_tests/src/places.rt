@@ -1,34 +1,62 @@
 //! Many values and texts, and the places that they ask for.
+use std::alloc::{AllocError, Global};
+use std::process::Abort;
 use wasmi_collections::StringInterner;
 use wasmi_collections::arena::{ArenaError, DedupArena};
 use wasmi_vectors::assert_equal;
 use wasmi_vectors::logged::Logged;
 use wasmi_vectors::observed::Log;
 
+// The nth text: a number, but for a long one in one place.
+fn nth_text(alloc: Global, number: u32, long: &str) -> Result<String, AllocError> {
+    if number == 4_500 {
+        String::from_str(alloc, long)
+    } else {
+        format!(in alloc; "{number}")
+    }
+}
+
+fn many_numbers(rt: &impl Abort, alloc: Global) {
+    let mut numbers: DedupArena<usize, u32> = DedupArena::new(alloc);
+    for number in 0..5_000u32 {
+        assert_equal!(*rt; numbers.alloc_ref(&number), Ok(number as usize));
+    }
+    assert_equal!(*rt; numbers.len(), 5_000);
+    for number in 5_000..2_097_153u32 {
+        assert_equal!(*rt; numbers.alloc(number), Ok(number as usize));
+    }
+}
+
+fn many_texts(rt: &impl Abort, alloc: Global, long: &str) {
+    let mut texts: DedupArena<usize, String> = DedupArena::new(alloc);
+    for number in 0..5_000u32 {
+        let text = nth_text(alloc, number, long).expect(rt, "");
+        assert_equal!(*rt; texts.alloc_str(alloc, text.as_str()), Ok(number as usize));
+    }
+    assert_equal!(*rt; texts.len(), 5_000);
+    assert_equal!(*rt; (texts.key_of_str(long), texts.key_of_str("4500")), (Some(4_500), None));
+}
+
+fn many_names(rt: &impl Abort, alloc: Global, long: &str) {
+    let mut interner = StringInterner::new(alloc);
+    for number in 0..5_000u32 {
+        let text = nth_text(alloc, number, long).expect(rt, "");
+        assert_equal!(*rt; interner.extend([text.as_str()]), Ok(()));
+    }
+    assert_equal!(*rt; interner.len(), 5_000);
+    match interner.get(long) {
+        Some(symbol) => assert_equal!(*rt; symbol.into_u32(), 4_500),
+        None => assert!(*rt; false, "the long text has no symbol"),
+    }
+}
+
 // From empty on, past the growths of each part.
 #[test]
 fn many_values_and_texts(rt: HostRuntime) {
-    let mut numbers: DedupArena<usize, u32> = DedupArena::new(rt.alloc());
-    let mut texts: DedupArena<usize, String> = DedupArena::new(rt.alloc());
-    let mut interner = StringInterner::new(rt.alloc());
     let long = "0123456789".repeat(rt.alloc(), 7_000).expect(&rt, "");
-    for number in 0..5_000u32 {
-        let short = format!(in rt.alloc(); "{number}").expect(&rt, "");
-        let text = if number == 4_500 {
-            long.as_str()
-        } else {
-            short.as_str()
-        };
-        assert_equal!(rt; numbers.alloc_ref(&number), Ok(number as usize));
-        assert_equal!(rt; texts.alloc_str(rt.alloc(), text), Ok(number as usize));
-        assert_equal!(rt; interner.extend([text]), Ok(()));
-    }
-    assert_equal!(rt; (numbers.len(), texts.len(), interner.len()), (5_000, 5_000, 5_000));
-    assert_equal!(rt; (texts.key_of_str(long.as_str()), texts.key_of_str("4500")), (Some(4_500), None));
-    assert_equal!(rt; interner.get(long.as_str()).map(|symbol| symbol.into_u32()), Some(4_500));
-    for number in 5_000..2_097_153u32 {
-        assert_equal!(rt; numbers.alloc(number), Ok(number as usize));
-    }
+    many_numbers(&rt, rt.alloc());
+    many_texts(&rt, rt.alloc(), long.as_str());
+    many_names(&rt, rt.alloc(), long.as_str());
 }
 
 // Adds a number, puts another in its place, and then that one again, by both calls.
@@ -57,6 +85,7 @@ fn a_value_asks_for_its_places_alone(rt: HostRuntime) {
     for number in 0..5_000u32 {
         add_number(&mut arena, number).expect(&rt, "");
     }
-    assert!(rt; log.requests() < 64, "{}", log.requests());
-    assert!(rt; log.bytes() < 4 * 16_384 + 40 * 32_768, "{}", log.bytes());
+    let (requests, bytes) = (log.requests(), log.bytes());
+    assert_equal!(rt; requests < 64, true, "{requests}");
+    assert_equal!(rt; bytes < 4 * 16_384 + 40 * 32_768, true, "{bytes}");
 }

@@ -2,7 +2,9 @@
 use std::alloc::Global;
 use std::fmt::{self, Debug, Write};
 use std::process::Abort;
-use wasmi_collections::arena::{Arena, ComponentVec, DedupArena, StableArena, StableVec};
+use wasmi_collections::arena::{
+    Arena, ArenaError, ComponentVec, DedupArena, StableArena, StableVec,
+};
 use wasmi_collections::{HeadVec, StringInterner, hashed, ordered};
 use wasmi_vectors::assert_equal;
 
@@ -24,68 +26,97 @@ fn prints<T: Debug>(rt: &impl Abort, alloc: Global, container: &T, want: &str) {
     let text = format!(in alloc; "{container:#?}").expect(rt, "");
     assert_equal!(*rt; text.as_str(), want);
     for room in 0..text.len() {
-        assert!(*rt;
-            write!(Short { room }, "{container:#?}").is_err(),
-            "{want} at {room}"
-        );
+        let failed = write!(Short { room }, "{container:#?}").is_err();
+        assert_equal!(*rt; failed, true, "{want} at {room}");
     }
+}
+
+// The texts of a list, of a set and of entries.
+const LIST: &str = "[\n    7,\n]";
+
+const SET: &str = "{\n    7,\n}";
+
+const ENTRIES: &str = "{\n    0: 7,\n}";
+
+// Each container, of one item.
+fn stable_arena(rt: &impl Abort, alloc: Global) {
+    let made: StableArena<usize, i32> = StableArena::from_iter(alloc, [7]).expect(rt, "");
+    prints(rt, alloc, &made, ENTRIES);
+}
+
+fn arena(rt: &impl Abort, alloc: Global) {
+    let made: Arena<usize, i32> = Arena::from_iter(alloc, [7]).expect(rt, "");
+    prints(rt, alloc, &made, ENTRIES);
+}
+
+fn dedup_arena(rt: &impl Abort, alloc: Global) {
+    let made: DedupArena<usize, i32> = DedupArena::from_iter(alloc, [7]).expect(rt, "");
+    prints(rt, alloc, &made, ENTRIES);
+}
+
+fn component_vec(rt: &impl Abort, alloc: Global) {
+    let mut components: ComponentVec<usize, i32> = ComponentVec::new(alloc);
+    components.set(0, 7).expect(rt, "");
+    let text = "ComponentVec {\n    components: {\n        0: 7,\n    },\n}";
+    prints(rt, alloc, &components, text);
+}
+
+fn string_interner(rt: &impl Abort, alloc: Global) {
+    let mut names = StringInterner::new(alloc);
+    names.get_or_intern("x").expect(rt, "");
+    prints(rt, alloc, &names, "[\n    \"x\",\n]");
 }
 
 #[test]
 fn arenas_print_a_line_for_each_item(rt: HostRuntime) {
-    let (alloc, entries) = (rt.alloc(), "{\n    0: 7,\n}");
-    let arena: StableArena<usize, i32> = StableArena::from_iter(alloc, [7]).expect(&rt, "");
-    prints(&rt, alloc, &arena, entries);
-    let arena: Arena<usize, i32> = Arena::from_iter(alloc, [7]).expect(&rt, "");
-    prints(&rt, alloc, &arena, entries);
-    let arena: DedupArena<usize, i32> = DedupArena::from_iter(alloc, [7]).expect(&rt, "");
-    prints(&rt, alloc, &arena, entries);
-    let mut components: ComponentVec<usize, i32> = ComponentVec::new(alloc);
-    components.set(0, 7).expect(&rt, "");
-    let text = "ComponentVec {\n    components: {\n        0: 7,\n    },\n}";
-    prints(&rt, alloc, &components, text);
-    let mut names = StringInterner::new(alloc);
-    names.get_or_intern("x").expect(&rt, "");
-    prints(&rt, alloc, &names, "[\n    \"x\",\n]");
+    let alloc = rt.alloc();
+    stable_arena(&rt, alloc);
+    arena(&rt, alloc);
+    dedup_arena(&rt, alloc);
+    component_vec(&rt, alloc);
+    string_interner(&rt, alloc);
+}
+
+fn stable_vec(rt: &impl Abort, alloc: Global) {
+    let made: StableVec<i32> = StableVec::from_iter(alloc, [7]).expect(rt, "");
+    prints(rt, alloc, &made, LIST);
+}
+
+fn head_vec(rt: &impl Abort, alloc: Global) {
+    let mut items = HeadVec::new(alloc);
+    items.push(7).expect(rt, "");
+    prints(rt, alloc, &items, LIST);
+}
+
+fn ordered_set(rt: &impl Abort, alloc: Global) {
+    let made: ordered::Set<i32> = ordered::Set::from_iter(alloc, [7]).expect(rt, "");
+    prints(rt, alloc, &made, SET);
+}
+
+fn hashed_set(rt: &impl Abort, alloc: Global) {
+    let made: hashed::Set<i32> = hashed::Set::from_iter(alloc, [7]).expect(rt, "");
+    prints(rt, alloc, &made, SET);
+}
+
+fn ordered_map(rt: &impl Abort, alloc: Global) {
+    let made: ordered::Map<i32, i32> = ordered::Map::from_iter(alloc, [(0, 7)]).expect(rt, "");
+    prints(rt, alloc, &made, ENTRIES);
+}
+
+fn hashed_map(rt: &impl Abort, alloc: Global) {
+    let made: hashed::Map<i32, i32> = hashed::Map::from_iter(alloc, [(0, 7)]).expect(rt, "");
+    prints(rt, alloc, &made, ENTRIES);
 }
 
 #[test]
 fn lists_maps_and_sets_print_a_line_for_each_item(rt: HostRuntime) {
-    let (alloc, list, set) = (rt.alloc(), "[\n    7,\n]", "{\n    7,\n}");
-    prints(
-        &rt,
-        alloc,
-        &StableVec::from_iter(alloc, [7]).expect(&rt, ""),
-        list,
-    );
-    let mut items = HeadVec::new(alloc);
-    items.push(7).expect(&rt, "");
-    prints(&rt, alloc, &items, list);
-    prints(
-        &rt,
-        alloc,
-        &ordered::Set::from_iter(alloc, [7]).expect(&rt, ""),
-        set,
-    );
-    prints(
-        &rt,
-        alloc,
-        &hashed::Set::from_iter(alloc, [7]).expect(&rt, ""),
-        set,
-    );
-    let entries = "{\n    0: 7,\n}";
-    prints(
-        &rt,
-        alloc,
-        &ordered::Map::from_iter(alloc, [(0, 7)]).expect(&rt, ""),
-        entries,
-    );
-    prints(
-        &rt,
-        alloc,
-        &hashed::Map::from_iter(alloc, [(0, 7)]).expect(&rt, ""),
-        entries,
-    );
+    let alloc = rt.alloc();
+    stable_vec(&rt, alloc);
+    head_vec(&rt, alloc);
+    ordered_set(&rt, alloc);
+    hashed_set(&rt, alloc);
+    ordered_map(&rt, alloc);
+    hashed_map(&rt, alloc);
 }
 
 // A writer that tells how much was written.
@@ -108,21 +139,44 @@ fn len_of<T: Debug>(container: &T) -> usize {
     length.bytes
 }
 
-// The items 0 to 99,999, which are their own keys.
+// How many bytes the text of each container has, whose items 0 to 99,999 are their own keys.
+fn bytes_of_arena(alloc: Global) -> Result<usize, ArenaError> {
+    let arena: DedupArena<usize, usize> = DedupArena::from_iter(alloc, 0..100_000)?;
+    Ok(len_of(&arena))
+}
+
+fn bytes_of_components(alloc: Global) -> Result<usize, ArenaError> {
+    let mut components: ComponentVec<usize, usize> = ComponentVec::new(alloc);
+    for number in 0..100_000usize {
+        components.set(number, number)?;
+    }
+    Ok(len_of(&components))
+}
+
+fn bytes_of_list(alloc: Global) -> Result<usize, ArenaError> {
+    let mut list = HeadVec::new(alloc);
+    for number in 0..100_000usize {
+        list.push(number)?;
+    }
+    Ok(len_of(&list))
+}
+
+fn bytes_of_names(alloc: Global) -> Result<usize, ArenaError> {
+    let mut names = StringInterner::new(alloc);
+    for number in 0..100_000usize {
+        let name = format!(in alloc; "{number}")?;
+        names.get_or_intern(name.as_str())?;
+    }
+    Ok(len_of(&names))
+}
+
 #[test]
 fn all_of_many_items_are_printed(rt: HostRuntime) {
     const ITEMS: usize = 688_890;
-    const ENTRIES: usize = 1_377_780;
+    const PAIRS: usize = 1_377_780;
     let alloc = rt.alloc();
-    let arena: DedupArena<usize, usize> = DedupArena::from_iter(alloc, 0..100_000).expect(&rt, "");
-    let mut components: ComponentVec<usize, usize> = ComponentVec::new(alloc);
-    let (mut list, mut names) = (HeadVec::new(alloc), StringInterner::new(alloc));
-    for number in 0..100_000usize {
-        components.set(number, number).expect(&rt, "");
-        list.push(number).expect(&rt, "");
-        let name = format!(in alloc; "{number}").expect(&rt, "");
-        names.get_or_intern(name.as_str()).expect(&rt, "");
-    }
-    assert_equal!(rt; (len_of(&arena), len_of(&components)), (ENTRIES, ENTRIES + 29));
-    assert_equal!(rt; (len_of(&list), len_of(&names)), (ITEMS, ITEMS + 200_000));
+    assert_equal!(rt; bytes_of_arena(alloc), Ok(PAIRS));
+    assert_equal!(rt; bytes_of_components(alloc), Ok(PAIRS + 29));
+    assert_equal!(rt; bytes_of_list(alloc), Ok(ITEMS));
+    assert_equal!(rt; bytes_of_names(alloc), Ok(ITEMS + 200_000));
 }

@@ -113,34 +113,44 @@ fn sets_reply_as_the_table_says(rt: HostRuntime) {
 
 // To insert the keys 0 to 27, by both commands for it in turn.
 fn inserts<'l>(heap: Logged<'l>) -> Result<Vec<MapCommand<u32, u32>, Logged<'l>>, AllocError> {
-    (0..28u32)
-        .map(|key| match key % 2 {
+    let mut commands = Vec::with_capacity(heap, 28)?;
+    for key in 0..28u32 {
+        let command = match key % 2 {
             0 => MapCommand::Insert(key, key),
             _ => MapCommand::OrInsert(key, key),
-        })
-        .collect(heap)
+        };
+        commands.push(command)?;
+    }
+    Ok(commands)
 }
 
-// Inserts them by a run whose nth request for memory is refused; by another one, if it fails and no command ran;
-// and then by calls. Whether it failed, and how many commands were refused; `None` if the map doesn't have the keys
-// of the others after it, or all at last.
-fn refused_in_map<M: AnyMap<u32, u32>>(
-    heap: Logged<'_>,
+// Runs them, with the nth request for memory refused; once more, if that fails and no command ran. Whether it failed,
+// and the replies.
+fn run_inserts<'l, M: AnyMap<u32, u32>>(
+    heap: Logged<'l>,
     log: &Log,
     map: &mut M,
     nth: u64,
-) -> Result<Option<(bool, usize)>, ArenaError> {
+) -> Result<(bool, Vec<MapReply<u32>, Logged<'l>>), ArenaError> {
     let commands = inserts(heap)?;
     log.refuse_once(nth);
-    let (failed, replies) = match run_map(heap, map, commands) {
-        Ok(replies) => (false, replies),
+    match run_map(heap, map, commands) {
+        Ok(replies) => Ok((false, replies)),
         Err(ArenaError::OutOfSystemMemory) if map.len() == 0 => {
-            (true, run_map(heap, map, inserts(heap)?)?)
+            Ok((true, run_map(heap, map, inserts(heap)?)?))
         }
-        Err(error) => return Err(error),
-    };
+        Err(error) => Err(error),
+    }
+}
+
+// How many commands were refused, whose keys are then inserted by calls; `None` if the map doesn't have the keys of
+// the others alone.
+fn refused_of_map<M: AnyMap<u32, u32>>(
+    map: &mut M,
+    replies: &[MapReply<u32>],
+) -> Result<Option<usize>, ArenaError> {
     let mut refused = 0usize;
-    for (key, reply) in (0..28u32).zip(replies.iter()) {
+    for (key, reply) in (0..28u32).zip(replies) {
         let is_in = match reply {
             MapReply::Old(None) | MapReply::Has(false) => true,
             MapReply::Refused(ArenaError::OutOfSystemMemory) => false,
@@ -154,43 +164,74 @@ fn refused_in_map<M: AnyMap<u32, u32>>(
             let _none = map.insert(key, key)?;
         }
     }
-    // What is there needs no memory, and none is asked for.
+    Ok(Some(refused))
+}
+
+// Whether all keys are there, which needs no memory, and none is asked for.
+fn are_all_there<M: AnyMap<u32, u32>>(log: &Log, map: &mut M) -> Result<bool, ArenaError> {
     let asked = log.requests();
     log.refuse_from(1);
     for key in 0..28u32 {
         if map.insert(key, key)? != Some(key) || !map.or_insert(key, 0)? {
-            return Ok(None);
+            return Ok(false);
         }
     }
-    if log.requests() != asked {
+    log.refuse_none();
+    Ok(log.requests() == asked)
+}
+
+// Inserts them by a run whose nth request for memory is refused; by another one, if it fails and no command ran;
+// and then by calls. Whether it failed, and how many commands were refused; `None` if the map doesn't have the keys
+// of the others after it, or all at last.
+fn refused_in_map<M: AnyMap<u32, u32>>(
+    heap: Logged<'_>,
+    log: &Log,
+    map: &mut M,
+    nth: u64,
+) -> Result<Option<(bool, usize)>, ArenaError> {
+    let (failed, replies) = run_inserts(heap, log, map, nth)?;
+    let Some(refused) = refused_of_map(map, replies.as_slice())? else {
+        return Ok(None);
+    };
+    if !are_all_there(log, map)? {
         return Ok(None);
     }
-    log.refuse_none();
     Ok((map.len() == 28 && replies.len() == 28).then_some((failed, refused)))
 }
 
 // The same of the elements of a set.
 fn adds<'l>(heap: Logged<'l>) -> Result<Vec<SetCommand<u32>, Logged<'l>>, AllocError> {
-    (0..28u32)
-        .map(|element| SetCommand::Insert(element))
-        .collect(heap)
+    let mut commands = Vec::with_capacity(heap, 28)?;
+    for element in 0..28u32 {
+        commands.push(SetCommand::Insert(element))?;
+    }
+    Ok(commands)
 }
 
-fn refused_in_set<S: AnySet<u32>>(
-    heap: Logged<'_>,
+fn run_adds<'l, S: AnySet<u32>>(
+    heap: Logged<'l>,
     log: &Log,
     set: &mut S,
     nth: u64,
-) -> Result<Option<(bool, usize)>, ArenaError> {
+) -> Result<(bool, Vec<SetReply, Logged<'l>>), ArenaError> {
     let (commands, again) = (adds(heap)?, adds(heap)?);
     log.refuse_once(nth);
-    let (failed, replies) = match run_set(heap, set, commands) {
-        Ok(replies) => (false, replies),
-        Err(ArenaError::OutOfSystemMemory) if set.len() == 0 => (true, run_set(heap, set, again)?),
-        Err(error) => return Err(error),
-    };
+    match run_set(heap, set, commands) {
+        Ok(replies) => Ok((false, replies)),
+        Err(ArenaError::OutOfSystemMemory) if set.len() == 0 => Ok((
+            true,
+            run_set(heap, set, again)?,
+        )),
+        Err(error) => Err(error),
+    }
+}
+
+fn refused_of_set<S: AnySet<u32>>(
+    set: &mut S,
+    replies: &[SetReply],
+) -> Result<Option<usize>, ArenaError> {
     let mut refused = 0usize;
-    for (element, reply) in (0..28u32).zip(replies.iter()) {
+    for (element, reply) in (0..28u32).zip(replies) {
         let is_in = match reply {
             SetReply::Flag(true) => true,
             SetReply::Refused(ArenaError::OutOfSystemMemory) => false,
@@ -204,6 +245,19 @@ fn refused_in_set<S: AnySet<u32>>(
             let _new = set.insert(element)?;
         }
     }
+    Ok(Some(refused))
+}
+
+fn refused_in_set<S: AnySet<u32>>(
+    heap: Logged<'_>,
+    log: &Log,
+    set: &mut S,
+    nth: u64,
+) -> Result<Option<(bool, usize)>, ArenaError> {
+    let (failed, replies) = run_adds(heap, log, set, nth)?;
+    let Some(refused) = refused_of_set(set, replies.as_slice())? else {
+        return Ok(None);
+    };
     Ok((set.len() == 28 && replies.len() == 28).then_some((failed, refused)))
 }
 
@@ -251,25 +305,39 @@ fn a_full_hashed_map_stays_as_it_is(rt: HostRuntime) {
     assert_equal!(rt; log.requests(), asked);
 }
 
+// How many of 1,000 keys a run leaves that removes them from a hashed map, and how many requests it makes.
+fn removed_from_map(alloc: Global) -> Result<(usize, u64), ArenaError> {
+    let log = Log::new();
+    let heap = Logged::new(alloc, &log);
+    let mut map: hashed::Map<u32, u32, FixedState, Logged<'_>> = hashed::Map::new(heap);
+    let mut commands = Vec::new(alloc);
+    for key in 0..1_000u32 {
+        map.insert(key, key)?;
+        commands.push(MapCommand::Remove(key))?;
+    }
+    let asked = log.requests();
+    run_map(alloc, &mut map, commands)?;
+    Ok((map.len(), log.requests().wrapping_sub(asked)))
+}
+
+// The same of a hashed set.
+fn removed_from_set(alloc: Global) -> Result<(usize, u64), ArenaError> {
+    let log = Log::new();
+    let heap = Logged::new(alloc, &log);
+    let mut set: hashed::Set<u32, FixedState, Logged<'_>> = hashed::Set::new(heap);
+    let mut commands = Vec::new(alloc);
+    for element in 0..1_000u32 {
+        set.insert(element)?;
+        commands.push(SetCommand::Remove(element))?;
+    }
+    let asked = log.requests();
+    run_set(alloc, &mut set, commands)?;
+    Ok((set.len(), log.requests().wrapping_sub(asked)))
+}
+
 // What is taken out leaves its room to what comes.
 #[test]
 fn a_removal_asks_for_no_memory(rt: HostRuntime) {
-    let (log, alloc) = (Log::new(), rt.alloc());
-    let mut map: hashed::Map<u32, u32, FixedState, Logged<'_>> = hashed::Map::new(Logged::new(
-        alloc, &log,
-    ));
-    let mut set: hashed::Set<u32, FixedState, Logged<'_>> = hashed::Set::new(Logged::new(
-        alloc, &log,
-    ));
-    let (mut of_map, mut of_set) = (Vec::new(alloc), Vec::new(alloc));
-    for key in 0..1_000u32 {
-        map.insert(key, key).expect(&rt, "");
-        set.insert(key).expect(&rt, "");
-        of_map.push(MapCommand::Remove(key)).expect(&rt, "");
-        of_set.push(SetCommand::Remove(key)).expect(&rt, "");
-    }
-    let asked = log.requests();
-    run_map(alloc, &mut map, of_map).expect(&rt, "");
-    run_set(alloc, &mut set, of_set).expect(&rt, "");
-    assert_equal!(rt; (map.len(), set.len(), log.requests()), (0, 0, asked));
+    assert_equal!(rt; removed_from_map(rt.alloc()), Ok((0, 0)));
+    assert_equal!(rt; removed_from_set(rt.alloc()), Ok((0, 0)));
 }

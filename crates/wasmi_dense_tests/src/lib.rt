@@ -4,6 +4,8 @@
 #[cfg(test)]
 mod arenas;
 #[cfg(test)]
+mod asserts;
+#[cfg(test)]
 mod components;
 #[cfg(test)]
 mod large;

@@ -1,6 +1,11 @@
 //! The memory of interners: how much is asked for, and each request refused in turn.
-use crate::interner::{APART, HINTS, ONE_HASH, ONE_HOME, numbered};
+use crate::calls::{HINTS, compare, copy_of, extend, get, intern, intern_with_hint, resolve};
+use crate::numbered::{
+    APART, ONE_HASH, ONE_HOME, asked_for_text, counted, counted_since, find_numbers,
+    intern_numbers, numbered, with_texts,
+};
 use std::alloc::Global;
+use std::ops::Range;
 use std::process::Abort;
 use wasmi_arena::ArenaError;
 use wasmi_interner::{InternHint, StringInterner, Sym};
@@ -17,11 +22,18 @@ const LONG: &str = "a name that is longer than the room behind others";
 
 // Whether there are so many texts, the names from the first on.
 fn has_first(interner: &StringInterner<Logged<'_>>, len: usize) -> bool {
-    let known = (0u32..).zip(NAMES).take(len).all(|(number, name)| {
+    let mut number = 0u32;
+    for name in NAMES {
         let symbol = Sym::from_u32(number);
-        interner.get(name) == Some(symbol) && interner.resolve(symbol) == Some(name)
-    });
-    known && interner.len() == len
+        if symbol.into_usize() < len {
+            let found = (get(interner, name), resolve(interner, symbol));
+            if found != (Some(symbol), Some(name)) {
+                return false;
+            }
+        }
+        number = number.wrapping_add(1);
+    }
+    interner.len() == len
 }
 
 // Whether a name that was refused isn't there and all before it are, and has the next symbol the second time.
@@ -30,8 +42,8 @@ fn goes_on(
     len: usize,
     name: &str,
 ) -> Result<bool, ArenaError> {
-    let is_as_before = interner.get(name).is_none() && has_first(interner, len);
-    let symbol = interner.get_or_intern_with_hint(name, InternHint::LikelyNew)?;
+    let is_as_before = get(interner, name).is_none() && has_first(interner, len);
+    let symbol = intern_with_hint(interner, name, InternHint::LikelyNew)?;
     Ok(is_as_before && symbol.into_usize() == len)
 }
 
@@ -43,7 +55,7 @@ fn a_refused_text_changes_nothing(rt: HostRuntime) {
         let mut interner = StringInterner::new(Logged::new(rt.alloc(), &log));
         log.refuse_once(nth);
         for (len, name) in NAMES.into_iter().enumerate() {
-            if let Err(error) = interner.get_or_intern(name) {
+            if let Err(error) = intern(&mut interner, name) {
                 assert_equal!(rt; error, ArenaError::OutOfSystemMemory);
                 assert_equal!(rt; goes_on(&mut interner, len, name), Ok(true), "at {nth}");
                 refusals = refusals.wrapping_add(1);
@@ -70,14 +82,14 @@ fn refused_among(
     for number in 0..texts {
         let text = numbered(rt, alloc, around, number);
         let len = interner.len();
-        match interner.get_or_intern(text.as_str()) {
+        match intern(interner, text.as_str()) {
             Ok(symbol) => {
-                let found = (interner.get(text.as_str()), interner.resolve(symbol));
+                let found = (get(interner, text.as_str()), resolve(interner, symbol));
                 assert_equal!(*rt; found, (Some(symbol), Some(text.as_str())));
             }
             Err(error) => {
                 assert_equal!(*rt; error, ArenaError::OutOfSystemMemory);
-                assert_equal!(*rt; (interner.get(text.as_str()), interner.len()), (None, len));
+                assert_equal!(*rt; (get(interner, text.as_str()), interner.len()), (None, len));
                 refused = refused.wrapping_add(1);
             }
         }
@@ -125,66 +137,65 @@ fn each_request_refused_as_slots_are_doubled(rt: HostRuntime) {
     }
 }
 
+// How many slots are asked for when a text comes behind so many. They are doubled first behind these three numbers.
+fn slots_behind(number: u32, doubled: (u32, u32, u32)) -> u64 {
+    let (fifth, tenth, twentieth) = doubled;
+    for (texts, slots) in [
+        (0, 39),
+        (fifth, 47),
+        (tenth, 63),
+        (twentieth, 95),
+        (40, 159),
+        (80, 287),
+    ] {
+        if texts == number {
+            return slots;
+        }
+    }
+    0
+}
+
+// Interns the texts of a hundred numbers, each of which is its symbol, and some of which are refused slots.
+fn double_slots(
+    rt: &impl Abort,
+    interner: &mut StringInterner<Logged<'_>>,
+    log: &Log,
+    alloc: Global,
+    refused: Range<u32>,
+    doubled: (u32, u32, u32),
+) {
+    for number in 0..100u32 {
+        let is_refused = refused.contains(&number);
+        if is_refused {
+            log.refuse_from(1);
+        } else {
+            log.refuse_none();
+        }
+        let text = numbered(rt, alloc, APART, number);
+        let before = counted(log);
+        let symbol = intern(interner, text.as_str());
+        assert_equal!(*rt; symbol, Ok(Sym::from_u32(number)));
+        let (_, bytes, clones) = counted_since(log, before);
+        if !is_refused {
+            let slots = slots_behind(number, doubled);
+            let wanted = (slots.wrapping_mul(8), u64::from(slots != 0));
+            assert_equal!(*rt; (bytes, clones), wanted, "behind {number}");
+        }
+    }
+}
+
 // So many slots of eight bytes, and a clone of the handle for them, when a text comes behind so many. The texts have
 // room from before. Where slots are refused from the second time on, the first 39 take 32 texts, whatever their homes.
 #[test]
 fn slots_are_doubled_in_turn(rt: HostRuntime) {
     let log = Log::new();
     let mut interner = with_texts(&rt, Logged::new(rt.alloc(), &log), rt.alloc(), APART, 100);
-    for (refused, fifth, tenth, twentieth) in [(0..0, 5, 10, 20), (1..32, 32, 33, 34)] {
-        let ends = [
-            (0, 39),
-            (fifth, 47),
-            (tenth, 63),
-            (twentieth, 95),
-            (40, 159),
-            (80, 287),
-        ];
-        interner.clear();
-        for number in 0..100u32 {
-            let is_refused = refused.contains(&number);
-            if is_refused {
-                log.refuse_from(1);
-            } else {
-                log.refuse_none();
-            }
-            let text = numbered(&rt, rt.alloc(), APART, number);
-            let (bytes, clones) = (log.bytes(), log.clones());
-            let symbol = interner.get_or_intern(text.as_str()).expect(&rt, "");
-            assert_equal!(rt; symbol.into_u32(), number);
-            let slots: u64 = ends
-                .iter()
-                .find(|row| row.0 == number)
-                .map_or(0, |row| row.1);
-            if !is_refused {
-                let (bytes, clones) = (
-                    log.bytes().wrapping_sub(bytes),
-                    log.clones().wrapping_sub(clones),
-                );
-                assert_equal!(rt; (bytes, clones), (slots.wrapping_mul(8), u64::from(slots != 0)), "behind {number}");
-            }
-        }
-        for number in 0..100 {
-            let text = numbered(&rt, rt.alloc(), APART, number);
-            assert_equal!(rt; interner.get(text.as_str()), Some(Sym::from_u32(number)));
-        }
-    }
-}
-
-// An interner of so many texts.
-fn with_texts<'l>(
-    rt: &impl Abort,
-    handle: Logged<'l>,
-    alloc: Global,
-    around: (&str, &str),
-    texts: u32,
-) -> StringInterner<Logged<'l>> {
-    let mut interner = StringInterner::new(handle);
-    for number in 0..texts {
-        let text = numbered(rt, alloc, around, number);
-        interner.get_or_intern(text.as_str()).expect(rt, "");
-    }
-    interner
+    interner.clear();
+    double_slots(&rt, &mut interner, &log, rt.alloc(), 0..0, (5, 10, 20));
+    find_numbers(&rt, &interner, rt.alloc(), APART, 100, true);
+    interner.clear();
+    double_slots(&rt, &mut interner, &log, rt.alloc(), 1..32, (32, 33, 34));
+    find_numbers(&rt, &interner, rt.alloc(), APART, 100, true);
 }
 
 // Behind 4,096 texts of one hash one more asks for eight blocks in the place of sixteen and for their list, for a longer
@@ -198,20 +209,13 @@ fn refused_blocks_of_the_rest_are_joined_later(rt: HostRuntime) {
         let mut interner = with_texts(&rt, handle, rt.alloc(), ONE_HASH, 4096);
         let more = numbered(&rt, rt.alloc(), ONE_HASH, 4096);
         log.refuse_once(nth);
-        if interner.get_or_intern(more.as_str()).is_err() {
-            assert_equal!(rt; (interner.get(more.as_str()), interner.len()), (None, 4096));
+        if intern(&mut interner, more.as_str()).is_err() {
+            assert_equal!(rt; (get(&interner, more.as_str()), interner.len()), (None, 4096));
             refusals = refusals.wrapping_add(1);
         }
-        assert_equal!(rt; interner.get_or_intern(more.as_str()), Ok(Sym::from_u32(4096)));
+        assert_equal!(rt; intern(&mut interner, more.as_str()), Ok(Sym::from_u32(4096)));
         // Each of them once, and then each 64th.
-        for number in 0..4096 {
-            if 1 < nth && number % 64 != 0 {
-                continue;
-            }
-            let text = numbered(&rt, rt.alloc(), ONE_HASH, number);
-            let found = interner.get(text.as_str());
-            assert_equal!(rt; found, Some(Sym::from_u32(number)), "at {nth}");
-        }
+        find_numbers(&rt, &interner, rt.alloc(), ONE_HASH, 4096, nth <= 1);
         drop(interner);
         assert_equal!(rt; log.amiss(), 0);
     }
@@ -233,23 +237,15 @@ fn blocks_of_the_rest_widen_in_turn(rt: HostRuntime) {
         let log = Log::new();
         let handle = Logged::new(rt.alloc(), &log);
         let mut interner = with_texts(&rt, handle, rt.alloc(), ONE_HASH, texts);
-        let more = numbered(&rt, rt.alloc(), ONE_HASH, texts);
-        let (requests, bytes, clones) = (log.requests(), log.bytes(), log.clones());
-        interner.get_or_intern(more.as_str()).expect(&rt, "");
-        let made = (
-            log.requests().wrapping_sub(requests),
-            log.bytes().wrapping_sub(bytes),
-            log.clones().wrapping_sub(clones),
-        );
+        let made = asked_for_text(&rt, &mut interner, &log, rt.alloc(), ONE_HASH, texts);
         let blocks = log.given().wrapping_sub(log.returned());
         assert_equal!(rt; (made, blocks), (asked, held), "behind {texts}");
         interner.clear();
-        for (number, size) in [(0, 312), (1, 128)] {
-            let text = numbered(&rt, rt.alloc(), ONE_HASH, number);
-            let bytes = log.bytes();
-            interner.get_or_intern(text.as_str()).expect(&rt, "");
-            assert_equal!(rt; log.bytes().wrapping_sub(bytes), size, "after {texts}");
-        }
+        let sizes = (
+            asked_for_text(&rt, &mut interner, &log, rt.alloc(), ONE_HASH, 0).1,
+            asked_for_text(&rt, &mut interner, &log, rt.alloc(), ONE_HASH, 1).1,
+        );
+        assert_equal!(rt; sizes, (312, 128), "after {texts}");
         drop(interner);
         assert_equal!(rt; log.amiss(), 0);
     }
@@ -259,11 +255,26 @@ fn blocks_of_the_rest_widen_in_turn(rt: HostRuntime) {
 fn with_names<'l>(handle: Logged<'l>) -> Result<StringInterner<Logged<'l>>, ArenaError> {
     let mut interner = StringInterner::new(handle);
     for name in NAMES {
-        if interner.get_or_intern(name).is_err() {
-            let _symbol = interner.get_or_intern_with_hint(name, InternHint::LikelyNew)?;
+        if intern(&mut interner, name).is_err() {
+            let _symbol = intern_with_hint(&mut interner, name, InternHint::LikelyNew)?;
         }
     }
     Ok(interner)
+}
+
+// Interns a text that is there, under each hint and without a request.
+fn intern_with_hints(
+    rt: &impl Abort,
+    interner: &mut StringInterner<Logged<'_>>,
+    log: &Log,
+    text: &str,
+    number: u32,
+) {
+    let asked = log.requests();
+    for hint in HINTS {
+        let symbol = intern_with_hint(interner, text, hint);
+        assert_equal!(*rt; (symbol, log.requests()), (Ok(Sym::from_u32(number)), asked));
+    }
 }
 
 // What is there needs no memory, whatever the hint, and whichever request was refused before.
@@ -274,12 +285,8 @@ fn a_text_that_is_there_needs_no_memory(rt: HostRuntime) {
         log.refuse_once(nth);
         let mut interner = with_names(Logged::new(rt.alloc(), &log)).expect(&rt, "");
         log.refuse_from(1);
-        let asked = log.requests();
-        for hint in HINTS {
-            let symbol = interner.get_or_intern_with_hint("global", hint);
-            assert_equal!(rt; (symbol, log.requests()), (Ok(Sym::from_u32(3)), asked));
-        }
-        assert!(rt; interner.get_or_intern(LONG).is_err());
+        intern_with_hints(&rt, &mut interner, &log, "global", 3);
+        assert!(rt; intern(&mut interner, LONG).is_err());
         assert!(rt; has_first(&interner, 10), "at {nth}");
         drop(interner);
         assert_equal!(rt; log.amiss(), 0);
@@ -291,13 +298,9 @@ fn a_text_that_is_there_needs_no_memory(rt: HostRuntime) {
 fn a_long_text_that_is_there_needs_no_memory(rt: HostRuntime) {
     let log = Log::new();
     let mut interner = StringInterner::new(Logged::new(rt.alloc(), &log));
-    assert_equal!(rt; interner.get_or_intern(LONG), Ok(Sym::from_u32(0)));
-    let asked = log.requests();
+    assert_equal!(rt; intern(&mut interner, LONG), Ok(Sym::from_u32(0)));
     log.refuse_from(1);
-    for hint in HINTS {
-        let symbol = interner.get_or_intern_with_hint(LONG, hint);
-        assert_equal!(rt; (symbol, log.requests()), (Ok(Sym::from_u32(0)), asked));
-    }
+    intern_with_hints(&rt, &mut interner, &log, LONG, 0);
 }
 
 // The request for its bytes is refused. One for where it lies is in `a_refused_text_changes_nothing`.
@@ -305,22 +308,27 @@ fn a_long_text_that_is_there_needs_no_memory(rt: HostRuntime) {
 fn a_third_text_is_refused(rt: HostRuntime) {
     let log = Log::new();
     let mut interner = StringInterner::new(Logged::new(rt.alloc(), &log));
-    interner.extend(["a", "b"]).expect(&rt, "");
+    extend(&mut interner, &["a", "b"]).expect(&rt, "");
     log.refuse_from(1);
-    assert_equal!(rt; interner.get_or_intern(LONG), Err(ArenaError::OutOfSystemMemory));
-    assert_equal!(rt; (interner.get(LONG), interner.len()), (None, 2));
+    assert_equal!(rt; intern(&mut interner, LONG), Err(ArenaError::OutOfSystemMemory));
+    assert_equal!(rt; (get(&interner, LONG), interner.len()), (None, 2));
     log.refuse_none();
-    assert_equal!(rt; interner.get_or_intern(LONG), Ok(Sym::from_u32(2)));
+    assert_equal!(rt; intern(&mut interner, LONG), Ok(Sym::from_u32(2)));
 }
 
 // An interner of the names and two texts of one hash.
 fn with_rest<'l>(rt: &impl Abort, handle: Logged<'l>, alloc: Global) -> StringInterner<Logged<'l>> {
     let mut interner = with_names(handle).expect(rt, "");
-    for number in 0..2 {
-        let text = numbered(rt, alloc, ONE_HASH, number);
-        interner.get_or_intern(text.as_str()).expect(rt, "");
-    }
+    intern_numbers(rt, &mut interner, alloc, ONE_HASH, 0..2);
     interner
+}
+
+// How many requests a clone makes, which is as its source.
+fn clone_requests(rt: &impl Abort, interner: &StringInterner<Logged<'_>>, log: &Log) -> u64 {
+    let before = counted(log);
+    let copy = copy_of(rt, interner);
+    compare(rt, &copy, interner);
+    counted_since(log, before).0
 }
 
 // One for the texts, one for where they lie, and one for the slots. Two more for the rest.
@@ -328,14 +336,10 @@ fn with_rest<'l>(rt: &impl Abort, handle: Logged<'l>, alloc: Global) -> StringIn
 fn a_clone_asks_for_five_blocks(rt: HostRuntime) {
     let log = Log::new();
     let handle = Logged::new(rt.alloc(), &log);
-    for (interner, blocks) in [
-        (with_names(handle).expect(&rt, ""), 3),
-        (with_rest(&rt, handle, rt.alloc()), 5),
-    ] {
-        let before = log.requests();
-        let copy = interner.clone().expect(&rt, "");
-        assert_equal!(rt; (log.requests().wrapping_sub(before), &copy), (blocks, &interner));
-    }
+    let interner = with_names(handle).expect(&rt, "");
+    assert_equal!(rt; clone_requests(&rt, &interner, &log), 3);
+    let interner = with_rest(&rt, handle, rt.alloc());
+    assert_equal!(rt; clone_requests(&rt, &interner, &log), 5);
 }
 
 #[test]
@@ -348,7 +352,7 @@ fn a_refused_clone_leaves_its_source(rt: HostRuntime) {
         assert_equal!(rt; refused, Some(ArenaError::OutOfSystemMemory), "at {nth}");
         assert!(rt; has_first(&interner, 12), "at {nth}");
     }
-    assert_equal!(rt; &interner.clone().expect(&rt, ""), &interner);
+    compare(&rt, &copy_of(&rt, &interner), &interner);
     drop(interner);
     assert_equal!(rt; log.amiss(), 0);
 }
@@ -357,13 +361,13 @@ fn a_refused_clone_leaves_its_source(rt: HostRuntime) {
 fn an_empty_interner_is_cloned(rt: HostRuntime) {
     let log = Log::new();
     let mut interner = StringInterner::new(Logged::new(rt.alloc(), &log));
-    interner.get_or_intern("a").expect(&rt, "");
+    intern(&mut interner, "a").expect(&rt, "");
     interner.clear();
     log.refuse_from(1);
-    let mut copy = interner.clone().expect(&rt, "");
-    assert_equal!(rt; &copy, &interner);
+    let mut copy = copy_of(&rt, &interner);
+    compare(&rt, &copy, &interner);
     log.refuse_none();
-    assert_equal!(rt; copy.get_or_intern("b").expect(&rt, ""), Sym::from_u32(0));
+    assert_equal!(rt; intern(&mut copy, "b"), Ok(Sym::from_u32(0)));
 }
 
 // Nor does a new one, whatever the hint, but for slots or a block that it opens.
@@ -372,9 +376,13 @@ fn a_text_clones_no_handle(rt: HostRuntime) {
     let log = Log::new();
     let mut interner = with_texts(&rt, Logged::new(rt.alloc(), &log), rt.alloc(), APART, 50);
     let before = (log.requests(), log.clones());
-    for (hint, text) in HINTS.into_iter().zip(["import", "export", "x"]) {
+    for (hint, text) in [
+        (InternHint::None, "import"),
+        (InternHint::LikelyExists, "export"),
+        (InternHint::LikelyNew, "x"),
+    ] {
         for _ in 0..2 {
-            interner.get_or_intern_with_hint(text, hint).expect(&rt, "");
+            intern_with_hint(&mut interner, text, hint).expect(&rt, "");
         }
     }
     assert_equal!(rt; (log.requests(), log.clones()), before);
@@ -387,14 +395,12 @@ fn refused_slots_are_asked_for_once(rt: HostRuntime) {
     let mut interner = with_texts(&rt, Logged::new(rt.alloc(), &log), rt.alloc(), APART, 100);
     interner.clear();
     for number in 0..32u32 {
-        let text = numbered(&rt, rt.alloc(), APART, number);
         if number == 5 {
             log.refuse_from(1);
         }
-        let asked = log.requests();
-        interner.get_or_intern(text.as_str()).expect(&rt, "");
+        let (requests, _, _) = asked_for_text(&rt, &mut interner, &log, rt.alloc(), APART, number);
         let wanted = u64::from(number == 0 || 5 <= number);
-        assert_equal!(rt; log.requests().wrapping_sub(asked), wanted, "behind {number}");
+        assert_equal!(rt; requests, wanted, "behind {number}");
     }
 }
 
@@ -404,10 +410,8 @@ fn slots_are_doubled_beside_a_long_rest(rt: HostRuntime) {
     let log = Log::new();
     let handle = Logged::new(rt.alloc(), &log);
     let mut interner = with_texts(&rt, handle, rt.alloc(), ONE_HASH, 5120);
-    let more = numbered(&rt, rt.alloc(), APART, 0);
-    let (requests, bytes) = (log.requests(), log.bytes());
-    interner.get_or_intern(more.as_str()).expect(&rt, "");
-    assert_equal!(rt; (log.requests().wrapping_sub(requests), log.bytes().wrapping_sub(bytes)), (1, 131_320));
+    let (requests, bytes, _) = asked_for_text(&rt, &mut interner, &log, rt.alloc(), APART, 0);
+    assert_equal!(rt; (requests, bytes), (1, 131_320));
 }
 
 #[test]
@@ -417,7 +421,7 @@ fn long_texts_ask_seldom(rt: HostRuntime) {
     let long = "x".repeat(rt.alloc(), 5_000).expect(&rt, "");
     for number in 0..1_000u32 {
         let text = format!(in rt.alloc(); "{number}{}", long.as_str()).expect(&rt, "");
-        interner.get_or_intern(text.as_str()).expect(&rt, "");
+        intern(&mut interner, text.as_str()).expect(&rt, "");
     }
     assert!(rt; log.requests() < 50, "{} requests", log.requests());
 }

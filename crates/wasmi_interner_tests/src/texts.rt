@@ -1,4 +1,5 @@
 //! The texts of an interner: visited, handed in by an iterator, and dropped.
+use crate::calls::{extend, get, resolve};
 use std::hash::{DefaultHasher, Hash, Hasher};
 use wasmi_arena::{ArenaError, ArenaKey};
 use wasmi_interner::{StringInterner, Sym};
@@ -7,10 +8,13 @@ use wasmi_vectors::observed::{Log, Observed};
 
 const NAMES: [&str; 5] = ["memory", "table", "", "global", "é"];
 
+// A text for which there is no room behind those of one letter.
+const LONG: &str = "a name that is longer than the room behind others";
+
 #[test]
 fn texts_are_visited_from_both_ends(rt: HostRuntime) {
     let mut interner = StringInterner::new(rt.alloc());
-    interner.extend(NAMES).expect(&rt, "");
+    extend(&mut interner, &NAMES).expect(&rt, "");
     let mut left = interner.iter();
     for (from_back, number, text, len) in [
         (true, 4, "é", 4),
@@ -29,7 +33,7 @@ fn texts_are_visited_from_both_ends(rt: HostRuntime) {
         assert_equal!(rt; left.len(), len);
     }
     for (symbol, text) in &interner {
-        assert_equal!(rt; interner.resolve(symbol), Some(text));
+        assert_equal!(rt; resolve(&interner, symbol), Some(text));
     }
 }
 
@@ -54,21 +58,21 @@ fn texts_of_an_iterator_are_interned(rt: HostRuntime) {
     let mut interner = StringInterner::new(&handle);
     interner.extend(NAMES).expect(&rt, "");
     let asked = log.requests();
-    interner.extend(["é", "", "table", ""]).expect(&rt, "");
+    extend(&mut interner, &["é", "", "table", ""]).expect(&rt, "");
     assert_equal!(rt; (interner.len(), log.requests()), (5, asked));
     interner.clear();
     assert_equal!(rt; (interner.len(), interner.contains("table"), log.requests()), (0, false, asked));
-    interner.extend(["x"]).expect(&rt, "");
+    extend(&mut interner, &["x"]).expect(&rt, "");
     log.refuse_once(1);
-    let long = "a name that is longer than the room behind others";
-    let mut more = ["", "x", long, "z"].into_iter();
+    let mut more = ["", "x", LONG, "z"].into_iter();
     assert_equal!(rt; interner.extend(&mut more), Err(ArenaError::OutOfSystemMemory));
     assert_equal!(rt; more.next(), Some("z"));
-    for (text, is_there) in [("x", true), ("", true), (long, false), ("z", false)] {
-        assert_equal!(rt; interner.contains(text), is_there, "of {text}");
-    }
-    interner.extend(["z", long]).expect(&rt, "");
-    assert_equal!(rt; interner.get(long), Some(Sym::from_u32(3)));
+    let before = (interner.contains("x"), interner.contains(""));
+    assert_equal!(rt; before, (true, true));
+    let behind = (interner.contains(LONG), interner.contains("z"));
+    assert_equal!(rt; behind, (false, false));
+    extend(&mut interner, &["z", LONG]).expect(&rt, "");
+    assert_equal!(rt; get(&interner, LONG), Some(Sym::from_u32(3)));
     if interner.len() > 1 {
         assert_equal!(rt; interner.text(Sym::from_u32(1)), "");
     }

@@ -1,5 +1,7 @@
 //! What entries and refused calls of both backings drop.
+use std::alloc::Global;
 use std::cell::Cell;
+use std::process::Abort;
 use std::rc::Rc;
 use std::test::Fail;
 use wasmi_hashed::hash::FixedState;
@@ -11,32 +13,72 @@ use wasmi_vectors::logged::Logged;
 use wasmi_vectors::noted::{Noted, Notes};
 use wasmi_vectors::observed::Log;
 
+// An element that finds no memory is dropped, and so are those of a set that is cleared.
+macro_rules! set_drops {
+    ($rt:ident, $set:expr, $log:ident, $notes:ident) => {{
+        let mut set = $set;
+        $log.refuse_from(1);
+        assert_equal!(*$rt; set.replace(Noted::new(1, &$notes)).is_err(), true);
+        assert_equal!(*$rt; $notes.dropped(), 1);
+        assert_equal!(*$rt; set.insert(Noted::new(1, &$notes)).is_err(), true);
+        assert_equal!(*$rt; $notes.dropped(), 1);
+        $log.refuse_none();
+        for number in 0..100 {
+            assert_equal!(*$rt; set.insert(Noted::new(number, &$notes)).is_ok(), true);
+        }
+        set.clear();
+        assert_equal!(*$rt; $notes.dropped(), 100);
+    }};
+}
+
+// The same of the keys of a map.
+macro_rules! map_drops {
+    ($rt:ident, $map:expr, $log:ident, $notes:ident) => {{
+        let mut map = $map;
+        $log.refuse_from(1);
+        assert_equal!(*$rt; map.entry(Noted::new(1, &$notes)).is_err(), true);
+        assert_equal!(*$rt; $notes.dropped(), 1);
+        $log.refuse_none();
+        for number in 0..100 {
+            assert_equal!(*$rt; map.insert(Noted::new(number, &$notes), 0).is_ok(), true);
+        }
+        map.clear();
+        assert_equal!(*$rt; $notes.dropped(), 100);
+    }};
+}
+
+fn ordered_set_drops(rt: &impl Abort, alloc: Global) {
+    let (log, notes) = (Log::new(), Notes::new());
+    let set: TreeSet<Noted<'_>, Logged<'_>> = TreeSet::new(Logged::new(alloc, &log));
+    set_drops!(rt, set, log, notes);
+}
+
+fn hashed_set_drops(rt: &impl Abort, alloc: Global) {
+    let (log, notes) = (Log::new(), Notes::new());
+    let set: HashSet<Noted<'_>, FixedState, Logged<'_>> = HashSet::new(Logged::new(alloc, &log));
+    set_drops!(rt, set, log, notes);
+}
+
+fn ordered_map_drops(rt: &impl Abort, alloc: Global) {
+    let (log, notes) = (Log::new(), Notes::new());
+    let heap = Logged::new(alloc, &log);
+    let map: ordered::Map<Noted<'_>, u32, Logged<'_>> = ordered::Map::new(heap);
+    map_drops!(rt, map, log, notes);
+}
+
+fn hashed_map_drops(rt: &impl Abort, alloc: Global) {
+    let (log, notes) = (Log::new(), Notes::new());
+    let heap = Logged::new(alloc, &log);
+    let map: hashed::Map<Noted<'_>, u32, FixedState, Logged<'_>> = hashed::Map::new(heap);
+    map_drops!(rt, map, log, notes);
+}
+
 #[test]
 fn what_finds_no_memory_or_is_cleared_is_dropped(rt: HostRuntime) {
-    let (log, notes) = (Log::new(), Notes::new());
-    let heap = Logged::new(rt.alloc(), &log);
-    let mut tree: TreeSet<Noted<'_>, Logged<'_>> = TreeSet::new(heap);
-    let mut hash: HashSet<Noted<'_>, FixedState, Logged<'_>> = HashSet::new(heap);
-    let mut ordered: ordered::Map<Noted<'_>, u32, Logged<'_>> = ordered::Map::new(heap);
-    let mut hashed: hashed::Map<Noted<'_>, u32, FixedState, Logged<'_>> = hashed::Map::new(heap);
-    log.refuse_from(1);
-    let key = || Noted::new(1, &notes);
-    let refused = (tree.replace(key()).is_err(), hash.replace(key()).is_err());
-    assert_equal!(rt; (refused, notes.dropped()), ((true, true), 2));
-    let refused = (tree.insert(key()).is_err(), hash.insert(key()).is_err());
-    assert_equal!(rt; (refused, notes.dropped()), ((true, true), 2));
-    assert!(rt; ordered.entry(key()).is_err());
-    assert_equal!(rt; notes.dropped(), 1);
-    assert!(rt; hashed.entry(key()).is_err());
-    assert_equal!(rt; notes.dropped(), 1);
-    log.refuse_none();
-    for number in 0..100 {
-        let key = || Noted::new(number, &notes);
-        assert!(rt; tree.insert(key()).is_ok() && hash.insert(key()).is_ok());
-        assert!(rt; ordered.insert(key(), 0).is_ok() && hashed.insert(key(), 0).is_ok());
-    }
-    (tree.clear(), hash.clear(), ordered.clear(), hashed.clear());
-    assert_equal!(rt; notes.dropped(), 400);
+    ordered_set_drops(&rt, rt.alloc());
+    hashed_set_drops(&rt, rt.alloc());
+    ordered_map_drops(&rt, rt.alloc());
+    hashed_map_drops(&rt, rt.alloc());
 }
 
 // Values that an entry doesn't keep.

@@ -2,6 +2,7 @@
 ghost use Rattle.std.specs.Iterator.{IsFinite};
 
 use std::alloc::{AllocError, Global};
+use std::process::Abort;
 use wasmi_hashed as hashed;
 use wasmi_ordered as ordered;
 use wasmi_vectors::assert_equal;
@@ -70,35 +71,68 @@ fn is<T: Ord + Drop>(items: Vec<T>, want: &[T], is_hashed: bool) -> bool {
 
 const PAIRS: [(u32, u32); 6] = [(1, 2), (2, 4), (3, 6), (4, 8), (5, 10), (6, 12)];
 
-macro_rules! walk {
-    ($rt:ident, $backing:ident, $is_hashed:literal) => {{
+// A map of six keys, each over its double.
+macro_rules! six {
+    ($rt:ident, $backing:ident, $alloc:ident) => {{
         let six = [4, 2, 6, 1, 3, 5u32].map(|key| (key, key.wrapping_mul(2)));
-        let map = $backing::Map::from_iter($rt.alloc(), six).expect(&$rt, "");
-        assert_equal!($rt; (map.iter().len(), map.keys().len(), map.values().len()), (6, 6, 6));
-        for (key, value) in &map {
-            assert_equal!($rt; *value, key.wrapping_mul(2));
-        }
-        let (one, other) = (map.clone().expect(&$rt, ""), map.clone().expect(&$rt, ""));
-        let pairs = map.keys().copied().zip(map.values().copied());
-        let pairs: Vec<(u32, u32)> = pairs.collect($rt.alloc()).expect(&$rt, "");
-        assert!($rt; is(pairs, &PAIRS, $is_hashed));
-        let pairs: Vec<(u32, u32)> = map.into_iter().collect($rt.alloc()).expect(&$rt, "");
-        assert!($rt; is(pairs, &PAIRS, $is_hashed));
-        let keys: Vec<u32> = one.into_keys().collect($rt.alloc()).expect(&$rt, "");
-        assert!($rt; is(keys, &[1, 2, 3, 4, 5, 6], $is_hashed));
-        let values: Vec<u32> = other.into_values().collect($rt.alloc()).expect(&$rt, "");
-        assert!($rt; is(values, &[2, 4, 6, 8, 10, 12], $is_hashed));
+        $backing::Map::from_iter($alloc, six).expect($rt, "")
     }};
+}
+
+// The entries of a map by its iterators.
+macro_rules! lent {
+    ($rt:ident, $backing:ident, $alloc:ident, $is_hashed:literal) => {{
+        let map = six!($rt, $backing, $alloc);
+        assert_equal!(*$rt; (map.iter().len(), map.keys().len(), map.values().len()), (6, 6, 6));
+        for (key, value) in &map {
+            assert_equal!(*$rt; *value, key.wrapping_mul(2));
+        }
+        let pairs = map.keys().copied().zip(map.values().copied());
+        let pairs: Vec<(u32, u32)> = pairs.collect($alloc).expect($rt, "");
+        assert_equal!(*$rt; is(pairs, &PAIRS, $is_hashed), true);
+    }};
+}
+
+// The same by value.
+macro_rules! taken {
+    ($rt:ident, $backing:ident, $alloc:ident, $is_hashed:literal) => {{
+        let map = six!($rt, $backing, $alloc);
+        let (one, other) = (map.clone().expect($rt, ""), map.clone().expect($rt, ""));
+        let pairs: Vec<(u32, u32)> = map.into_iter().collect($alloc).expect($rt, "");
+        assert_equal!(*$rt; is(pairs, &PAIRS, $is_hashed), true);
+        let keys: Vec<u32> = one.into_keys().collect($alloc).expect($rt, "");
+        assert_equal!(*$rt; is(keys, &[1, 2, 3, 4, 5, 6], $is_hashed), true);
+        let values: Vec<u32> = other.into_values().collect($alloc).expect($rt, "");
+        assert_equal!(*$rt; is(values, &[2, 4, 6, 8, 10, 12], $is_hashed), true);
+    }};
+}
+
+fn hashed_lent(rt: &impl Abort, alloc: Global) {
+    lent!(rt, hashed, alloc, true);
+}
+
+fn hashed_taken(rt: &impl Abort, alloc: Global) {
+    taken!(rt, hashed, alloc, true);
 }
 
 #[test]
 fn walks_give_each_entry_once(rt: HostRuntime) {
-    walk!(rt, hashed, true);
+    hashed_lent(&rt, rt.alloc());
+    hashed_taken(&rt, rt.alloc());
+}
+
+fn ordered_lent(rt: &impl Abort, alloc: Global) {
+    lent!(rt, ordered, alloc, false);
+}
+
+fn ordered_taken(rt: &impl Abort, alloc: Global) {
+    taken!(rt, ordered, alloc, false);
 }
 
 #[test]
 fn walks_ascend(rt: HostRuntime) {
-    walk!(rt, ordered, false);
+    ordered_lent(&rt, rt.alloc());
+    ordered_taken(&rt, rt.alloc());
 }
 
 // Whether an iterator over two sets gives these elements.
@@ -118,68 +152,100 @@ fn gives<'a, I: Iterator<Item = &'a u32>>(
 }
 
 // What 1, 2, 3 and 2, 3, 4 make of each other.
-macro_rules! two_sets {
-    ($rt:ident, $backing:ident, $is_hashed:literal) => {{
-        let alloc = $rt.alloc();
-        let one = $backing::Set::from_iter(alloc, [3, 1, 2u32]).expect(&$rt, "");
-        let other = $backing::Set::from_iter(alloc, [4, 2, 3u32]).expect(&$rt, "");
+macro_rules! made {
+    ($rt:ident, $backing:ident, $alloc:ident, $is_hashed:literal) => {{
+        let one = $backing::Set::from_iter($alloc, [3, 1, 2u32]).expect($rt, "");
+        let other = $backing::Set::from_iter($alloc, [4, 2, 3u32]).expect($rt, "");
         for (made, want) in [
             (one.bitand(&other), [2, 3].as_slice()),
             (one.bitor(&other), [1, 2, 3, 4].as_slice()),
             (one.bitxor(&other), [1, 4].as_slice()),
             (one.sub(&other), [1].as_slice()),
         ] {
-            let made = made.expect(&$rt, "");
-            assert!($rt; made != one && made.len() == made.iter().len());
-            assert_equal!($rt; gives(alloc, made.iter(), want, $is_hashed), Ok(true));
+            let made = made.expect($rt, "");
+            assert_equal!(*$rt; (made != one, made.len()), (true, made.iter().len()));
+            assert_equal!(*$rt; gives($alloc, made.iter(), want, $is_hashed), Ok(true));
         }
-        for (walked, want) in [
-            (gives(alloc, one.intersection(&other), &[2, 3], $is_hashed), true),
-            (gives(alloc, one.union(&other), &[1, 2, 3, 4], $is_hashed), true),
-            (gives(alloc, one.difference(&other), &[1], $is_hashed), true),
-            (gives(alloc, one.symmetric_difference(&other), &[1, 4], $is_hashed), true),
-            (gives(alloc, one.union(&other), &[1, 2, 3], $is_hashed), false),
-        ] {
-            assert_equal!($rt; walked, Ok(want));
-        }
-        let four = $backing::Set::from_iter(alloc, [4u32]).expect(&$rt, "");
-        let tests = (one.is_disjoint(&four), four.is_subset(&other), other.is_superset(&four));
-        assert_equal!($rt; tests, (true, true, true));
-        let tests = (one.is_disjoint(&other), one.is_subset(&other), one.is_superset(&other));
-        assert_equal!($rt; tests, (false, false, false));
-        let elements: Vec<u32> = one.into_iter().collect(alloc).expect(&$rt, "");
-        assert!($rt; is(elements, &[1, 2, 3], $is_hashed));
+        let elements: Vec<u32> = one.into_iter().collect($alloc).expect($rt, "");
+        assert_equal!(*$rt; is(elements, &[1, 2, 3], $is_hashed), true);
     }};
+}
+
+// What walks over both give, and how they lie to each other.
+macro_rules! walked {
+    ($rt:ident, $backing:ident, $alloc:ident, $is_hashed:literal) => {{
+        let one = $backing::Set::from_iter($alloc, [3, 1, 2u32]).expect($rt, "");
+        let other = $backing::Set::from_iter($alloc, [4, 2, 3u32]).expect($rt, "");
+        for (walked, want) in [
+            (gives($alloc, one.intersection(&other), &[2, 3], $is_hashed), true),
+            (gives($alloc, one.union(&other), &[1, 2, 3, 4], $is_hashed), true),
+            (gives($alloc, one.difference(&other), &[1], $is_hashed), true),
+            (gives($alloc, one.symmetric_difference(&other), &[1, 4], $is_hashed), true),
+            (gives($alloc, one.union(&other), &[1, 2, 3], $is_hashed), false),
+        ] {
+            assert_equal!(*$rt; walked, Ok(want));
+        }
+        let four = $backing::Set::from_iter($alloc, [4u32]).expect($rt, "");
+        let tests = (one.is_disjoint(&four), four.is_subset(&other), other.is_superset(&four));
+        assert_equal!(*$rt; tests, (true, true, true));
+        let tests = (one.is_disjoint(&other), one.is_subset(&other), one.is_superset(&other));
+        assert_equal!(*$rt; tests, (false, false, false));
+    }};
+}
+
+fn ordered_made(rt: &impl Abort, alloc: Global) {
+    made!(rt, ordered, alloc, false);
+}
+
+fn ordered_walked(rt: &impl Abort, alloc: Global) {
+    walked!(rt, ordered, alloc, false);
 }
 
 #[test]
 fn two_ordered_sets_make_others(rt: HostRuntime) {
-    two_sets!(rt, ordered, false);
+    ordered_made(&rt, rt.alloc());
+    ordered_walked(&rt, rt.alloc());
+}
+
+fn hashed_made(rt: &impl Abort, alloc: Global) {
+    made!(rt, hashed, alloc, true);
+}
+
+fn hashed_walked(rt: &impl Abort, alloc: Global) {
+    walked!(rt, hashed, alloc, true);
 }
 
 #[test]
 fn two_hashed_sets_make_others(rt: HostRuntime) {
-    two_sets!(rt, hashed, true);
+    hashed_made(&rt, rt.alloc());
+    hashed_walked(&rt, rt.alloc());
+}
+
+fn few_entries_are_printed(rt: &impl Abort, alloc: Global) {
+    let map = ordered::Map::from_iter(alloc, [(2, true), (1, false)]).expect(rt, "");
+    let set = ordered::Set::from_iter(alloc, [5, 3, 1, 4, 2]).expect(rt, "");
+    let text = format!(in alloc; "{map:?} {set:?}").expect(rt, "");
+    assert_equal!(*rt; text.as_str(), "{1: false, 2: true} {1, 2, 3, 4, 5}");
+    let map = hashed::Map::from_iter(alloc, [(2, true), (3, false)]).expect(rt, "");
+    let text = format!(in alloc; "{map:?}").expect(rt, "");
+    assert!(*rt; text.as_str() == "{2: true, 3: false}" || text.as_str() == "{3: false, 2: true}");
+    let set = hashed::Set::from_iter(alloc, [3, 5]).expect(rt, "");
+    let text = format!(in alloc; "{set:?}").expect(rt, "");
+    assert!(*rt; text.as_str() == "{3, 5}" || text.as_str() == "{5, 3}");
+}
+
+fn many_entries_are_printed(rt: &impl Abort, alloc: Global) {
+    let map = ordered::Map::from_iter(alloc, (0..5_000).map(|key| (key, key))).expect(rt, "");
+    let set = ordered::Set::from_iter(alloc, 0..5_000).expect(rt, "");
+    let text = format!(in alloc; "{set:?}{map:?}").expect(rt, "");
+    assert!(*rt; text.as_str().contains(", 4999}{") && text.as_str().ends_with(", 4999: 4999}"));
 }
 
 #[test]
 fn entries_are_printed(rt: HostRuntime) {
-    let alloc = rt.alloc();
-    let map = ordered::Map::from_iter(alloc, [(2, true), (1, false)]).expect(&rt, "");
-    let set = ordered::Set::from_iter(alloc, [5, 3, 1, 4, 2]).expect(&rt, "");
-    let text = format!(in alloc; "{map:?} {set:?}").expect(&rt, "");
-    assert_equal!(rt; text.as_str(), "{1: false, 2: true} {1, 2, 3, 4, 5}");
-    let map = hashed::Map::from_iter(alloc, [(2, true), (3, false)]).expect(&rt, "");
-    let text = format!(in alloc; "{map:?}").expect(&rt, "");
-    assert!(rt; text.as_str() == "{2: true, 3: false}" || text.as_str() == "{3: false, 2: true}");
-    let set = hashed::Set::from_iter(alloc, [3, 5]).expect(&rt, "");
-    let text = format!(in alloc; "{set:?}").expect(&rt, "");
-    assert!(rt; text.as_str() == "{3, 5}" || text.as_str() == "{5, 3}");
-    let map = ordered::Map::from_iter(alloc, (0..5_000).map(|key| (key, key))).expect(&rt, "");
-    let set = ordered::Set::from_iter(alloc, 0..5_000).expect(&rt, "");
-    let text = format!(in alloc; "{set:?}{map:?}").expect(&rt, "");
-    assert!(rt; text.as_str().contains(", 4999}{") && text.as_str().ends_with(", 4999: 4999}"));
-    let map: ordered::Map<u32, u32> = ordered::Map::new(alloc);
-    let set: hashed::Set<u32> = hashed::Set::new(alloc);
-    assert_equal!(rt; format!(in alloc; "{map:?}{set:?}").expect(&rt, "").as_str(), "{}{}");
+    few_entries_are_printed(&rt, rt.alloc());
+    many_entries_are_printed(&rt, rt.alloc());
+    let map: ordered::Map<u32, u32> = ordered::Map::new(rt.alloc());
+    let set: hashed::Set<u32> = hashed::Set::new(rt.alloc());
+    assert_equal!(rt; format!(in rt.alloc(); "{map:?}{set:?}").expect(&rt, "").as_str(), "{}{}");
 }

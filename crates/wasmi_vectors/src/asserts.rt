@@ -2,7 +2,7 @@
 //! says, and a test that uses it is proved several times as fast.
 //!
 //! `assert_eq!` writes a comparison, a branch and the text of a failure into the test, and each is
-//! proved there again, at the types of that line. `assert_equal!` is two calls without a branch.
+//! proved there again, at the types of that line. `assert_equal!` is one call without a result.
 ghost use Rattle.std.specs.Prelude.{◌↔◌, IsOk, IsTrue};
 
 use core::fmt::InlineText;
@@ -56,6 +56,9 @@ fn unequal<D: Display + Drop, T: Debug + Drop>(place: D, got: T, want: T) -> Dif
 /// Ends the test if two values are not equal, and prints both, as `assert_eq!` does. It takes the
 /// values, which a line with `&` keeps. What stands behind them says where, and is formatted.
 ///
+/// It calls `equal` or `equal_at` of the module `asserts` of the crate that it is written in: a library
+/// may not end the process.
+///
 /// ```text
 /// assert_equal!(rt; vec.len(), 3);
 /// assert_equal!(rt; &vec, &copy, "at {turn}");
@@ -63,10 +66,9 @@ fn unequal<D: Display + Drop, T: Debug + Drop>(place: D, got: T, want: T) -> Dif
 #[macro_export]
 macro_rules! assert_equal {
     ($rt:expr; $got:expr, $want:expr $(,)?) => {
-        $crate::asserts::equal($got, $want).expect(&$rt, "assertion `left == right` failed")
+        crate::asserts::equal(&$rt, $got, $want)
     };
     ($rt:expr; $got:expr, $want:expr, $($place:tt)+) => {
-        $crate::asserts::equal_at(format_args!($($place)+), $got, $want)
-            .expect(&$rt, "assertion `left == right` failed")
+        crate::asserts::equal_at(&$rt, format_args!($($place)+), $got, $want)
     };
 }
