@@ -110,9 +110,14 @@ pub fn entries_read<Key: ArenaKey, T>()
         → (n < length items) × (Key.keys.number entry.0 ≡ n) × (slice_get items n ≡ Some entry.1) }
 {}
 
-/// A `for` over an arena, or over its `iter`, gives keys that read: it began with the entries of the
-/// arena, gave some of them, and gives this one next.
+/// A `for` over an arena, or over its `iter`, gives the entries in turn, under keys that read: it began with the
+/// entries of the arena, gave some of them, and gives this one next.
 pub fn walked_entries_read<Key: ArenaKey, T>()
+    ensures place { (items : List T) (start : List (Key × T)) (seen : List (Key × Bor T)) (key : Key) (item : T)
+        (now left : List (Key × T)) → length items ≤ stable_limit Key.keys
+        → start ≡ entries Key.keys items
+        → Yields (YieldsFirstBy (λ entry. (entry.0, entry.1.now)) (λ entries. entries)) start seen now
+        → now ≡ (key, item) ∷ left → Key.keys.number key ≡ length seen }
     ensures within { (items : List T) (start : List (Key × T)) (seen : List (Key × Bor T)) (key : Key) (item : T)
         (now left : List (Key × T)) → length items ≤ stable_limit Key.keys
         → start ≡ entries Key.keys items
@@ -123,6 +128,14 @@ pub fn walked_entries_read<Key: ArenaKey, T>()
         → start ≡ entries Key.keys items
         → Yields (YieldsFirstBy (λ entry. (entry.0, entry.1.now)) (λ entries. entries)) start seen now
         → now ≡ (key, item) ∷ left → slice_get items (Key.keys.number key) ≡ Some item }
+{}
+
+/// A `for` over an arena, or over its `iter`, that has come to its end gave each entry once, in order.
+pub fn walked_entries_are_all<Key: ArenaKey, T>()
+    ensures { (items : List T) (start : List (Key × T)) (seen : List (Key × Bor T)) (now : List (Key × T))
+        → start ≡ entries Key.keys items
+        → Yields (YieldsFirstBy (λ entry. (entry.0, entry.1.now)) (λ entries. entries)) start seen now
+        → now ≡ [] → map (λ entry. (entry.0, entry.1.now)) seen ≡ entries Key.keys items }
 {}
 
 /// A `for` over the keys of n items gives keys that read: it began with these keys, gave some of them,

@@ -1,9 +1,11 @@
 //! Look-ups by the keys that a walk over an arena gives.
-ghost use Rattle.std.specs.Prelude.{◌≡◌, ◌<◌, ◌≤◌, length, slice_get, IfOk, IfSome, OnErr, Some};
+ghost use Rattle.std.specs.Prelude.{◌≡◌, ◌≢◌, ◌≤◌, ◌↔◌, length, nat_lt, slice_get, take, IfOk, IfSome, IsTrue, OnErr, Some};
+ghost use Rattle.std.specs.List.{find};
+ghost use Rattle.wasmi_arena.specs.Entries.{entries};
 
 use anyhow::{Context, Result};
 use std::fmt;
-use wasmi_arena::laws::walked_entries_read;
+use wasmi_arena::laws::{walked_entries_are_all, walked_entries_read};
 use wasmi_arena::{ArenaKey, StableArena};
 
 /// Whether an item differs from the one under its key in another arena, which has at least as many.
@@ -13,10 +15,12 @@ pub fn any_differs<Key: ArenaKey>(
     other: &StableArena<Key, u64>,
 ) -> bool
     requires { length one.now ≤ length other.now }
+    ensures { IsTrue result ↔ (take (length one.now) other.now ≢ one.now) }
 {
-    // proof: each position has a key, and a walk gives the entries of the positions.
+    // proof: each position has a key, and a walk gives the entries of the positions, all of them.
     one.len();
     walked_entries_read::<Key, u64>();
+    walked_entries_are_all::<Key, u64>();
     for (key, item) in one {
         if other[key] != *item {
             return true;
@@ -27,8 +31,8 @@ pub fn any_differs<Key: ArenaKey>(
 
 /// The key of the first item above a limit, with what it reads, if there is one. Linear.
 pub fn first_above<Key: ArenaKey>(arena: &StableArena<Key, u64>, limit: u64) -> Option<(Key, u64)>
-    ensures found { IfSome result (λ found. slice_get arena.now (Key.keys.number found.0) ≡ Some found.1) }
-    ensures above { IfSome result (λ found. limit < found.1) }
+    ensures first { result ≡ find (λ entry. nat_lt limit entry.1) (entries Key.keys arena.now) }
+    ensures reads { IfSome result (λ found. slice_get arena.now (Key.keys.number found.0) ≡ Some found.1) }
 {
     // proof: as above.
     arena.len();
