@@ -1,27 +1,11 @@
 -- A stable arena in memory is its vector, and a value without bytes. Assumes `Logic`.
 use mathlib.Core.Path.{◌≡◌, refl, sym, ap}
 use Prim.Native.Nat.{ℕ, zero, ◌+◌}
-use native.Mathlib.Omega.{arith}
+use Rattle.wasmi_arena.proofs.Steps.{arith, length, Ura, full_share, SProp, ent, sep, ex, align, up, Logic, sem, some, by, ‵, raw, ◌⊛◌, ◌$◌, ◌∵◌, !, qed, done, use1, use2, split, pick, rewrite, show, row, Lawfuls, part_at, mem, lone, view_owns, view_made, plain_out, Plain-in, param, param_laws, RattleType, Denots, Member, rows_of, PartsBack, rest_at, field_out, field_back, Struct}
 use mathlib.Core.List.{List, [], ◌∷◌}
-use lib.ListN.{length}
-use seplogic.Ra.Ura.{Ura}
-use base.Fraction.{full_share}
-use base.Logic.{SProp, ent, sep, ex}
-use prog.Memory.{align, up}
-use types.Logic.{Logic, sem}
-use types.Kit.{some, by, ‵, raw, ◌⊛◌, ◌$◌, ◌∵◌, !, qed, done, use1, use2, split, pick, rewrite, show}
-use denote.Index.{row}
-use denote.Laws.{Lawfuls}
-use denote.Memory.{part_at, part_of, mem, lone}
-use denote.Model.Fields.{view_owns, view_made, plain_out, Plain-in}
-use denote.Param.{param}
-use denote.Param.Laws.{param_laws}
-use denote.RattleType.{RattleType, Denots}
+use denote.Memory.{part_of}
 use denote.Struct.Declared as Declared
-use denote.Struct.Members.{Member, rows_of}
-use denote.Struct.Parts.{PartsBack}
-use denote.Struct.Pick.{rest_at, field_out, field_back}
-use denote.Struct.Struct.{Struct, Struct-Lawful}
+use denote.Struct.Struct.{Struct-Lawful}
 use Rattle.core.proofs.alloc.Calls.{Al}
 use Rattle.core.proofs.mem.Param.{El, R}
 use Rattle.core.proofs.slots.Leases.{P}

@@ -4,27 +4,13 @@
 use mathlib.Core.Path.{refl, sym}
 use Prim.Native.Nat.{ℕ, ◌+◌, ◌*◌, ◌<◌}
 use mathlib.Core.List.{List, [], ◌∷◌}
-use lib.ListN.{length, get_or}
-use seplogic.Ra.Ura.{Ura}
+use Rattle.wasmi_arena.proofs.Steps.{length, get_or, Ura, full_share, SProp, ent, sep, ex, Lft, GName, Share, Fml, fsep, flft, fobs, fauth, fbor, named, Val, vptr, ‵, raw, ◌⊛◌, later, ◌$◌, ◌∵◌, !, qed, done, move, keep, use1, use2, split, split3, fjoin, fjoin3, fpack, feq_i, rewrite, group, await, now, show, updating, Logic, sem, open_ref, SemTy, Body, follows, row, others, takes, puts, nth, place_is, mem, part_at, shares, RattleType, MutBor, MutRef, mut_vals}
 use base.Share
-use base.Fraction.{full_share}
-use base.Logic.{SProp, ent, sep, ex}
-use base.Fml.{Lft, GName, Share, Fml, fsep, flft, fobs, fauth, fbor, flent}
+use base.Fml.{flent}
 use ghost.Rules.{aged}
-use mir.Syntax.{named}
-use mir.Val.{Val, vptr}
 use types.Follow.{after, closes_following}
-use types.Kit.{‵, raw, ◌⊛◌, later, ◌$◌, ◌∵◌, !, qed, done, move, keep, use1, use2, split, split3, fjoin, fjoin3, fpack, feq_i, rewrite, group, await, now, show, updating}
 use types.Late.{deep, ages, bor_new_deep}
-use types.Logic.{Logic, sem}
-use types.Mut.{open_ref}
-use types.SemTy.{SemTy, Body}
 use types.Tokens.{name_new}
-use denote.Follow.{follows}
-use denote.Index.{row, others, takes, puts, place as nth, place_is}
-use denote.Memory.{mem, part_at, shares}
-use denote.RattleType.{RattleType}
-use denote.Ref.{MutBor, MutRef, mut_vals}
 use Rattle.core.proofs.alloc.Calls.{Al}
 use Rattle.core.proofs.mem.Param.{El, R}
 use Rattle.core.proofs.slots.Leases.{P}

@@ -3,33 +3,12 @@
 --     bucket_out      the place is opened to the pointer and the items, and closed at as many other items
 use mathlib.Core.Path.{◌≡◌, refl, sym, ap, subst, ◌∙◌}
 use Prim.Native.Nat.{ℕ, zero, ◌+◌, ◌*◌, ◌<◌, ◌^◌}
-use native.Mathlib.Nat.{zero-mul}
-use native.Mathlib.Omega.{arith}
+use Rattle.wasmi_arena.proofs.Steps.{zero-mul, arith, length, Ura, full_share, SProp, ent, sep, wand, ex, all, all_e, apply∗, never, id⊢, Share, Fml, fsep, fat, w64, Ty, Val, align, size, up, ‵, raw, ◌⊛◌, some, ◌$◌, ◌∵◌, !, qed, by, move, use1, use2, split, fsplit, fjoin, fpick, fpack, flt_l, flt_i, rewrite, pick, show, frame, each, assume, Logic, sem, usize, row, Is, Lawfuls, shows, part_at, cell_at, lone, view_owns, view_made, plain_out, Plain-in, Laws, param_laws, uint_Lawful, RattleType, Denots, Ptr, block_ptr, in_a_block, peeks, only, Member, rows_of, PartsBack, shape_of, Struct}
 use mathlib.Core.List.{List, [], ◌∷◌}
-use lib.ListN.{length}
-use seplogic.Ra.Ura.{Ura}
-use base.Fraction.{full_share}
-use base.Logic.{SProp, ent, sep, wand, ex, all, all_e, apply∗, never, id⊢}
-use base.Fml.{Share, Fml, fsep, fat}
-use mir.Syntax.{w64, Ty}
-use mir.Val.{Val}
-use prog.Memory.{align, size, up}
-use types.Kit.{‵, raw, ◌⊛◌, some, ◌$◌, ◌∵◌, !, qed, by, move, use1, use2, split, fsplit, fjoin, fpick, fpack, flt_l, flt_i, rewrite, pick, show, frame, each, assume}
-use types.Logic.{Logic, sem}
 use borrow.Table.OneValue.{part_out, part_in}
-use denote.Builtin.{usize}
-use denote.Index.{row}
-use denote.Laws.{Is, Lawfuls, shows}
-use denote.Memory.{part_at, part_of, cell_at, lone}
-use denote.Model.Fields.{view_owns, view_made, plain_out, Plain-in}
-use denote.Param.Laws.{Laws, param_laws}
-use denote.Plain.{uint_Lawful}
-use denote.RattleType.{RattleType, Denots}
-use denote.RawPtr.{Ptr, block_ptr, in_a_block}
-use denote.Steps.{peeks, only}
-use denote.Struct.Members.{Member, rows_of, parts_at}
-use denote.Struct.Parts.{PartsBack, Struct-parts, shape_of}
-use denote.Struct.Struct.{Struct}
+use denote.Memory.{part_of}
+use denote.Struct.Members.{parts_at}
+use denote.Struct.Parts.{Struct-parts}
 use Rattle.core.proofs.alloc.Calls.{Al}
 use Rattle.core.proofs.mem.Param.{El, R}
 use Rattle.core.proofs.ptr.Rows.{times_below}

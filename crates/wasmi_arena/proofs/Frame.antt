@@ -5,28 +5,12 @@
 use mathlib.Core.Path.{◌≡◌, refl, sym}
 use Prim.Native.Nat.{ℕ, zero, suc, ◌+◌, ◌*◌, ◌<◌, ◌^◌}
 use mathlib.Core.List.{List, [], ◌∷◌}
-use lib.ListN.{length}
-use seplogic.Ra.Ura.{Ura}
-use base.Fraction.{full_share}
-use base.Logic.{SProp, ent, sep, emp, never, id⊢, via}
+use Rattle.wasmi_arena.proofs.Steps.{length, Ura, full_share, SProp, ent, sep, emp, never, id⊢, Lft, GName, Share, Fml, ftrue, fsep, fobs, fbor, flft, fobor, fauth, named, w64, Val, Logic, sem, Item, Goal, Step, prop, ⋆, ‵, raw, ◌⊛◌, ◌$◌, ◌∵◌, !, qed, by, done, use0, move, keep, drop, split, fsplit3, fjoin3, feq_i, join, fsplit, fjoin, flt_l, flt_i, rewrite, Body, fact, Tells, Is, mem, cell_at, hidden_shr, RattleType, usize, uint_vals, Bor, ShrRef, shr_vals, MutBor, MutRef, mut_vals, param_laws, Ptr, block_ptr, in_a_block, nothing, heard, Struct}
+use base.Logic.{via}
 use base.Stored.{Gv}
-use base.Fml.{Lft, GName, Share, Fml, ftrue, fsep, fobs, fbor, flft, fobor, fauth}
-use mir.Syntax.{named, w64}
-use mir.Val.{Val}
-use types.Logic.{Logic, sem}
-use types.Kit.{Item, Goal, Soaks, Seq, Step, step, prop, ⋆, ‵, raw, ◌⊛◌, ◌$◌, ◌∵◌, !, qed, by, done, use0, move, keep, drop, split, fsplit3, fjoin3, feq_i, join, fsplit, fjoin, flt_l, flt_i, rewrite}
-use types.SemTy.{Body}
-use contract.Monad.{fact, fact_i}
-use denote.Laws.{Tells, Is}
-use denote.Memory.{mem, cell_at, hidden_shr}
-use denote.RattleType.{RattleType}
-use denote.Builtin.{usize}
-use denote.Plain.{uint_vals}
-use denote.Ref.{Bor, ShrRef, shr_vals, MutBor, MutRef, mut_vals}
-use denote.Param.Laws.{param_laws}
-use denote.RawPtr.{Ptr, block_ptr, in_a_block}
-use denote.Steps.{nothing, heard, opens, closes}
-use denote.Struct.Struct.{Struct}
+use types.Kit.{Soaks, Seq, step}
+use contract.Monad.{fact_i}
+use denote.Steps.{opens, closes}
 use denote.Struct.Owning.{shape}
 use Rattle.core.proofs.mem.Param.{El, R}
 use Rattle.std.specs.Mem.{type_size}

@@ -1,25 +1,12 @@
 -- Opened slots lend their items as one `&mut [T]`, or one item as a `&mut T`, and are slots again once it has ended. Assumes `Logic`.
 use mathlib.Core.Path.{◌≡◌, refl, sym, ap, subst, ◌∙◌}
 use Prim.Native.Nat.{ℕ, ◌+◌, ◌*◌, ◌<◌, ◌^◌}
-use native.Mathlib.Nat.{zero-mul}
-use native.Mathlib.Omega.{arith}
+use Rattle.wasmi_arena.proofs.Steps.{zero-mul, arith, length, get_or, set, length-set, Ura, full_share, SProp, ent, sep, Lft, GName, Share, Fml, fsep, fobor, fobs, fauth, named, Val, Logic, sem, ⋆, ‵, raw, ◌⊛◌, some, later, ◌$◌, ◌∵◌, !, qed, by, done, move, use1, use2, split, group, rewrite, fsplit, fsplit3, fjoin, fjoin3, fpack, flt_i, Body, cells, Part, lends_Part, row, others, takes, puts, place_is, nth, mem, cell_at, part_at, shares, Ptr, block_ptr}
 use mathlib.Core.List.{List, [], ◌∷◌}
-use lib.ListN.{length, get_or, set, length-set, drop as rest_of}
+use lib.ListN.{drop as rest_of}
 use lib.Seq.{take_at as front_of}
-use seplogic.Ra.Ura.{Ura}
-use base.Fraction.{full_share}
-use base.Logic.{SProp, ent, sep}
-use base.Fml.{Lft, GName, Share, Fml, fsep, fobor, fobs, fauth}
-use mir.Syntax.{named}
-use mir.Val.{Val}
-use types.Logic.{Logic, sem}
-use types.Kit.{⋆, ‵, raw, ◌⊛◌, some, later, ◌$◌, ◌∵◌, !, qed, by, done, move, use1, use2, split, group, rewrite, fsplit, fsplit3, fjoin, fjoin3, fpack, flt_i}
-use types.SemTy.{Body, cells}
-use denote.Follow.{Part, lends_Part}
 use denote.FollowSlice.{Elements, lends_Elements}
-use denote.Index.{row, others, takes, puts, place_is, place as nth}
-use denote.Memory.{mem, cell_at, part_at, part_of, shares}
-use denote.RawPtr.{Ptr, block_ptr}
+use denote.Memory.{part_of}
 use denote.Slice.{Room}
 use Rattle.core.proofs.mem.Param.{El, R, el_x}
 use Rattle.core.proofs.ptr.Rows.{times_below}

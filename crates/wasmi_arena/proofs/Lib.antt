@@ -38,3 +38,4 @@ pub mod Answered
 pub mod WalkedKeys
 pub mod BothEnds
 pub mod Sizes
+pub mod Steps

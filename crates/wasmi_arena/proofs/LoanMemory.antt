@@ -4,32 +4,11 @@
 --     cuts      a loan of two runs of buckets is one of each
 use mathlib.Core.Path.{refl, sym}
 use Prim.Native.Nat.{ℕ, ◌+◌, ◌*◌, ◌<◌, ◌^◌}
-use native.Mathlib.Omega.{arith}
+use Rattle.wasmi_arena.proofs.Steps.{arith, length, length-append, Ura, full_share, SProp, ent, sep, emp, ex, Lft, GName, Share, Fml, ftrue, flft, fobs, fbor, T, Val, vstruct, vcons, vnil, has_ty, WT, Logic, sem, after₂, takes_two, ‵, raw, ◌⊛◌, some, later, ◌$◌, ◌∵◌, !, qed, done, drop, move, keep, use1, use2, split, split3, fsplit, fjoin, flt_i, flt_l, feq_i, fpack, rewrite, group, pick, await, now, show, updating, open_ref, SemTy, Body, row, nth, Is, Tells, layout, param_laws, RattleType, Valss, Ptr, block_ptr, null_ptr, ptr_val, NamedLft, nothing, owned, Struct, Struct-Makes, within, Tuple, tuple_type}
 use mathlib.Core.List.{List, [], ◌∷◌, ◌++◌}
-use lib.ListN.{length, length-append}
-use seplogic.Ra.Ura.{Ura}
-use base.Fraction.{full_share}
-use base.Logic.{SProp, ent, sep, emp, ex}
 use base.Stored.{coded_list}
-use base.Fml.{Lft, GName, Share, Fml, ftrue, flft, fobs, fbor}
-use lib.Dec.{T}
-use mir.Val.{Val, vstruct, vcons, vnil, has_ty, WT}
-use types.Logic.{Logic, sem}
-use types.Follow.{after₂, takes_two}
-use types.Kit.{‵, raw, ◌⊛◌, some, later, ◌$◌, ◌∵◌, !, qed, done, drop, move, keep, use1, use2, split, split3, fsplit, fjoin, flt_i, flt_l, feq_i, fpack, rewrite, group, pick, await, now, show, updating}
-use types.Mut.{open_ref}
-use types.SemTy.{SemTy, Body}
-use denote.Index.{row, place as nth}
-use denote.Laws.{Is, Tells}
-use denote.Param.{layout}
-use denote.Param.Laws.{param_laws}
-use denote.RattleType.{RattleType, Valss}
-use denote.RawPtr.{Ptr, block_ptr, null_ptr, ptr_val}
-use denote.Ref.{NamedLft}
-use denote.Steps.{nothing, owned}
-use denote.Struct.Struct.{Shape, Struct, Struct-Makes, within}
+use denote.Struct.Struct.{Shape}
 use denote.Struct.Declared as Declared
-use denote.Struct.Tuple.{Tuple, tuple_type}
 use denote.Struct.Owning.{shape}
 use Rattle.std.proofs.Common.{lit<}
 use Rattle.core.proofs.alloc.Calls.{Al}

@@ -6,28 +6,9 @@
 use mathlib.Core.Path.{refl}
 use Prim.Native.Nat.{ℕ}
 use mathlib.Core.List.{List, [], ◌∷◌}
-use lib.Dec.{T}
-use seplogic.Ra.Ura.{Ura}
-use base.Logic.{SProp, ent, sep}
-use base.Fml.{Lft, Share, Fml, ftrue, flft}
-use mir.Syntax.{named}
-use mir.Val.{Val, vstruct, vcons, vnil}
-use types.Logic.{Logic, sem}
-use types.Kit.{Goal, Step, Item, ⋆, ‵, raw, ◌⊛◌, ◌$◌, ◌∵◌, !, qed, by, done, move, keep, drop, use0, split, join, fsplit, fjoin, fpack, feq_i}
-use contract.BorrowLft.{◌⊑◌}
-use contract.Monad.{fact}
-use denote.Laws.{Tells, Is}
-use denote.Param.Laws.{param_laws}
-use denote.Memory.{hidden_shr}
-use denote.Param.{layout}
-use denote.RattleType.{RattleType, Valss}
-use denote.RawPtr.{Ptr, block_ptr, ptr_val}
-use denote.Ref.{Bor, ShrRef, shr_vals}
-use denote.Steps.{nothing, heard, owned}
-use denote.Struct.Struct.{Struct, Struct-Makes, within}
+use Rattle.wasmi_arena.proofs.Steps.{T, Ura, SProp, ent, sep, Lft, Share, Fml, ftrue, flft, named, Val, vstruct, vcons, vnil, Logic, sem, Goal, Step, Item, ⋆, ‵, raw, ◌⊛◌, ◌$◌, ◌∵◌, !, qed, by, done, move, keep, drop, use0, split, join, fsplit, fjoin, fpack, feq_i, ◌⊑◌, fact, Tells, Is, param_laws, hidden_shr, layout, RattleType, Valss, Ptr, block_ptr, ptr_val, Bor, ShrRef, shr_vals, nothing, heard, owned, Struct, Struct-Makes, within, Tuple, tuple_type}
 use denote.Struct.Owning.{shape}
 use denote.Struct.Declared as Declared
-use denote.Struct.Tuple.{Tuple, tuple_type}
 use Rattle.core.proofs.alloc.Calls.{Al, token}
 use Rattle.core.proofs.mem.Param.{El, R}
 use Rattle.core.proofs.slots.Leases.{P}

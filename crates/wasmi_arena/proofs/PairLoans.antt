@@ -1,15 +1,9 @@
 -- How a lender ends of which a part was lent, and two of that part. Assumes `Logic`.
-use seplogic.Ra.Ura.{Ura}
-use base.Fml.{GName, fres, fsep}
-use base.Logic.{ent, sep, wand, id⊢}
-use types.Follow.{after₂, followed₂}
-use types.Kit.{‵, ◌$◌, ◌∵◌, !, qed, by, move, use2, each, assume}
-use types.Logic.{Logic, sem}
-use denote.Follow.{follows, followed, follows_both, both_by}
-use denote.Memory.{mem}
-use denote.RattleType.{RattleType}
+use Rattle.wasmi_arena.proofs.Steps.{Ura, GName, fsep, ent, sep, wand, id⊢, after₂, ‵, ◌$◌, ◌∵◌, !, qed, by, move, use2, each, assume, Logic, sem, follows, follows_both, mem, RattleType, Array}
+use base.Fml.{fres}
+use types.Follow.{followed₂}
+use denote.Follow.{followed, both_by}
 use mathlib.Core.List.{List, [], ◌∷◌}
-use denote.Array.{Array}
 use Rattle.core.proofs.alloc.Calls.{Al}
 use Rattle.core.proofs.mem.Param.{El, R}
 use Rattle.core.proofs.slots.Leases.{P}

@@ -3,17 +3,8 @@
 use Rattle.std.proofs.Common.{◌≡◌, ◌≢◌, ℕ, ◌+◌, ◌*◌, ◌<◌, ◌^◌, List, [], ◌∷◌, length, get_or, set, Option, Some, None, refl, sym, ap, ◌∙◌, subst, inl, inr, arith}
 use Rattle.std.proofs.lemmas.Bool.{cases_lt}
 use Rattle.std.proofs.lemmas.List.{length-set}
-use seplogic.Ra.Ura.{Ura}
-use base.Fraction.{full_share}
-use base.Logic.{SProp, ent, sep, wand, ex, all, all_e, apply∗, id⊢}
-use base.Fml.{Share, Fml, fsep}
+use Rattle.wasmi_arena.proofs.Steps.{Ura, full_share, SProp, ent, sep, wand, ex, all, all_e, apply∗, id⊢, Share, Fml, fsep, ‵, raw, ◌⊛◌, some, ◌$◌, ◌∵◌, !, qed, done, move, use1, use2, use3, split, split3, fsplit, fjoin, rewrite, pick, show, frame, each, assume, Logic, sem, row, others, takes, puts, nth, place_is, part_at, shares, lone, RattleType, block_ptr}
 use base.Share
-use types.Kit.{‵, raw, ◌⊛◌, some, ◌$◌, ◌∵◌, !, qed, done, move, use1, use2, use3, split, split3, fsplit, fjoin, rewrite, pick, show, frame, each, assume}
-use types.Logic.{Logic, sem}
-use denote.Index.{row, others, takes, puts, place as nth, place_is}
-use denote.Memory.{part_at, shares, lone}
-use denote.RattleType.{RattleType}
-use denote.RawPtr.{block_ptr}
 use Rattle.core.proofs.alloc.Calls.{Al}
 use Rattle.core.proofs.mem.Param.{El, R}
 use Rattle.core.proofs.ptr.Rows.{times_below}

@@ -4,30 +4,18 @@
 use Rattle.std.proofs.Common.{◌≡◌, ◌≢◌, ℕ, List, [], ◌∷◌, refl, ap, subst, MutBor}
 use Rattle.std.specs.Prelude.{Err}
 use lib.Dec as dec
-use lib.Dec.{T_not, eqb, eqb_refl}
+use Rattle.wasmi_arena.proofs.Steps.{eqb, ent, emp, sep, Lft, Ura, named, Val, of_list, vptr, vstruct, vcons, vnil, Logic, sem, ‵, ◌$◌, ◌∵◌, !, qed, done, move, use0, use1, fjoin, fpack, feq_i, live, RattleType, Valss, owns, Is, Laws, of_field, MutRef, NamedLft, mut_vals, mut_Tells, nothing, only, row_field, Struct-Tells, within, Tuple, tuple_type}
+use lib.Dec.{T_not, eqb_refl}
 use mathlib.Core.Bool.{not}
-use base.Logic.{ent, emp, sep}
-use base.Fml.{Lft}
-use seplogic.Ra.Ura.{Ura}
-use mir.Syntax.{named}
-use mir.Val.{Val, of_list, vptr, vstruct, vcons, vnil}
-use types.Logic.{Logic, sem}
-use types.Kit.{‵, ◌$◌, ◌∵◌, !, qed, done, move, use0, use1, fjoin, fpack, feq_i}
-use types.Match.{live}
-use denote.RattleType.{RattleType, Valss, owns}
 use denote.Enum.Row.{tagged_with}
 use denote.Enum.Enum.{form_of, in_a_row}
 use denote.Enum.Declared.{shape}
-use denote.Laws.{Is}
-use denote.Param.Laws.{Laws, of_field, is_one}
+use denote.Param.Laws.{is_one}
 use denote.Param.Shared.{Sharable, mut_ref_shared}
-use denote.Ref.{MutRef, NamedLft, mut_vals, mut_Tells}
-use denote.Steps.{nothing, only}
 use denote.Struct.Declared as Declared
-use denote.Struct.Field.{mut_ref_field, row_field}
+use denote.Struct.Field.{mut_ref_field}
 use denote.Struct.Laws.{mut_ref_laws}
-use denote.Struct.Struct.{Struct-Tells, within}
-use denote.Struct.Tuple.{Tuple, tuple_type, tuple_laws}
+use denote.Struct.Tuple.{tuple_laws}
 use Rattle.core.proofs.once.Made.{err_of}
 use Rattle.core.proofs.result.Result.TheLaws as ResultLaws
 use Rattle.core.specs.contracts.result.Result as ResultType

@@ -1,23 +1,16 @@
 -- A `&` to the slots of a block can be made from what they own, as a `&` to each item. Assumes `Logic`.
 use Prim.Native.Nat.{ℕ, ◌+◌, ◌*◌}
 use mathlib.Core.List.{List, [], ◌∷◌}
-use seplogic.Ra.Ura.{Ura}
-use base.Fraction.{full_share}
-use base.Fml.{Lft, Incl, ftrue, ffalse, fsep}
-use types.Logic.{Logic}
-use denote.RattleType.{RattleType, RowLaws}
-use denote.Index.{row}
-use denote.Param.Laws.{Laws}
-use denote.RawPtr.{Ptr, block_ptr, null_ptr}
+use Rattle.wasmi_arena.proofs.Steps.{Ura, full_share, Lft, ftrue, fsep, Logic, RattleType, row, Laws, Ptr, block_ptr, null_ptr, elements_shared, Lends-nothing, part_at, shared_of, length}
+use base.Fml.{Incl, ffalse}
+use denote.RattleType.{RowLaws}
 use denote.Sharing.{ShrLaws, said}
 use denote.SharingLaws.{beside_shr_laws, said_shr_laws}
 use denote.Shares.{Shares-less}
-use denote.Slice.{elements_shared, elements_shr_laws}
-use denote.Struct.Lending.{Lends, Lends-both, Lends-first, Lends-nothing, Lends-said, Lends-false}
-use denote.Memory.{part_at, shared_of}
+use denote.Slice.{elements_shr_laws}
+use denote.Struct.Lending.{Lends, Lends-both, Lends-first, Lends-said, Lends-false}
 use Rattle.std.specs.Mem.{type_size}
 use Rattle.wasmi_arena.specs.inner.Block.{empty, runs, fit, slots_own, slots_lend}
-use lib.ListN.{length}
 
 module _ (R : RattleType) where
   pub slots_lend-laws : RowLaws R → (p : Ptr) (taken : ℕ) (items : List R.Denot) (free : ℕ) → ShrLaws (slots_lend R p taken items free)

@@ -1,14 +1,11 @@
 -- What a part of a value takes of memory: no more than the value, so less than 2 ^ 63 bytes where that does.
 use mathlib.Core.List.{[]}
 use mathlib.Core.Path.{◌≡◌, refl}
-use native.Mathlib.Omega.{arith}
+use Rattle.wasmi_arena.proofs.Steps.{arith, Ty, ty_array, ty_struct, field_at, size, copied, number, param, layout, RattleType}
 use Prim.Native.Nat.{ℕ, zero, ◌*◌, ◌<◌, ◌^◌}
 use mathlib.Core.Option.{some}
-use mir.Syntax.{Ty, Tys, tnil, ty_array, ty_struct}
+use mir.Syntax.{Tys, tnil}
 use prog.Align.{field_in}
-use prog.Memory.{field_at, size}
-use denote.Param.{copied, number, param, layout}
-use denote.RattleType.{RattleType}
 use Rattle.core.specs.declared.alloc.Allocator as Allocator
 use Rattle.core.specs.contracts.option.Option as Option
 use Rattle.wasmi_arena.specs.declared.key.ArenaKey as ArenaKey

@@ -7,27 +7,16 @@
 --     to_cells, of_cells    the items as a slice reference has them, and back
 use mathlib.Core.Path.{◌≡◌, refl, sym, ap, subst, ◌∙◌}
 use mathlib.Core.Bool.{Bool, true, false, not}
-use lib.Dec.{T, lit<, eqb, eqb→eq}
+use Rattle.wasmi_arena.proofs.Steps.{T, eqb, eqb→eq, zero-mul, arith, length, length-append, get_or, Ura, full_share, ty_array, Val, SProp, ent, sep, emp, ex, guard, wand, id⊢, Fml, fsep, fat, froom, align, capped, Logic, sem, cells, ‵, raw, ◌⊛◌, some, given, pick, learn, show, check, ◌$◌, ◌∵◌, !, qed, move, use0, use1, use2, split, rewrite, fsplit, fjoin, drop, done, part_at, mem, place_is, row, nothing}
+use lib.Dec.{lit<}
 use Prim.Native.Nat.{ℕ, suc, ◌+◌, ◌-◌, ◌*◌, ◌<◌, ◌^◌}
-use native.Mathlib.Nat.{zero-mul, suc-mul}
-use native.Mathlib.Omega.{arith}
+use native.Mathlib.Nat.{suc-mul}
 use mathlib.Core.List.{List, [], ◌∷◌, ◌++◌}
-use lib.ListN.{length, length-append, drop as take_off, take as first_of, get_or}
-use seplogic.Ra.Ura.{Ura}
-use base.Fraction.{full_share}
-use mir.Syntax.{ty_array}
-use mir.Val.{Val}
-use base.Logic.{SProp, ent, sep, emp, ex, guard, wand, id⊢, mono_r}
-use base.Fml.{Fml, fsep, fat, froom}
-use prog.Memory.{align, capped}
+use lib.ListN.{drop as take_off, take as first_of}
+use base.Logic.{mono_r}
 use prog.Capped.{capped_is, capped_small}
 use prog.Align.{dv_self}
-use types.Logic.{Logic, sem}
-use types.SemTy.{cells}
-use types.Kit.{‵, raw, ◌⊛◌, some, given, pick, learn, show, check, ◌$◌, ◌∵◌, !, qed, move, use0, use1, use2, split, rewrite, fsplit, fjoin, drop, done}
-use denote.Memory.{part_at, mem}
-use denote.Index.{place, place_is, row}
-use denote.Steps.{nothing}
+use denote.Index.{place}
 use Rattle.core.proofs.mem.Param.{El, R, el_x, elτ, Good}
 use Rattle.core.proofs.ptr.Rows as rows
 use Rattle.std_alloc.proofs.RawLayout.{as_raw, as_written}

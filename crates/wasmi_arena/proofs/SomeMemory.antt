@@ -4,21 +4,13 @@
 use mathlib.Core.Path.{◌≡◌, refl, sym, ap, subst}
 use Prim.Native.Nat.{ℕ, ◌+◌}
 use mathlib.Core.Bool.{false≢true}
-use native.Mathlib.Omega.{arith}
+use Rattle.wasmi_arena.proofs.Steps.{arith, Ura, full_share, SProp, ent, sep, Ty, w64, align, capped, field_at, up, Logic, sem, part_at, lone, Laws, RattleType, row_field}
 use mathlib.Core.List.{List, [], ◌∷◌, ◌++◌}
-use seplogic.Ra.Ura.{Ura}
-use base.Fraction.{full_share}
-use base.Logic.{SProp, ent, sep}
-use mir.Syntax.{Ty, Width, w8, w16, w32, w64, w128}
+use mir.Syntax.{Width, w8, w16, w32, w128}
 use mir.Val.{bytes}
-use prog.Memory.{align, capped, field_at, up}
 use prog.Align.{align-bytes}
 use types.Kit.{mean}
-use types.Logic.{Logic, sem}
-use denote.Memory.{part_at, lone}
-use denote.Param.Laws.{Laws, row_loose}
-use denote.RattleType.{RattleType}
-use denote.Struct.Field.{row_field}
+use denote.Param.Laws.{row_loose}
 use denote.Struct.Struct.{to_tys}
 use borrow.Enum.Lend.{kept_variant, variant_apart, variant_put}
 use Rattle.std.specs.Prelude.{Option, None, Some, IsSome}

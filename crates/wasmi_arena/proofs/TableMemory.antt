@@ -2,35 +2,22 @@
 use mathlib.Core.Path.{◌≡◌, refl, sym, ◌∙◌}
 use Prim.Native.Nat.{ℕ, zero, ◌+◌, ◌*◌, ◌<◌}
 use mathlib.Core.List.{List, [], ◌∷◌}
-use lib.ListN.{length, get_or, set, length-set}
-use seplogic.Ra.Ura.{Ura}
-use base.Fraction.{full_share}
-use base.Logic.{SProp, ent, sep, guard}
-use base.Fml.{Lft, GName, Share, Fml, ftrue, fsep, feq, fobor, fobs, fauth}
-use mir.Syntax.{named, Ty, Args, a_type, a_number, dcons, dnil, ty_array, ty_struct}
-use prog.Memory.{align, up}
-use types.Logic.{Logic, sem}
-use types.Kit.{⋆, some, later, by, group, fsplit3, ‵, raw, ◌⊛◌, ◌$◌, ◌∵◌, !, qed, done, move, drop, use1, use2, split, fsplit, fjoin, feq_i, feq_l, rewrite, check}
-use denote.Array.{Array}
+use Rattle.wasmi_arena.proofs.Steps.{length, get_or, set, length-set, Ura, full_share, SProp, ent, sep, guard, Lft, GName, Share, Fml, ftrue, fsep, fobor, fobs, fauth, named, Ty, Args, a_type, dcons, dnil, ty_array, ty_struct, align, up, Logic, sem, ⋆, some, later, by, group, fsplit3, ‵, raw, ◌⊛◌, ◌$◌, ◌∵◌, !, qed, done, move, drop, use1, use2, split, fsplit, fjoin, feq_i, rewrite, check, Array, Part, lends_Part, row, others, takes, puts, place_is, nth, mem, part_at, shares, lone, param, number, bounded, Laws, param_laws, RattleType, nothing, Member, shape_of, Struct, Body}
+use base.Fml.{feq}
+use mir.Syntax.{a_number}
+use types.Kit.{feq_l}
 use denote.ArrayMemory.{Array-apart, Array-whole}
-use denote.Follow.{Part, lends_Part}
-use denote.Index.{row, others, takes, puts, place_is, place as nth}
-use denote.Memory.{mem, part_at, shares, lone}
-use denote.Param.{param, number, bounded, ArrayAt}
-use denote.Param.Laws.{Laws, param_laws, number_array_laws}
-use denote.RattleType.{RattleType}
-use denote.Steps.{nothing}
+use denote.Param.{ArrayAt}
+use denote.Param.Laws.{number_array_laws}
 use denote.Struct.Declared.{shape}
-use denote.Struct.Members.{Member, raw_tys}
-use denote.Struct.Parts.{shape_of, Struct-left, left_Struct}
+use denote.Struct.Members.{raw_tys}
+use denote.Struct.Parts.{Struct-left, left_Struct}
 use denote.Struct.Recorded.{Recorded-part}
-use denote.Struct.Struct.{Struct}
 use Rattle.core.proofs.alloc.Calls.{Al}
 use Rattle.core.proofs.mem.Param.{El, R}
 use Rattle.core.proofs.slots.Leases.{P}
 use Rattle.core.proofs.option.Option.TheLaws as OptionLaws
 use Rattle.std.specs.Mem.{type_size}
-use types.SemTy.{Body}
 use Rattle.core.specs.contracts.option.Option as Option
 use Rattle.wasmi_arena.specs.contracts.bucket.Bucket as Bucket
 use Rattle.wasmi_arena.specs.contracts.bucket_table.BucketTable as Table

@@ -2,18 +2,8 @@
 --     two_out      a row is two of its elements, and the way back once each was exchanged
 use mathlib.Core.Path.{refl}
 use Prim.Native.Nat.{ℕ, zero, suc, ◌+◌, ◌<◌}
-use native.Mathlib.Omega.{arith}
+use Rattle.wasmi_arena.proofs.Steps.{arith, length, get_or, set, Ura, full_share, SProp, ent, sep, wand, all, all_e, apply∗, Fml, fsep, ‵, raw, ◌⊛◌, ◌$◌, ◌∵◌, !, qed, done, move, use1, use2, split, split3, fsplit, fjoin, each, assume, Logic, sem, row, others, takes, puts, nth, part_at, shares, RattleType}
 use mathlib.Core.List.{List, [], ◌∷◌}
-use lib.ListN.{length, get_or, set}
-use seplogic.Ra.Ura.{Ura}
-use base.Fraction.{full_share}
-use base.Logic.{SProp, ent, sep, wand, all, all_e, apply∗}
-use base.Fml.{Fml, fsep}
-use types.Kit.{‵, raw, ◌⊛◌, ◌$◌, ◌∵◌, !, qed, done, move, use1, use2, split, split3, fsplit, fjoin, each, assume}
-use types.Logic.{Logic, sem}
-use denote.Index.{row, others, takes, puts, place as nth}
-use denote.Memory.{part_at, shares}
-use denote.RattleType.{RattleType}
 use Rattle.std.proofs.Common.{◌≢◌, ap}
 use Rattle.std.specs.Mem.{type_size}
 

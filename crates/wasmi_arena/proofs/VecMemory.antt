@@ -2,26 +2,8 @@
 use mathlib.Core.Path.{◌≡◌, refl, ap, ◌∙◌}
 use Prim.Native.Nat.{ℕ, zero, ◌+◌}
 use mathlib.Core.List.{List, [], ◌∷◌}
-use lib.ListN.{length}
-use seplogic.Ra.Ura.{Ura}
-use base.Fraction.{full_share}
-use base.Logic.{SProp, ent, sep, ex}
-use mir.Syntax.{w64}
-use prog.Memory.{align, up}
-use types.Logic.{Logic, sem}
-use types.Kit.{some, by, ‵, raw, ◌⊛◌, ◌$◌, ◌∵◌, !, qed, done, use1, use2, split, learn, given, pick, show}
-use denote.Builtin.{usize}
-use denote.Index.{row}
-use denote.Laws.{Lawfuls}
-use denote.Memory.{part_at, part_of, mem, lone}
-use denote.Model.Fields.{view_owns, view_made, plain_out, Plain-in}
-use denote.Param.{number}
-use denote.Param.Laws.{param_laws}
-use denote.Plain.{uint_Lawful}
-use denote.RattleType.{RattleType, Denots}
-use denote.Struct.Members.{Member, rows_of}
-use denote.Struct.Parts.{PartsBack}
-use denote.Struct.Pick.{rest_at, field_out, field_back}
+use Rattle.wasmi_arena.proofs.Steps.{length, Ura, full_share, SProp, ent, sep, ex, w64, align, up, Logic, sem, some, by, ‵, raw, ◌⊛◌, ◌$◌, ◌∵◌, !, qed, done, use1, use2, split, learn, given, pick, show, usize, row, Lawfuls, part_at, mem, lone, view_owns, view_made, plain_out, Plain-in, number, param_laws, uint_Lawful, RattleType, Denots, Member, rows_of, PartsBack, rest_at, field_out, field_back}
+use denote.Memory.{part_of}
 use Rattle.core.proofs.alloc.Calls.{Al}
 use Rattle.core.proofs.mem.Param.{El, R}
 use Rattle.core.proofs.slots.Leases.{P}

@@ -1,31 +1,7 @@
 -- `bucket_mut` lends one bucket of the table. Assumes `Logic`.
 use Rattle.std.proofs.Common.{◌≡◌, ℕ, ◌*◌, ◌<◌, ◌≤◌, ◌^◌, [], ◌∷◌, length, get_or, None, refl, sym, ap, subst, arith, w64, MutBor, mul-le-mul_right}
-use Rattle.std.proofs.raw_atomic.Walks.{proved}
+use Rattle.wasmi_arena.proofs.Steps.{proved, full_share, id⊢, GName, ftrue, flft, named, inst_fn, vint, vptr, size, ◌⊑◌, fact, join, use0, use2, ‵, raw, ◌⊛◌, some, later, ◌$◌, ◌∵◌, !, qed, done, move, keep, drop, use1, split, group, pick, await, learn, given, fsplit3, fjoin3, frame, suffices, enter, size_word, bin, addr, fld, stop, returns, alloc_all, pass_all, free_all, look_at, get, through, sets, is, open_ref, usize, yes, no, follows, row, mem, layout, number, uint_vals, uint_Tells, MutRef, mut_vals, mut_Tells, plain, heard, Stays, walk_of, says, stay_dropped, Goes-dropped, Goes-spent_ref, ends_at}
 use Rattle.std.specs.Mem.{type_size}
-use base.Fraction.{full_share}
-use base.Logic.{id⊢}
-use base.Fml.{GName, ftrue, flft}
-use mir.Syntax.{named}
-use mir.MapTy.{inst_fn}
-use mir.Val.{vint, vptr}
-use prog.Memory.{size}
-use contract.BorrowLft.{◌⊑◌}
-use contract.Monad.{fact}
-use types.Kit.{join, use0, use2, ‵, raw, ◌⊛◌, some, later, ◌$◌, ◌∵◌, !, qed, done, move, keep, drop, use1, split, group, pick, await, learn, given, fsplit3, fjoin3, frame, suffices}
-use types.Run.{enter, size_word, bin, addr, fld, stop, returns}
-use types.ByLocal.{alloc_all, pass_all, free_all, look_at, get, through, sets, is}
-use types.Mut.{open_ref}
-use denote.Builtin.{usize}
-use denote.Exit.{yes, no}
-use denote.Follow.{follows}
-use denote.Index.{row}
-use denote.Memory.{mem}
-use denote.Param.{layout, number}
-use denote.Plain.{uint_vals, uint_Tells}
-use denote.Ref.{MutRef, mut_vals, mut_Tells}
-use denote.Signature.{plain}
-use denote.Steps.{heard}
-use denote.Triple.Walked.{Stays, walk_of, says, stay_dropped, Goes-dropped, Goes-spent_ref, ends_at}
 use Rattle.core.proofs.alloc.Calls.{Al}
 use Rattle.core.proofs.mem.Param.{El}
 use Rattle.core.proofs.slots.Leases.{uncapped}

@@ -2,33 +2,9 @@
 use Rattle.std.proofs.Common.{◌≡◌, ◌≢◌, ℕ, ◌+◌, ◌*◌, ◌<◌, ◌≤◌, ◌^◌, List, [], ◌∷◌, length, get_or, None, refl, sym, ap, ◌∙◌, subst, arith, w64, mul-le-mul_right}
 use Rattle.std.proofs.lemmas.List.{length-set}
 use Rattle.std.proofs.lemmas.Option.{get_or_from_slice_get}
-use Rattle.std.proofs.raw_atomic.Walks.{proved}
-use base.Logic.{all, all_e, apply∗, id⊢}
-use base.Fml.{ftrue, fsep, fat, flft}
-use base.Fraction.{full_share}
-use mir.Syntax.{named}
-use mir.MapTy.{inst_fn}
-use mir.Val.{Val, vint, vptr, vunit}
-use contract.BorrowLft.{◌⊑◌}
-use contract.Monad.{fact}
-use contract.Running.{tables}
-use prog.Memory.{size}
-use types.Kit.{join, use0, use1, use2, ‵, raw, ◌⊛◌, some, at_ret, ◌$◌, ◌∵◌, !, qed, done, move, keep, drop, split, split3, pick, given, learn, fsplit, fsplit3, fjoin, fjoin3, feq_i, suffices}
-use types.Logic.{sem}
-use types.Part.{whole, sub, look_in}
-use types.Run.{enter, of_opd, bin, size_word, align_word, addr, load, look, store, unit_lit, assigns, assigns_last, fld, stop, first, blocks, exec, returns}
-use types.ByLocal.{alloc_all, pass_all, free_all, look_at, get, through, sets, is, env}
-use types.Mut.{open_ref, close_ref}
-use denote.Builtin.{usize}
-use denote.Exit.{yes}
-use denote.Index.{row}
-use denote.Memory.{mem}
-use denote.Param.{layout, number}
-use denote.Plain.{uint_vals, uint_Tells}
-use denote.Ref.{MutRef, mut_vals, mut_Tells}
-use denote.Signature.{plain}
-use denote.Steps.{heard}
-use denote.Triple.Walked.{Stays, walk_of, says, stay_dropped, Goes-dropped, stay_ref, Goes-ref, ends_at}
+use Rattle.wasmi_arena.proofs.Steps.{proved, all, all_e, apply∗, id⊢, ftrue, fsep, fat, flft, full_share, named, inst_fn, Val, vint, vptr, vunit, ◌⊑◌, fact, tables, size, join, use0, use1, use2, ‵, raw, ◌⊛◌, some, at_ret, ◌$◌, ◌∵◌, !, qed, done, move, keep, drop, split, split3, pick, given, learn, fsplit, fsplit3, fjoin, fjoin3, feq_i, suffices, sem, whole, sub, look_in, enter, of_opd, bin, size_word, align_word, addr, load, look, unit_lit, assigns_last, fld, stop, first, blocks, exec, returns, alloc_all, pass_all, free_all, look_at, get, through, sets, is, env, open_ref, usize, yes, row, mem, layout, number, uint_vals, uint_Tells, MutRef, mut_vals, mut_Tells, plain, heard, Stays, walk_of, says, stay_dropped, Goes-dropped, stay_ref, Goes-ref, ends_at}
+use types.Run.{store, assigns}
+use types.Mut.{close_ref}
 use Rattle.core.proofs.alloc.Calls.{Al}
 use Rattle.core.proofs.mem.Param.{El, R, elτ, Good}
 use Rattle.core.proofs.ptr.Rows.{el_out, el_in}

@@ -1,29 +1,7 @@
 -- `unwrap_mut` lends the value of a `Some`. Assumes `Logic`.
 use Rattle.std.proofs.Common.{[], ◌∷◌, Some, refl, ap, MutBor}
-use Rattle.std.proofs.raw_atomic.Walks.{proved}
+use Rattle.wasmi_arena.proofs.Steps.{proved, GName, ftrue, flft, id⊢, named, Args, a_type, inst_fn, vptr, ◌⊑◌, fact, tables, join, use0, use1, ‵, raw, ◌⊛◌, some, later, at_ret, ◌$◌, ◌∵◌, !, qed, done, move, keep, drop, split, group, pick, await, fsplit3, rewrite, frame, suffices, enter, of_opd, bin, align_word, addr, stop, first, blocks, exec, returns, alloc_all, pass_all, free_all, look_at, get, through, sets, sets_last, is, env, open_ref, full_share, no, follows, Part, lends_Part, mem, part_at, layouts, param_laws, MutRef, mut_vals, mut_Tells, plain, heard, Stays, walk_of, says, stay_dropped, Goes-spent_ref, ends_at}
 use Rattle.std.specs.Prelude.{IsSome}
-use base.Fml.{GName, ftrue, flft}
-use base.Logic.{id⊢}
-use mir.Syntax.{named, Args, a_type}
-use mir.MapTy.{inst_fn}
-use mir.Val.{vptr}
-use contract.BorrowLft.{◌⊑◌}
-use contract.Monad.{fact}
-use contract.Running.{tables}
-use types.Kit.{join, use0, use1, ‵, raw, ◌⊛◌, some, later, at_ret, ◌$◌, ◌∵◌, !, qed, done, move, keep, drop, split, group, pick, await, fsplit3, rewrite, frame, suffices}
-use types.Run.{enter, of_opd, bin, align_word, addr, stop, first, blocks, exec, returns}
-use types.ByLocal.{alloc_all, pass_all, free_all, look_at, get, through, sets, sets_last, is, env}
-use types.Mut.{open_ref}
-use base.Fraction.{full_share}
-use denote.Exit.{no}
-use denote.Follow.{follows, Part, lends_Part}
-use denote.Memory.{mem, part_at}
-use denote.Param.{layouts}
-use denote.Param.Laws.{param_laws}
-use denote.Ref.{MutRef, mut_vals, mut_Tells}
-use denote.Signature.{plain}
-use denote.Steps.{heard}
-use denote.Triple.Walked.{Stays, walk_of, says, stay_dropped, Goes-spent_ref, ends_at}
 use Rattle.core.proofs.mem.Param.{El, R}
 use Rattle.std_alloc.proofs.VecSteps.Shapes.{after as rest_of}
 use Rattle.wasmi_arena.specs.contracts.raw.option.unwrap_mut as F

@@ -1,27 +1,7 @@
 -- `unwrap_ref` lends the value of a `Some`. Assumes `Logic`.
 use Rattle.std.proofs.Common.{List, [], ◌∷◌, refl, ap}
-use Rattle.std.proofs.raw_atomic.Walks.{proved}
+use Rattle.wasmi_arena.proofs.Steps.{proved, ftrue, flft, named, Args, a_type, inst_fn, Val, vptr, ◌⊑◌, fact, tables, join, use0, ‵, raw, ◌⊛◌, at_ret, ◌$◌, ◌∵◌, !, qed, done, move, keep, drop, split, fsplit, fjoin, feq_i, rewrite, suffices, enter, of_opd, bin, align_word, addr, stop, first, blocks, exec, returns, alloc_all, pass_all, free_all, look_at, get, through, sets, sets_last, is, env, yes, RefOf, shared_of, hide, unhide, layouts, param_laws, ShrRef, shr_vals, shr_Tells, plain, heard, Stays, walk_of, says, stay_dropped, Goes-dropped, ends_at}
 use Rattle.std.specs.Prelude.{IsSome}
-use base.Fml.{ftrue, flft}
-use mir.Syntax.{named, Args, a_type}
-use mir.MapTy.{inst_fn}
-use mir.Val.{Val, vptr}
-use contract.BorrowLft.{◌⊑◌}
-use contract.Monad.{fact}
-use contract.Running.{tables}
-use types.Kit.{join, use0, ‵, raw, ◌⊛◌, at_ret, ◌$◌, ◌∵◌, !, qed, done, move, keep, drop, split, fsplit, fjoin, feq_i, rewrite, suffices}
-use types.Run.{enter, of_opd, bin, align_word, addr, stop, first, blocks, exec, returns}
-use types.ByLocal.{alloc_all, pass_all, free_all, look_at, get, through, sets, sets_last, is, env}
-use denote.Exit.{yes}
-use denote.Builtin.{RefOf}
-use denote.Memory.{shared_of}
-use denote.Opens.{hide, unhide}
-use denote.Param.{layouts}
-use denote.Param.Laws.{param_laws}
-use denote.Ref.{ShrRef, shr_vals, shr_Tells}
-use denote.Signature.{plain}
-use denote.Steps.{heard}
-use denote.Triple.Walked.{Stays, walk_of, says, stay_dropped, Goes-dropped, ends_at}
 use Rattle.core.proofs.mem.Param.{El, R}
 use Rattle.std_alloc.proofs.VecSteps.Shapes.{after as rest_of}
 use Rattle.wasmi_arena.specs.contracts.raw.option.unwrap_ref as F

@@ -1,42 +1,12 @@
 -- `checked_pair` lends two items, or leaves the vector as it is. Assumes `Logic`.
 use Rattle.std.proofs.Common.{◌≡◌, ◌≢◌, ℕ, ◌<◌, ◌≤◌, ◌^◌, List, [], ◌∷◌, length, set, Result, Ok, Err, Some, refl, subst, inl, inr, lit<, MutBor}
-use lib.Dec.{eqb→eq, leb→le, nleb→lt}
+use Rattle.wasmi_arena.proofs.Steps.{eqb→eq, leb→le, nleb→lt, proved, ent, id⊢, emp, sem, Fml, ftrue, flft, ◌⊑◌, fact, tables, named, Args, a_type, dcons, dnil, w64, inst_fn, Val, of_list, size, alloc_all, pass_all, free_all, look_at, get, through, sets, lands_as, env, ‵, raw, ◌⊛◌, some, later, prop, at_ret, Sq, ◌$◌, ◌∵◌, !, qed, done, move, keep, drop, join, split, split3, fsplit, fsplit3, fjoin, use0, use1, use2, pick, rewrite, await, group, frame, suffices, live, agg, enter, addr, stop, bin, lit, and_then, no_more, first, branches, skips, exec, returns, returns_within, usize, no, yes, follows_both_if, layout, bounded, uint_vals, uint_Tells, uint_Makes, RattleType, Valss, owns, MutRef, mut_vals, mut_Tells, plain, shows, nothing, heard, owned, peeks, calls_at, lasts, triple_of, framed, Stays, walk_of, says, stay_dropped, Goes-spent_ref, Goes-dropped, ends_at}
 use Rattle.std_alloc.proofs.VecSteps.Shapes.{after as rest_of}
-use Rattle.std.proofs.raw_atomic.Walks.{proved}
 use Rattle.std.specs.Prelude.{slice_get}
 use Rattle.core.proofs.once.Made.{ok_of}
 use Rattle.wasmi_arena.specs.contracts.error.ArenaError as ErrorType
-use base.Logic.{ent, id⊢, emp}
-use types.Logic.{sem}
-use base.Fml.{Fml, ftrue, flft}
-use contract.BorrowLft.{◌⊑◌}
 use contract.Fact.{fact_i}
-use contract.Monad.{fact}
-use contract.Running.{tables}
-use mir.Syntax.{named, Args, a_type, dcons, dnil, w64}
-use mir.MapTy.{inst_fn}
-use mir.Val.{Val, of_list}
-use prog.Memory.{size}
-use types.ByLocal.{alloc_all, pass_all, free_all, look_at, get, through, sets, lands_as, env}
-use types.Kit.{‵, raw, ◌⊛◌, some, later, prop, at_ret, Sq, ◌$◌, ◌∵◌, !, qed, done, move, keep, drop, join, split, split3, fsplit, fsplit3, fjoin, use0, use1, use2, pick, rewrite, await, group, frame, suffices}
-use types.Match.{live}
-use types.Part.{agg}
-use types.Run.{enter, addr, stop, bin, lit, and_then, no_more, first, branches, skips, exec, returns, returns_within}
-use denote.Builtin.{usize}
-use denote.Exit.{no, yes}
-use denote.Follow.{both_if_by, follows_both_if}
-use denote.Param.{layout, bounded}
-use denote.Plain.{uint_vals, uint_Tells, uint_Makes}
-use denote.RattleType.{RattleType, Valss, owns}
-use denote.Ref.{MutRef, mut_vals, mut_Tells}
-use denote.Signature.{plain}
-use denote.Laws.{shows}
-use denote.Steps.{nothing, heard, owned, peeks}
-use denote.Triple.Call.{calls_at}
-use denote.Triple.Clauses.{lasts}
-use denote.Triple.Spec.{triple_of}
-use denote.Triple.Table.{framed}
-use denote.Triple.Walked.{Stays, walk_of, says, stay_dropped, Goes-spent_ref, Goes-dropped, ends_at}
+use denote.Follow.{both_if_by}
 use Rattle.core.proofs.alloc.Calls.{Al}
 use Rattle.core.proofs.mem.Param.{El, R}
 use Rattle.wasmi_arena.specs.Pairs.{names_if_ok}

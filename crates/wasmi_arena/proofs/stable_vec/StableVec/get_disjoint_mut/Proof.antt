@@ -1,34 +1,7 @@
 -- `get_disjoint_mut` hands on what `checked_pair` lends. Assumes `Logic`.
 use Rattle.std.proofs.Common.{◌≡◌, ◌<◌, ◌^◌, List, [], ◌∷◌, length, set, Result, refl, sym, ap, ◌∙◌, subst, MutBor}
-use Rattle.std.proofs.raw_atomic.Walks.{proved}
-use base.Logic.{id⊢, emp}
-use base.Fml.{GName, Fml, ftrue, flft}
-use contract.BorrowLft.{◌⊑◌}
+use Rattle.wasmi_arena.proofs.Steps.{proved, id⊢, emp, GName, Fml, ftrue, flft, ◌⊑◌, fact, tables, named, Args, a_type, dcons, dnil, w64, inst_fn, Val, vptr, vint, vstruct, vcons, vnil, size, alloc_all, pass_all, free_all, look_at, get, get_in, through, sets, lands_as, ‵, raw, ◌⊛◌, some, later, ◌$◌, ◌∵◌, !, qed, done, move, drop, join, split, fsplit, fsplit3, fjoin, fjoin3, fpick, feq_i, use0, use1, use2, pick, rewrite, await, group, suffices, whole, sub, enter, addr, stop, fld, of_opd, and_then, no_more, returns, usize, no, yes, follows_both_if, layout, bounded, uint_vals, uint_Tells, uint_Makes, MutRef, mut_vals, mut_Tells, plain, shows, nothing, heard, owned, peeks, only, calls_at, lasts, triple_of, framed, Stays, walk_of, stay_dropped, Goes-spent_ref, Goes-dropped, ends_at, Array, param_laws, Laws, Told, array_told, array_laws, of_field, copy_shared, Struct-Tells, Tuple, tuple_type}
 use contract.Fact.{fact_i}
-use contract.Monad.{fact}
-use contract.Running.{tables}
-use mir.Syntax.{named, Args, a_type, dcons, dnil, w64}
-use mir.MapTy.{inst_fn}
-use mir.Val.{Val, vptr, vint, vstruct, vcons, vnil}
-use prog.Memory.{size}
-use types.ByLocal.{alloc_all, pass_all, free_all, look_at, get, get_in, through, sets, lands_as}
-use types.Kit.{‵, raw, ◌⊛◌, some, later, ◌$◌, ◌∵◌, !, qed, done, move, drop, join, split, fsplit, fsplit3, fjoin, fjoin3, fpick, feq_i, use0, use1, use2, pick, rewrite, await, group, suffices}
-use types.Part.{whole, sub}
-use types.Run.{enter, addr, stop, fld, of_opd, and_then, no_more, returns}
-use denote.Builtin.{usize}
-use denote.Exit.{no, yes}
-use denote.Follow.{follows_both_if}
-use denote.Param.{layout, bounded}
-use denote.Plain.{uint_vals, uint_Tells, uint_Makes}
-use denote.Ref.{MutRef, mut_vals, mut_Tells}
-use denote.Signature.{plain}
-use denote.Laws.{shows}
-use denote.Steps.{nothing, heard, owned, peeks, only}
-use denote.Triple.Call.{calls_at}
-use denote.Triple.Clauses.{lasts}
-use denote.Triple.Spec.{triple_of}
-use denote.Triple.Table.{framed}
-use denote.Triple.Walked.{Stays, walk_of, stay_dropped, Goes-spent_ref, Goes-dropped, ends_at}
 use Rattle.core.proofs.alloc.Calls.{Al}
 use Rattle.core.proofs.mem.Param.{El, R}
 use Rattle.wasmi_arena.specs.Pairs.{names_if_ok, with_both}
@@ -42,14 +15,9 @@ use Rattle.wasmi_arena.proofs.stable_vec.StableVec.get_disjoint_mut.Code as code
 use Rattle.wasmi_arena.proofs.Frame.{let_go, gone}
 use Rattle.wasmi_arena.proofs.PairResults.{PairOr, pair_or_laws}
 use Rattle.wasmi_arena.proofs.VecMemory.{VecRow}
-use denote.Array.{Array}
-use denote.Param.Laws.{param_laws, Laws, Told, array_told, array_laws, of_field}
-use denote.Param.Shared.{copy_shared}
 use denote.Struct.Declared as Declared
 use denote.Struct.Field.{usize-field}
 use denote.Struct.Laws.{usize-laws, usize-copy}
-use denote.Struct.Struct.{Struct-Tells}
-use denote.Struct.Tuple.{Tuple, tuple_type}
 use Rattle.wasmi_arena.proofs.Answered.{Items, Aliasing, Bounds, Errors, asked-items, asked-aliasing, asked-bounds, asked-writes, answered-errors}
 use Rattle.wasmi_arena.specs.contracts.stable_vec.StableVec.with_numbers as Asks
 use Rattle.wasmi_arena.proofs.stable_vec.StableVec.with_numbers.Met as Asked

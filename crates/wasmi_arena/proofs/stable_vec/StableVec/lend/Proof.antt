@@ -1,32 +1,8 @@
 -- `lend` hands out a vector's buckets, of which only the items can be written. Assumes `Logic`.
 use Rattle.std.proofs.Common.{ℕ, ◌*◌, ◌<◌, ◌≤◌, ◌^◌, List, [], ◌∷◌, length, refl, sym, ◌∙◌, ap, subst}
-use Rattle.std.proofs.raw_atomic.Walks.{proved}
+use Rattle.wasmi_arena.proofs.Steps.{proved, full_share, GName, ftrue, flft, fobs, fbor, named, Args, a_type, dcons, dnil, inst_fn, size, ◌⊑◌, fact, join, use0, use1, ‵, raw, ◌⊛◌, some, later, ◌$◌, ◌∵◌, !, qed, done, move, keep, drop, split, split3, group, pick, await, fsplit3, fjoin, frame, flt_i, rewrite, suffices, enter, addr, fld, stop, returns, and_then, no_more, alloc_all, pass_all, free_all, look_at, get, through, sets, takes_part, open_ref, agg, SemTy, Body, no, follows, row, mem, layout, bounded, block_ptr, MutRef, mut_vals, mut_Tells, plain, named_lft, heard, Stays, walk_of, stay_dropped, Goes-spent_ref, ends_at}
 use Rattle.core.specs.List.{refill}
 use Rattle.std.specs.Mem.{type_size}
-use base.Fraction.{full_share}
-use base.Fml.{GName, ftrue, flft, fobs, fbor}
-use mir.Syntax.{named, Args, a_type, dcons, dnil}
-use mir.MapTy.{inst_fn}
-use prog.Memory.{size}
-use contract.BorrowLft.{◌⊑◌}
-use contract.Monad.{fact}
-use types.Kit.{join, use0, use1, ‵, raw, ◌⊛◌, some, later, ◌$◌, ◌∵◌, !, qed, done, move, keep, drop, split, split3, group, pick, await, fsplit3, fjoin, frame, flt_i, rewrite, suffices}
-use types.Run.{enter, addr, fld, stop, returns, and_then, no_more}
-use types.ByLocal.{alloc_all, pass_all, free_all, look_at, get, through, sets}
-use types.Follow.{takes_part}
-use types.Mut.{open_ref}
-use types.Part.{agg}
-use types.SemTy.{SemTy, Body}
-use denote.Exit.{no}
-use denote.Follow.{follows}
-use denote.Index.{row}
-use denote.Memory.{mem}
-use denote.Param.{layout, bounded}
-use denote.RawPtr.{block_ptr}
-use denote.Ref.{MutRef, mut_vals, mut_Tells}
-use denote.Signature.{plain, named_lft}
-use denote.Steps.{heard}
-use denote.Triple.Walked.{Stays, walk_of, stay_dropped, Goes-spent_ref, ends_at}
 use Rattle.core.proofs.alloc.Calls.{Al}
 use Rattle.core.proofs.mem.Param.{El, R}
 use Rattle.core.proofs.slots.Leases.{P}

@@ -1,36 +1,9 @@
 -- `pair` lends two items of all. Assumes `Logic`.
 use Rattle.std.proofs.Common.{◌≡◌, ◌≢◌, ◌<◌, ◌^◌, List, [], ◌∷◌, length, set, Some, refl, sym, ap, ◌∙◌, subst, w64, MutBor}
-use Rattle.std.proofs.raw_atomic.Walks.{proved}
+use Rattle.wasmi_arena.proofs.Steps.{proved, id⊢, emp, GName, ftrue, flft, ◌⊑◌, fact, tables, named, Args, a_type, dcons, dnil, inst_fn, Val, size, alloc_all, pass_all, free_all, look_at, get, through, sets, lands_as, ‵, raw, ◌⊛◌, some, later, ◌$◌, ◌∵◌, !, qed, done, move, keep, drop, join, split, split3, use0, use1, use2, pick, rewrite, await, group, frame, suffices, enter, of_opd, addr, stop, and_then, no_more, returns, Array, usize, no, yes, follows, follows_both, layout, bounded, uint_vals, uint_Tells, uint_Makes, MutRef, mut_vals, mut_Tells, plain, named_lft, shows, nothing, heard, owned, peeks, only, calls_at, lasts, triple_of, framed, Stays, walk_of, stay_dropped, Goes-spent_ref, Goes-dropped, ends_at}
 use Rattle.std.specs.Prelude.{slice_get}
 use Rattle.core.specs.List.{refill}
-use base.Logic.{id⊢, emp}
-use base.Fml.{GName, ftrue, flft}
-use contract.BorrowLft.{◌⊑◌}
 use contract.Fact.{fact_i}
-use contract.Monad.{fact}
-use contract.Running.{tables}
-use mir.Syntax.{named, Args, a_type, dcons, dnil}
-use mir.MapTy.{inst_fn}
-use mir.Val.{Val}
-use prog.Memory.{size}
-use types.ByLocal.{alloc_all, pass_all, free_all, look_at, get, through, sets, lands_as}
-use types.Kit.{‵, raw, ◌⊛◌, some, later, ◌$◌, ◌∵◌, !, qed, done, move, keep, drop, join, split, split3, use0, use1, use2, pick, rewrite, await, group, frame, suffices}
-use types.Run.{enter, of_opd, addr, stop, and_then, no_more, returns}
-use denote.Array.{Array}
-use denote.Builtin.{usize}
-use denote.Exit.{no, yes}
-use denote.Follow.{follows, follows_both}
-use denote.Param.{layout, bounded}
-use denote.Plain.{uint_vals, uint_Tells, uint_Makes}
-use denote.Ref.{MutRef, mut_vals, mut_Tells}
-use denote.Signature.{plain, named_lft}
-use denote.Laws.{shows}
-use denote.Steps.{nothing, heard, owned, peeks, only}
-use denote.Triple.Call.{calls_at}
-use denote.Triple.Clauses.{lasts}
-use denote.Triple.Spec.{triple_of}
-use denote.Triple.Table.{framed}
-use denote.Triple.Walked.{Stays, walk_of, stay_dropped, Goes-spent_ref, Goes-dropped, ends_at}
 use Rattle.core.proofs.alloc.Calls.{Al}
 use Rattle.core.proofs.mem.Param.{El, R}
 use Rattle.wasmi_arena.specs.inner.Table.{items_of, HasBuckets}

@@ -1,11 +1,5 @@
 -- Nothing is lent by a `&` to the right to give a block back. Assumes `Logic`.
-use denote.RattleType.{RattleType}
-use denote.RawPtr.{RawPtr}
-use denote.SharingLaws.{nothing_shr_laws}
-use denote.Param.Laws.{Laws}
-use denote.Param.Shared.{copy_shared}
-use denote.Struct.Laws.{field_copy}
-use denote.Struct.Lending.{of_Lends, Lends-nothing}
+use Rattle.wasmi_arena.proofs.Steps.{RattleType, RawPtr, nothing_shr_laws, Laws, copy_shared, field_copy, of_Lends, Lends-nothing}
 use Rattle.core.specs.contracts.marker.PhantomData as marker
 use Rattle.core.specs.declared.alloc.Allocator.{Ghosts}
 use Rattle.wasmi_arena.specs.contracts.raw.block.DeallocRight as Right

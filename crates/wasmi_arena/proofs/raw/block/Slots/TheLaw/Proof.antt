@@ -1,13 +1,7 @@
 -- A `&` to the slots is one to each item, and needs nothing of the value without bytes. Assumes `Logic`.
-use base.Fml.{Incl-trans}
+use Rattle.wasmi_arena.proofs.Steps.{Incl-trans, RattleType, RawPtr, Laws, copy_shared, field_copy, of_Lends}
 use mathlib.Core.List.{[], ◌++◌}
 use contract.BorrowLft.{meet_⊑_left}
-use denote.RattleType.{RattleType}
-use denote.RawPtr.{RawPtr}
-use denote.Param.Laws.{Laws}
-use denote.Param.Shared.{copy_shared}
-use denote.Struct.Laws.{field_copy}
-use denote.Struct.Lending.{of_Lends}
 use Rattle.core.specs.contracts.marker.PhantomData as marker
 use Rattle.wasmi_arena.specs.contracts.raw.block.Slots as Slots
 use Rattle.wasmi_arena.proofs.raw.block.Slots.TheLaw.Statement.{statement}

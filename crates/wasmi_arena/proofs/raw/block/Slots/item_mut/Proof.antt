@@ -1,27 +1,6 @@
 -- `item_mut` lends the item in a slot, and the slots end with what was written there. Assumes `Logic`.
 use Rattle.std.proofs.Common.{◌≡◌, ◌+◌, ◌*◌, ◌<◌, [], ◌∷◌, length, get_or, refl, ◌∙◌, arith, w64, MutBor}
-use Rattle.std.proofs.raw_atomic.Walks.{proved}
-use base.Fraction.{full_share}
-use base.Logic.{id⊢}
-use base.Fml.{GName, ftrue, fat, flft}
-use mir.Syntax.{named}
-use mir.MapTy.{inst_fn}
-use mir.Val.{vptr}
-use contract.BorrowLft.{◌⊑◌}
-use contract.Running.{tables}
-use types.Kit.{‵, raw, ◌⊛◌, some, later, at_ret, ◌$◌, ◌∵◌, !, qed, done, move, keep, use1, split, group, pick, await, frame, rewrite, suffices}
-use types.Part.{whole, sub}
-use types.Run.{bin, size_lit, addr, enter, of_opd, stop, fld, first, blocks, exec, returns}
-use types.ByLocal.{through, alloc_all, pass_all, free_all, look_at, get, get_in, sets, sets_last, take_at, give_at, env}
-use denote.Builtin.{usize}
-use denote.Exit.{yes, no}
-use denote.Follow.{follows}
-use denote.Param.{layout}
-use denote.Plain.{uint_vals, uint_Tells}
-use denote.RawPtr.{Ptr}
-use denote.Ref.{MutRef, mut_vals, mut_Tells}
-use denote.Signature.{plain}
-use denote.Triple.Walked.{Stays, walk_of, says, stay_dropped, Goes-dropped, Goes-spent_ref, ends_at}
+use Rattle.wasmi_arena.proofs.Steps.{proved, full_share, id⊢, GName, ftrue, fat, flft, named, inst_fn, vptr, ◌⊑◌, tables, ‵, raw, ◌⊛◌, some, later, at_ret, ◌$◌, ◌∵◌, !, qed, done, move, keep, use1, split, group, pick, await, frame, rewrite, suffices, whole, sub, bin, size_lit, addr, enter, of_opd, stop, fld, first, blocks, exec, returns, through, alloc_all, pass_all, free_all, look_at, get, get_in, sets, sets_last, take_at, give_at, env, usize, yes, no, follows, layout, uint_vals, uint_Tells, Ptr, MutRef, mut_vals, mut_Tells, plain, Stays, walk_of, says, stay_dropped, Goes-dropped, Goes-spent_ref, ends_at}
 use Rattle.core.proofs.mem.Param.{El, R, args, el_x}
 use Rattle.core.proofs.ptr.Rows.{hd}
 use Rattle.std.proofs.lemmas.Option.{slice_get-get_or}

@@ -1,30 +1,7 @@
 -- `slice` lends what a `&` to the slots lends. Assumes `Logic`.
 use Rattle.std.proofs.Common.{◌≡◌, ℕ, ◌+◌, ◌*◌, ◌^◌, List, [], ◌∷◌, length, refl, ap, ◌∙◌, arith, w64}
-use Rattle.std.proofs.raw_atomic.Walks.{proved}
-use native.Mathlib.Nat.{zero-mul}
-use base.Fraction.{full_share}
-use base.Logic.{never, id⊢}
-use base.Fml.{fat, flft, ftrue}
-use mir.Syntax.{named}
-use mir.MapTy.{inst_fn}
-use mir.Val.{Val}
-use contract.BorrowLft.{◌⊑◌}
-use contract.Running.{tables}
-use types.Kit.{‵, ◌⊛◌, at_ret, ◌$◌, ◌∵◌, !, qed, by, keep, drop, rewrite, fsplit, fjoin, feq_i, flt_l, flt_i, suffices}
-use types.Part.{whole, sub, agg}
-use types.Run.{enter, of_opd, stop, fld, first, blocks, exec, returns, and_then, no_more}
-use types.ByLocal.{alloc_all, pass_all, free_all, look_at, get, get_in, sets, sets_last, take_at, give_at, env}
-use denote.Builtin.{usize, RefOf}
-use denote.Exit.{yes, no}
-use denote.Memory.{hidden_shr}
-use denote.Opens.{hide, unhide}
-use denote.Param.{layout}
-use denote.Plain.{uint_vals, uint_Tells}
-use denote.RawPtr.{Ptr, in_a_block}
-use denote.Ref.{shr_vals, shr_Tells}
-use denote.Signature.{plain}
-use denote.Slice.{ShrSlice, slice_val, elements_shared}
-use denote.Triple.Walked.{Stays, walk_of, says, stay_dropped, Goes-dropped, ends_at}
+use Rattle.wasmi_arena.proofs.Steps.{proved, zero-mul, full_share, never, id⊢, fat, flft, ftrue, named, inst_fn, Val, ◌⊑◌, tables, ‵, ◌⊛◌, at_ret, ◌$◌, ◌∵◌, !, qed, by, keep, drop, rewrite, fsplit, fjoin, feq_i, flt_l, flt_i, suffices, whole, sub, agg, enter, of_opd, stop, fld, first, blocks, exec, returns, and_then, no_more, alloc_all, pass_all, free_all, look_at, get, get_in, sets, sets_last, take_at, give_at, env, usize, RefOf, yes, no, hidden_shr, hide, unhide, layout, uint_vals, uint_Tells, Ptr, in_a_block, shr_vals, shr_Tells, plain, slice_val, elements_shared, Stays, walk_of, says, stay_dropped, Goes-dropped, ends_at}
+use denote.Slice.{ShrSlice}
 use Rattle.core.proofs.mem.Param.{El, R, args}
 use Rattle.core.proofs.ptr.Rows.{times_below}
 use Rattle.std_alloc.proofs.RcSteps.{word, word-Good}

@@ -1,28 +1,6 @@
 -- `slice_mut` lends the items, and the slots end with what was written to them. Assumes `Logic`.
 use Rattle.std.proofs.Common.{◌≡◌, ℕ, ◌<◌, ◌^◌, List, [], ◌∷◌, length, refl, sym, subst, ◌∙◌, w64, MutBor}
-use Rattle.std.proofs.raw_atomic.Walks.{proved}
-use base.Fraction.{full_share}
-use base.Logic.{id⊢}
-use base.Fml.{GName, ftrue, fat, flft}
-use mir.Syntax.{named}
-use mir.MapTy.{inst_fn}
-use contract.BorrowLft.{◌⊑◌}
-use contract.Running.{tables}
-use types.Kit.{‵, raw, ◌⊛◌, some, later, at_ret, ◌$◌, ◌∵◌, !, qed, done, move, keep, use1, split, group, pick, await, frame, rewrite, suffices}
-use types.Part.{whole, sub, agg}
-use types.Run.{enter, of_opd, stop, fld, first, blocks, exec, returns, and_then, no_more}
-use types.ByLocal.{alloc_all, pass_all, free_all, look_at, get, get_in, sets, sets_last, take_at, give_at, env}
-use denote.Array.{Array}
-use denote.Builtin.{usize}
-use denote.Exit.{yes, no}
-use denote.Follow.{follows}
-use denote.Param.{layout}
-use denote.Plain.{uint_vals, uint_Tells}
-use denote.RawPtr.{Ptr}
-use denote.Ref.{mut_vals, mut_Tells}
-use denote.Signature.{plain}
-use denote.Slice.{MutSlice, slice_val}
-use denote.Triple.Walked.{Stays, walk_of, says, stay_dropped, Goes-dropped, Goes-spent_ref, ends_at}
+use Rattle.wasmi_arena.proofs.Steps.{proved, full_share, id⊢, GName, ftrue, fat, flft, named, inst_fn, ◌⊑◌, tables, ‵, raw, ◌⊛◌, some, later, at_ret, ◌$◌, ◌∵◌, !, qed, done, move, keep, use1, split, group, pick, await, frame, rewrite, suffices, whole, sub, agg, enter, of_opd, stop, fld, first, blocks, exec, returns, and_then, no_more, alloc_all, pass_all, free_all, look_at, get, get_in, sets, sets_last, take_at, give_at, env, Array, usize, yes, no, follows, layout, uint_vals, uint_Tells, Ptr, mut_vals, mut_Tells, plain, MutSlice, slice_val, Stays, walk_of, says, stay_dropped, Goes-dropped, Goes-spent_ref, ends_at}
 use Rattle.core.proofs.mem.Param.{El, R, args, el_x}
 use Rattle.std_alloc.proofs.RcSteps.{word, word-Good}
 use Rattle.std_alloc.proofs.VecSteps.Shapes.{after}

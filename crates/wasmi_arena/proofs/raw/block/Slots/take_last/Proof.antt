@@ -1,25 +1,6 @@
 -- `take_last` moves the last item out of its slot. Assumes `Logic`.
 use Rattle.std.proofs.Common.{◌≡◌, ℕ, ◌+◌, ◌*◌, ◌<◌, ◌^◌, [], ◌∷◌, length, length-append, refl, ap, ◌∙◌, subst, arith, w64}
-use Rattle.std.proofs.raw_atomic.Walks.{proved}
-use base.Fraction.{full_share}
-use base.Fml.{ftrue, fat}
-use mir.Syntax.{named}
-use mir.MapTy.{inst_fn}
-use mir.Val.{Val}
-use contract.BorrowLft.{◌⊑◌}
-use contract.Running.{tables}
-use types.Kit.{‵, ◌⊛◌, some, given, at_ret, ◌$◌, ◌∵◌, !, qed, by, move, keep, use1, use2, split, pick, learn, rewrite, suffices}
-use types.Part.{whole, sub}
-use types.Run.{enter, of_opd, size_lit, bin, load, look, stop, fld, first, blocks, exec, returns}
-use types.ByLocal.{alloc_all, pass_all, free_all, look_at, get, get_in, through, sets, sets_last, take_at, give_at, env}
-use denote.Builtin.{usize}
-use denote.Exit.{yes, no}
-use denote.Param.{layout}
-use denote.Plain.{uint_vals, uint_Tells}
-use denote.RawPtr.{Ptr}
-use denote.Ref.{mut_vals, mut_Tells}
-use denote.Signature.{plain}
-use denote.Triple.Walked.{Stays, walk_of, stay_dropped, Goes-dropped, stay_ref, Goes-ref, ends_at}
+use Rattle.wasmi_arena.proofs.Steps.{proved, full_share, ftrue, fat, named, inst_fn, Val, ◌⊑◌, tables, ‵, ◌⊛◌, some, given, at_ret, ◌$◌, ◌∵◌, !, qed, by, move, keep, use1, use2, split, pick, learn, rewrite, suffices, whole, sub, enter, of_opd, size_lit, bin, load, look, stop, fld, first, blocks, exec, returns, alloc_all, pass_all, free_all, look_at, get, get_in, through, sets, sets_last, take_at, give_at, env, usize, yes, no, layout, uint_vals, uint_Tells, Ptr, mut_vals, mut_Tells, plain, Stays, walk_of, stay_dropped, Goes-dropped, stay_ref, Goes-ref, ends_at}
 use Rattle.core.proofs.mem.Param.{El, R, args, elτ, Good}
 use Rattle.std_alloc.proofs.RcSteps.{word, word-Good}
 use Rattle.std_alloc.proofs.VecSteps.Shapes.{after}

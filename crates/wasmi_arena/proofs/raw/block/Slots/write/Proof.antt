@@ -1,27 +1,9 @@
 -- `write` moves an item into the slot behind the others. Assumes `Logic`.
 use Rattle.std.proofs.Common.{◌≡◌, ℕ, ◌+◌, ◌*◌, ◌<◌, ◌^◌, List, [], ◌∷◌, length, length-append, refl, sym, ◌∙◌, subst, arith, w64}
+use Rattle.wasmi_arena.proofs.Steps.{full_share, ftrue, fsep, fat, froom, named, inst_fn, Val, vunit, ent, ◌⊑◌, tables, use3, feq_i, ‵, ◌⊛◌, at_ret, ◌$◌, ◌∵◌, !, qed, by, move, keep, use1, split, fsplit, rewrite, suffices, whole, sub, unit_lit, assigns_last, enter, of_opd, size_lit, bin, stop, fld, first, blocks, exec, returns, alloc_all, pass_all, free_all, look_at, get, get_in, through, sets, take_at, give_at, env, usize, unit, yes, no, layout, uint_vals, Ptr, mut_vals, mut_Tells, plain, says, Stays, walk_of, stay_dropped, Goes-dropped, stay_ref, Goes-ref, ends_at}
 use Rattle.std.proofs.raw_atomic.Walks.{proved_at}
-use base.Fraction.{full_share}
-use base.Fml.{ftrue, fsep, fat, froom}
-use mir.Syntax.{named}
-use mir.MapTy.{inst_fn}
-use mir.Val.{Val, vunit}
 use prog.Wp.{WpFn}
-use base.Logic.{ent}
-use contract.BorrowLft.{◌⊑◌}
-use contract.Running.{tables}
-use types.Kit.{use3, feq_i, ‵, ◌⊛◌, at_ret, ◌$◌, ◌∵◌, !, qed, by, move, keep, use1, split, fsplit, rewrite, suffices}
-use types.Part.{whole, sub}
-use types.Run.{unit_lit, init, assigns_last, enter, of_opd, size_lit, bin, stop, fld, first, blocks, exec, returns}
-use types.ByLocal.{alloc_all, pass_all, free_all, look_at, get, get_in, through, sets, take_at, give_at, env}
-use denote.Builtin.{usize, unit}
-use denote.Exit.{yes, no}
-use denote.Param.{layout}
-use denote.Plain.{uint_vals}
-use denote.RawPtr.{Ptr}
-use denote.Ref.{mut_vals, mut_Tells}
-use denote.Signature.{plain}
-use denote.Triple.Walked.{says, Stays, walk_of, stay_dropped, Goes-dropped, stay_ref, Goes-ref, ends_at}
+use types.Run.{init}
 use Rattle.core.proofs.mem.Param.{El, R, args, elτ, one, lawful}
 use Rattle.std_alloc.proofs.RcSteps.{word, word-Good}
 use Rattle.std_alloc.proofs.VecSteps.Shapes.{after}

@@ -1,39 +1,14 @@
 -- `allocate` makes the parts of a block of what the allocator answers. Assumes `Logic`.
 use Rattle.std.proofs.Common.{◌≡◌, ℕ, ◌+◌, ◌*◌, ◌<◌, ◌^◌, [], ◌∷◌, refl, sym, ap, subst, arith, w64, Bool, true, false, lit<}
-use Rattle.std.proofs.raw_atomic.Walks.{proved}
+use Rattle.wasmi_arena.proofs.Steps.{proved, sep, Incl-trans, ftrue, fsep, flft, named, ty_array, inst_fn, Val, vint, vstruct, vcons, vnil, align, capped, capped_fits, ◌⊑◌, fact, tables, later, await, split, Sq, prop, ‵, raw, ◌⊛◌, at_ret, ◌$◌, ◌∵◌, !, qed, by, move, keep, use1, use2, rewrite, fjoin, flt_i, suffices, live, whole, agg, enter, of_opd, lit, bin, size_word, align_word, stop, fld, first, exec, returns, and_then, no_more, alloc_all, pass_all, free_all, look_at, get, get_in, sets, sets_last, lands_as, is, env, usize, RefOf, yes, hidden_shr, layout, uint_vals, uint_Tells, Ptr, block_ptr, shr_vals, shr_Tells, plain, Is, heard, owned, Struct, Struct-Makes, calls_at, framed, says, Stays, walk_of, stay_dropped, Goes-dropped, ends_at}
 use Rattle.std.specs.Prelude.{IsTrue, IfOk, Ok, Err}
 use Rattle.std.specs.Vec.Ownership.{FitsInBlock, owns_if}
-use base.Logic.{sep}
-use base.Fml.{Incl-trans, ftrue, fsep, flft}
-use mir.Syntax.{named, ty_array}
-use mir.MapTy.{inst_fn}
-use mir.Val.{Val, vint, vstruct, vcons, vnil}
-use prog.Memory.{align, capped}
-use prog.Capped.{capped_fits}
 use prog.Wp.{Wp, after_seq, at_return}
-use contract.BorrowLft.{◌⊑◌}
-use contract.Monad.{fact}
-use contract.Running.{tables}
-use types.Kit.{any_q, later, await, split, Sq, prop, ‵, raw, ◌⊛◌, at_ret, ◌$◌, ◌∵◌, !, qed, by, move, keep, use1, use2, rewrite, fjoin, flt_i, suffices}
-use types.Match.{live, vrt, in_variant}
-use types.Part.{whole, agg}
-use types.Run.{enter, of_opd, lit, bin, size_word, align_word, stop, fld, first, switches_on, exec, returns, and_then, no_more}
-use types.ByLocal.{alloc_all, pass_all, free_all, look_at, get, get_in, get_tag, sets, sets_last, lands_as, is, env}
-use denote.Builtin.{usize, RefOf}
-use denote.Exit.{yes}
-use denote.Memory.{hidden_shr}
-use denote.Param.{layout}
-use denote.Plain.{uint_vals, uint_Tells}
-use denote.RawPtr.{Ptr, block_ptr}
-use denote.Ref.{shr_vals, shr_Tells}
-use denote.Signature.{plain}
-use denote.Laws.{Is}
-use denote.Steps.{heard, owned}
-use denote.Struct.Struct.{Struct, Struct-Makes}
+use types.Kit.{any_q}
+use types.Match.{vrt, in_variant}
+use types.Run.{switches_on}
+use types.ByLocal.{get_tag}
 use denote.Struct.Declared as Declared
-use denote.Triple.Call.{calls_at}
-use denote.Triple.Table.{framed}
-use denote.Triple.Walked.{says, Stays, walk_of, stay_dropped, Goes-dropped, ends_at}
 use Rattle.core.proofs.alloc.Calls.{Al, token, Answer-typed, Takes, at_takes, Answered, Takes-goes, Takes-gives, answers}
 use Rattle.core.proofs.mem.Param.{El, R, elτ}
 use Rattle.core.proofs.slots.Leases.{uncapped, block_ty, block_size, block_align, args, P}

@@ -1,32 +1,10 @@
 -- `deallocate` makes the empty slots room again, and gives it back with the right. Assumes `Logic`.
 use Rattle.std.proofs.Common.{◌≡◌, ℕ, ◌+◌, ◌*◌, ◌<◌, ◌^◌, List, [], ◌∷◌, T, refl, sym, ap, subst, ◌∙◌, arith, w64, Bool}
-use Rattle.std.proofs.raw_atomic.Walks.{proved}
+use Rattle.wasmi_arena.proofs.Steps.{proved, never, id⊢, Incl-trans, ftrue, fsep, froom, flft, named, ty_array, inst_fn, Val, vint, vunit, has_ty, WT, align, capped, capped_fits, ◌⊑◌, fact, tables, given, learn, feq_i, flt_l, fsplit3, group, later, await, Sq, prop, ‵, raw, ◌⊛◌, at_ret, ◌$◌, ◌∵◌, !, qed, done, move, keep, use1, rewrite, fsplit, suffices, whole, sub, enter, of_opd, lit, unit_lit, bin, size_word, align_word, stop, fld, first, blocks, branches, skips, exec, returns, and_then, no_more, alloc_all, pass_all, free_all, look_at, get, get_in, sets, is, env, usize, unit, RefOf, yes, no, hidden_shr, uint_vals, uint_Tells, Ptr, block_ptr, ptr_val, in_a_block, shr_vals, shr_Tells, plain, nothing, heard, framed, Stays, walk_of, stay_dropped, Goes-dropped, ends_at}
 use Rattle.std.specs.Vec.Ownership.{owns_if}
-use base.Logic.{never, id⊢}
-use base.Fml.{Incl-trans, ftrue, fsep, froom, flft}
-use mir.Syntax.{named, ty_array, ty_unit}
-use mir.MapTy.{inst_fn}
-use mir.Val.{Val, vint, vunit, has_ty, WT}
-use prog.Memory.{align, capped}
-use prog.Capped.{capped_fits}
-use contract.BorrowLft.{◌⊑◌}
-use contract.Monad.{fact}
-use contract.Running.{tables}
-use types.Kit.{given, learn, feq_i, flt_l, fsplit3, group, later, await, Sq, prop, ‵, raw, ◌⊛◌, at_ret, ◌$◌, ◌∵◌, !, qed, done, move, keep, use1, rewrite, fsplit, suffices}
-use types.Part.{whole, sub}
-use types.Run.{enter, of_opd, lit, unit_lit, bin, size_word, align_word, stop, fld, first, blocks, branches, skips, exec, returns, and_then, no_more}
-use types.ByLocal.{alloc_all, pass_all, free_all, look_at, get, get_in, sets, lands_last, is, env}
-use denote.Builtin.{usize, unit, RefOf}
-use denote.Exit.{yes, no}
-use denote.Memory.{hidden_shr}
-use denote.Plain.{uint_vals, uint_Tells}
-use denote.RawPtr.{Ptr, block_ptr, ptr_val, in_a_block}
-use denote.Ref.{shr_vals, shr_Tells}
-use denote.Signature.{plain}
-use denote.Steps.{nothing, heard}
+use mir.Syntax.{ty_unit}
+use types.ByLocal.{lands_last}
 use denote.Triple.Call.{calls_at_last}
-use denote.Triple.Table.{framed}
-use denote.Triple.Walked.{Stays, walk_of, stay_dropped, Goes-dropped, ends_at}
 use Rattle.core.proofs.alloc.Calls.{Al, Goes-blank, token, Gives, at_gives, Gives-goes, Gives-Gives}
 use Rattle.core.proofs.mem.Param.{El, R, elτ}
 use Rattle.core.proofs.slots.Leases.{uncapped, block_ty, block_size, block_align, args, P}

@@ -1,33 +1,11 @@
 -- `without_block` makes the parts of a block that takes no memory, of nothing. Assumes `Logic`.
 use Rattle.std.proofs.Common.{◌≡◌, ℕ, ◌+◌, ◌*◌, ◌<◌, ◌^◌, [], ◌∷◌, T, refl, sym, ap, subst, ◌∙◌, arith, w64, not, eqb, lit<}
-use Rattle.std.proofs.raw_atomic.Walks.{proved}
+use Rattle.wasmi_arena.proofs.Steps.{proved, emp, ftrue, fsep, froom, flft, named, ty_array, inst_fn, Val, vcons, vnil, capped, ◌⊑◌, tables, Sq, prop, ‵, raw, at_ret, ◌$◌, ◌∵◌, !, qed, by, keep, use0, use1, use2, rewrite, fjoin, flt_i, suffices, live, agg, enter, lit, bin, size_word, addr, stop, first, branches, skips, exec, returns, returns_within, and_then, no_more, alloc_all, pass_all, free_all, look_at, get, sets, env, usize, RefOf, yes, hidden_shr, layout, uint_vals, uint_Tells, Ptr, block_ptr, shr_vals, shr_Tells, plain, nothing, Stays, walk_of, stay_dropped, Goes-dropped, ends_at}
 use Rattle.std.specs.Prelude.{◌==◌, IsSome, IfSome, Some, None, ◌↔◌}
 use Rattle.std.specs.Vec.Ownership.{owns_if}
 use native.Mathlib.Nat.{mul-zero}
-use base.Logic.{emp}
-use base.Fml.{ftrue, fsep, froom, flft}
-use mir.Syntax.{named, ty_array}
-use mir.MapTy.{inst_fn}
 use mir.Raw.{raw as raw_ty}
-use mir.Val.{Val, vcons, vnil}
-use prog.Memory.{capped}
-use contract.BorrowLft.{◌⊑◌}
-use contract.Running.{tables}
-use types.Kit.{Sq, prop, ‵, raw, at_ret, ◌$◌, ◌∵◌, !, qed, by, keep, use0, use1, use2, rewrite, fjoin, flt_i, suffices}
-use types.Match.{live}
-use types.Part.{agg}
-use types.Run.{enter, lit, bin, size_word, addr, stop, from, first, branches, skips, exec, returns, returns_within, and_then, no_more}
-use types.ByLocal.{alloc_all, pass_all, free_all, look_at, get, sets, env}
-use denote.Builtin.{usize, RefOf}
-use denote.Exit.{yes}
-use denote.Memory.{hidden_shr}
-use denote.Param.{layout}
-use denote.Plain.{uint_vals, uint_Tells}
-use denote.RawPtr.{Ptr, block_ptr}
-use denote.Ref.{shr_vals, shr_Tells}
-use denote.Signature.{plain}
-use denote.Steps.{nothing}
-use denote.Triple.Walked.{Stays, walk_of, stay_dropped, Goes-dropped, ends_at}
+use types.Run.{from}
 use Rattle.core.proofs.alloc.Calls.{Al, token}
 use Rattle.core.proofs.mem.Param.{El, R, elτ}
 use Rattle.core.proofs.slots.Leases.{args, P}

@@ -1,12 +1,7 @@
 -- Nothing is lent by a `&` to a loan. Assumes `Logic`.
-use denote.RattleType.{RattleType}
-use denote.Ref.{NamedLft, MutRef}
-use denote.SharingLaws.{nothing_shr_laws}
-use denote.Param.Laws.{Laws}
-use denote.Param.Shared.{copy_shared}
+use Rattle.wasmi_arena.proofs.Steps.{RattleType, NamedLft, MutRef, nothing_shr_laws, Laws, copy_shared, field_copy, of_Lends, Lends-nothing}
 use denote.Struct.Field.{RawPtr-field}
-use denote.Struct.Laws.{RawPtr-copy, field_copy}
-use denote.Struct.Lending.{of_Lends, Lends-nothing}
+use denote.Struct.Laws.{RawPtr-copy}
 use Rattle.core.specs.contracts.marker.PhantomData as marker
 use Rattle.core.specs.contracts.option.Option as Option
 use Rattle.core.specs.declared.alloc.Allocator.{Ghosts}

@@ -1,41 +1,9 @@
 -- `bucket` lends one bucket on, and the loan ends with what was written to its items. Assumes `Logic`.
 use Rattle.std.proofs.Common.{◌≡◌, ℕ, ◌*◌, ◌<◌, ◌≤◌, ◌^◌, List, [], ◌∷◌, length, get_or, None, refl, sym, ap, subst, arith, w64, MutBor, mul-le-mul_right}
-use Rattle.std.proofs.raw_atomic.Walks.{proved}
+use Rattle.wasmi_arena.proofs.Steps.{proved, emp, never, id⊢, GName, ftrue, flft, named, Args, a_type, dcons, dnil, inst_fn, Val, vint, vptr, ◌⊑◌, Lfts, Shares, fact, tables, join, use0, use1, use2, ‵, raw, ◌⊛◌, some, later, at_ret, ◌$◌, ◌∵◌, !, qed, done, move, keep, drop, split, split3, group, pick, await, fsplit, flt_l, frame, rewrite, suffices, whole, sub, enter, of_opd, bin, size_word, addr, fld, stop, first, blocks, exec, returns, and_then, no_more, alloc_all, pass_all, free_all, look_at, get, get_in, through, sets, sets_last, lands_as, is, env, sem, SemTy, Array, usize, yes, no, follows, shows, bounded, uint_vals, uint_Tells, ptr_val, in_a_block, MutRef, plain, named_lft, MutSlice, slice_val, nothing, heard, peeks, only, calls_at, lasts, triple_of, framed, Stays, walk_of, says, stay_dropped, Goes-dropped, ends_at}
 use Rattle.std.specs.Prelude.{IsSome}
 use base.Share
-use base.Logic.{emp, never, id⊢}
-use base.Fml.{GName, ftrue, flft}
-use mir.Syntax.{named, Args, a_type, dcons, dnil}
-use mir.MapTy.{inst_fn}
-use mir.Val.{Val, vint, vptr}
-use contract.BorrowLft.{◌⊑◌}
 use contract.Fact.{fact_i}
-use contract.Lifetimes.{Lfts, Shares}
-use contract.Monad.{fact}
-use contract.Running.{tables}
-use types.Kit.{join, use0, use1, use2, ‵, raw, ◌⊛◌, some, later, at_ret, ◌$◌, ◌∵◌, !, qed, done, move, keep, drop, split, split3, group, pick, await, fsplit, flt_l, frame, rewrite, suffices}
-use types.Part.{whole, sub}
-use types.Run.{enter, of_opd, bin, size_word, addr, fld, stop, first, blocks, exec, returns, and_then, no_more}
-use types.ByLocal.{alloc_all, pass_all, free_all, look_at, get, get_in, through, sets, sets_last, lands_as, is, env}
-use types.Logic.{sem}
-use types.SemTy.{SemTy}
-use denote.Array.{Array}
-use denote.Builtin.{usize}
-use denote.Exit.{yes, no}
-use denote.Follow.{follows}
-use denote.Laws.{shows}
-use denote.Param.{bounded}
-use denote.Plain.{uint_vals, uint_Tells}
-use denote.RawPtr.{ptr_val, in_a_block}
-use denote.Ref.{MutRef}
-use denote.Signature.{plain, named_lft}
-use denote.Slice.{MutSlice, slice_val}
-use denote.Steps.{nothing, heard, peeks, only}
-use denote.Triple.Call.{calls_at}
-use denote.Triple.Clauses.{lasts}
-use denote.Triple.Spec.{triple_of}
-use denote.Triple.Table.{framed}
-use denote.Triple.Walked.{Stays, walk_of, says, stay_dropped, Goes-dropped, ends_at}
 use Rattle.core.proofs.alloc.Calls.{Al, Goes-blank}
 use Rattle.core.proofs.mem.Param.{El, R}
 use Rattle.core.proofs.slots.Leases.{uncapped, P}

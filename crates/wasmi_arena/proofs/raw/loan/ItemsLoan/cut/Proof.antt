@@ -1,28 +1,7 @@
 -- `cut` makes two loans of one. Assumes `Logic`.
 use Rattle.std.proofs.Common.{◌≡◌, ℕ, ◌+◌, ◌*◌, ◌<◌, ◌≤◌, ◌^◌, List, [], ◌∷◌, ◌++◌, length, take, drop as rest_of, refl, sym, ap, subst, ◌∙◌, arith, w64, mul-le-mul_right}
 use Rattle.std.proofs.lemmas.List.{length-take, take-append-drop}
-use Rattle.std.proofs.raw_atomic.Walks.{proved}
-use base.Logic.{never, id⊢}
-use base.Fml.{GName, ftrue, flft}
-use mir.Syntax.{Args, a_type, dcons, dnil}
-use mir.MapTy.{inst_fn}
-use mir.Val.{vint}
-use contract.BorrowLft.{◌⊑◌}
-use contract.Monad.{fact}
-use contract.Running.{tables}
-use types.Kit.{join, use0, use1, use2, ‵, raw, ◌⊛◌, some, later, at_ret, ◌$◌, ◌∵◌, !, qed, done, move, keep, drop, split, split3, pick, await, fsplit, fjoin, flt_l, flt_i, rewrite, suffices}
-use types.Part.{agg, whole, sub}
-use types.Run.{enter, of_opd, bin, size_word, fld, stop, first, blocks, exec, returns, and_then, no_more}
-use types.ByLocal.{alloc_all, pass_all, free_all, look_at, get, get_in, sets, sets_last, is, env}
-use denote.Builtin.{usize}
-use denote.Exit.{yes, no}
-use denote.Plain.{uint_vals, uint_Tells}
-use denote.RawPtr.{block_ptr, ptr_val, in_a_block}
-use denote.Index.{place as nth, place_is}
-use denote.Param.{bounded}
-use denote.Signature.{plain, named_lft}
-use denote.Steps.{heard}
-use denote.Triple.Walked.{Stays, walk_of, says, stay_dropped, Goes-dropped, ends_at}
+use Rattle.wasmi_arena.proofs.Steps.{proved, never, id⊢, GName, ftrue, flft, Args, a_type, dcons, dnil, inst_fn, vint, ◌⊑◌, fact, tables, join, use0, use1, use2, ‵, raw, ◌⊛◌, some, later, at_ret, ◌$◌, ◌∵◌, !, qed, done, move, keep, drop, split, split3, pick, await, fsplit, fjoin, flt_l, flt_i, rewrite, suffices, agg, whole, sub, enter, of_opd, bin, size_word, fld, stop, first, blocks, exec, returns, and_then, no_more, alloc_all, pass_all, free_all, look_at, get, get_in, sets, sets_last, is, env, usize, yes, no, uint_vals, uint_Tells, block_ptr, ptr_val, in_a_block, nth, place_is, bounded, plain, named_lft, heard, Stays, walk_of, says, stay_dropped, Goes-dropped, ends_at}
 use Rattle.core.proofs.alloc.Calls.{Al, Goes-blank}
 use Rattle.core.proofs.mem.Param.{El, R}
 use Rattle.core.proofs.slots.Leases.{uncapped, P}

@@ -1,39 +1,11 @@
 -- `pair` lends two items by their slots. Assumes `Logic`.
 use Rattle.std.proofs.Common.{◌≡◌, ◌≢◌, ◌<◌, List, [], ◌∷◌, length, get_or, set, None, Some, refl, sym, ap, ◌∙◌, subst, w64, MutBor}
-use Rattle.std.proofs.raw_atomic.Walks.{proved}
+use Rattle.wasmi_arena.proofs.Steps.{proved, emp, id⊢, ftrue, flft, Args, a_type, dcons, dnil, inst_fn, Val, vint, vstruct, vcons, vnil, has_ty, WT, ◌⊑◌, fact, tables, join, use0, use1, use2, ‵, raw, ◌⊛◌, some, later, prop, Sq, ◌$◌, ◌∵◌, !, qed, done, move, keep, drop, split, split3, group, pick, await, frame, rewrite, suffices, whole, sub, enter, of_opd, fld, stop, returns, and_then, no_more, alloc_all, pass_all, free_all, look_at, get, get_in, sets, lands_as, env, Array, usize, yes, no, follows_both, shows, bounded, layout, uint_vals, uint_Tells, uint_Makes, plain, named_lft, nothing, heard, owned, peeks, only, Struct-Tells, Tuple, tuple_type, calls_at, lasts, triple_of, framed, Stays, walk_of, stay_dropped, Goes-dropped, ends_at}
 use Rattle.std.specs.Prelude.{slice_get}
 use lib.Dec as dec
-use lib.Dec.{eqb→eq}
-use base.Logic.{emp, id⊢}
-use base.Fml.{ftrue, flft}
-use mir.Syntax.{Args, a_type, dcons, dnil}
-use mir.MapTy.{inst_fn}
-use mir.Val.{Val, vint, vstruct, vcons, vnil, has_ty, WT}
-use contract.BorrowLft.{◌⊑◌}
 use contract.Fact.{fact_i}
-use contract.Monad.{fact}
-use contract.Running.{tables}
-use types.Kit.{join, use0, use1, use2, ‵, raw, ◌⊛◌, some, later, prop, Sq, ◌$◌, ◌∵◌, !, qed, done, move, keep, drop, split, split3, group, pick, await, frame, rewrite, suffices}
-use types.Part.{whole, sub}
-use types.Run.{enter, of_opd, fld, stop, returns, and_then, no_more}
-use types.ByLocal.{alloc_all, pass_all, free_all, look_at, get, get_in, sets, lands_as, env}
-use denote.Array.{Array}
-use denote.Builtin.{usize}
-use denote.Exit.{yes, no}
-use denote.Follow.{follows_both}
-use denote.Laws.{shows}
-use denote.Param.{bounded, layout}
-use denote.Plain.{uint_vals, uint_Tells, uint_Makes}
-use denote.Signature.{plain, named_lft}
-use denote.Steps.{nothing, heard, owned, peeks, facts, only}
+use denote.Steps.{facts}
 use denote.Struct.Declared as Declared
-use denote.Struct.Struct.{Struct-Tells}
-use denote.Struct.Tuple.{Tuple, tuple_type}
-use denote.Triple.Call.{calls_at}
-use denote.Triple.Clauses.{lasts}
-use denote.Triple.Spec.{triple_of}
-use denote.Triple.Table.{framed}
-use denote.Triple.Walked.{Stays, walk_of, stay_dropped, Goes-dropped, ends_at}
 use Rattle.core.proofs.alloc.Calls.{Al, Goes-blank}
 use Rattle.core.proofs.mem.Param.{El, R}
 use Rattle.wasmi_arena.specs.Geometry.{IsPlace, max_len}

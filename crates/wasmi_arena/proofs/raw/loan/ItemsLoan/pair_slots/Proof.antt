@@ -1,37 +1,7 @@
 -- `pair_slots` lends the items in two slots, each by the pointer of its bucket. Assumes `Logic`.
 use Rattle.std.proofs.Common.{◌≡◌, ◌≢◌, ℕ, ◌+◌, ◌*◌, ◌<◌, ◌≤◌, ◌^◌, List, [], ◌∷◌, length, get_or, None, refl, sym, ap, subst, arith, w64, MutBor, mul-le-mul_right}
 use Rattle.std.proofs.lemmas.Option.{slice_get-get_or}
-use Rattle.std.proofs.raw_atomic.Walks.{proved}
-use base.Logic.{SProp, ent, sep, all, all_e, apply∗, never, id⊢}
-use base.Fml.{GName, ftrue, fsep, flft, fobs, fbor}
-use mir.Syntax.{named, Args, a_type, dcons, dnil}
-use mir.MapTy.{inst_fn}
-use mir.Val.{Val, vint, vptr}
-use contract.BorrowLft.{◌⊑◌}
-use contract.Monad.{fact}
-use contract.Running.{tables}
-use types.Follow.{after₂, takes_two}
-use types.Kit.{join, use0, use1, use2, ‵, raw, ◌⊛◌, some, later, at_ret, ◌$◌, ◌∵◌, !, qed, done, move, keep, drop, split, split3, group, pick, await, fsplit, fjoin, fjoin3, feq_i, flt_l, frame, rewrite, suffices}
-use types.Part.{agg, whole, sub, look_in}
-use types.Run.{enter, of_opd, bin, size_word, align_word, addr, load, fld, stop, first, blocks, exec, returns, and_then, no_more}
-use types.ByLocal.{alloc_all, pass_all, free_all, look_at, get, get_in, through, sets, sets_last, is, env}
-use types.Logic.{sem}
-use types.Mut.{open_ref}
-use types.SemTy.{SemTy, Body}
-use base.Fraction.{full_share}
-use denote.Array.{Array}
-use denote.Builtin.{usize}
-use denote.Exit.{yes, no}
-use denote.Follow.{follows_both}
-use denote.Index.{row}
-use denote.Memory.{mem}
-use denote.Param.{bounded}
-use denote.Plain.{uint_vals, uint_Tells}
-use denote.RawPtr.{ptr_val, in_a_block}
-use denote.Ref.{MutRef, mut_vals}
-use denote.Signature.{plain, named_lft}
-use denote.Steps.{heard}
-use denote.Triple.Walked.{Stays, walk_of, stay_dropped, Goes-dropped, ends_at}
+use Rattle.wasmi_arena.proofs.Steps.{proved, SProp, ent, sep, all, all_e, apply∗, never, id⊢, GName, ftrue, fsep, flft, fobs, fbor, named, Args, a_type, dcons, dnil, inst_fn, Val, vint, vptr, ◌⊑◌, fact, tables, after₂, takes_two, join, use0, use1, use2, ‵, raw, ◌⊛◌, some, later, at_ret, ◌$◌, ◌∵◌, !, qed, done, move, keep, drop, split, split3, group, pick, await, fsplit, fjoin, fjoin3, feq_i, flt_l, frame, rewrite, suffices, agg, whole, sub, look_in, enter, of_opd, bin, size_word, align_word, addr, load, fld, stop, first, blocks, exec, returns, and_then, no_more, alloc_all, pass_all, free_all, look_at, get, get_in, through, sets, sets_last, is, env, sem, open_ref, SemTy, Body, full_share, Array, usize, yes, no, follows_both, row, mem, bounded, uint_vals, uint_Tells, ptr_val, in_a_block, MutRef, mut_vals, plain, named_lft, heard, Stays, walk_of, stay_dropped, Goes-dropped, ends_at}
 use Rattle.core.proofs.alloc.Calls.{Al, Goes-blank}
 use Rattle.core.proofs.mem.Param.{El, R}
 use Rattle.core.proofs.slots.Leases.{uncapped, P}
