@@ -1,4 +1,4 @@
-use Rattle.std.proofs.Common.{rules, tests, ◌≡◌, sym, ap, subst, ◌∙◌, nat_lt, option_map}
+use Rattle.std.proofs.Common.{rules, tests, sym, ap, subst, ◌∙◌, nat_lt, option_map}
 use Rattle.std.specs.Iterator.{YieldsFirstBy}
 use Rattle.std.proofs.lemmas.Iterator.Consumers.{YieldsList-from_first}
 use Rattle.std.proofs.lemmas.Iterator.Search.{find_from_yields_List}
