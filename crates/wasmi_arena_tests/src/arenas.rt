@@ -202,7 +202,11 @@ fn too_many_items_ask_for_nothing(rt: HostRuntime) {
             let mut arena: StableArena<usize, i32, Observed<'_>> = made.expect(&rt, "");
             let made = log.requests();
             assert_equal!(rt; numbers(arena.alloc_many(amount)), Err(ArenaError::NotEnoughKeys));
-            assert_equal!(rt; (are_all(arena.items(), &0), arena.len()), (true, len as usize));
+            let mut values = arena.values();
+            for item in 0..len {
+                assert_equal!(rt; values.next(), Some(&item));
+            }
+            assert_equal!(rt; values.next(), None);
             assert_equal!(rt; (log.requests(), arena.items().open_buckets() as u64), (made, made));
         }
     }
