@@ -145,21 +145,39 @@ fn asks_for_these<T: Drop>(
 }
 
 #[test]
-fn a_run_asks_for_its_replies_alone(rt: HostRuntime) {
+fn a_run_of_an_interner_asks_for_its_replies_alone(rt: HostRuntime) {
     let log = Log::new();
     let heap = Logged::new(rt.alloc(), &log);
     let commands = (0..9).map(|_| InternCommand::Len).collect(heap);
     let (commands, before) = (commands.expect(&rt, ""), log.bytes());
     let replies = run_interner(heap, &mut StringInterner::new(rt.alloc()), commands);
     assert_equal!(rt; asks_for_these(&log, before, &replies.expect(&rt, "")), Ok(true));
+}
+
+#[test]
+fn a_run_of_a_map_asks_for_its_replies_alone(rt: HostRuntime) {
+    let log = Log::new();
+    let heap = Logged::new(rt.alloc(), &log);
     let commands = (0..9).map(|_| MapCommand::<u32, i64>::Len).collect(heap);
     let (commands, before) = (commands.expect(&rt, ""), log.bytes());
     let replies = run_map(heap, &mut ordered::Map::new(rt.alloc()), commands);
     assert_equal!(rt; asks_for_these(&log, before, &replies.expect(&rt, "")), Ok(true));
+}
+
+#[test]
+fn a_run_of_a_set_asks_for_its_replies_alone(rt: HostRuntime) {
+    let log = Log::new();
+    let heap = Logged::new(rt.alloc(), &log);
     let commands = (0..9).map(|_| SetCommand::<u32>::Len).collect(heap);
     let (commands, before) = (commands.expect(&rt, ""), log.bytes());
     let replies = run_set(heap, &mut ordered::Set::new(rt.alloc()), commands);
     assert_equal!(rt; asks_for_these(&log, before, &replies.expect(&rt, "")), Ok(true));
+}
+
+#[test]
+fn a_run_of_an_arena_asks_for_its_replies_alone(rt: HostRuntime) {
+    let log = Log::new();
+    let heap = Logged::new(rt.alloc(), &log);
     let commands = (0..9)
         .map(|_| DedupCommand::<FewKeys<4>, i32>::Clear)
         .collect(heap);
@@ -169,13 +187,18 @@ fn a_run_asks_for_its_replies_alone(rt: HostRuntime) {
 }
 
 #[test]
-fn a_run_hashes_once(rt: HostRuntime) {
+fn a_run_of_a_set_hashes_once(rt: HostRuntime) {
     let notes = Notes::new();
     let mut set: hashed::Set<Noted<'_>> = hashed::Set::new(rt.alloc());
     let commands = (0..20u32).map(|number| SetCommand::Insert(Noted::new(number / 2, &notes)));
     let commands = commands.collect(rt.alloc()).expect(&rt, "");
     run_set(rt.alloc(), &mut set, commands).expect(&rt, "");
     assert_equal!(rt; (set.len(), notes.hashed()), (10, 20));
+}
+
+#[test]
+fn a_run_of_a_map_hashes_once(rt: HostRuntime) {
+    let notes = Notes::new();
     let mut map: hashed::Map<Noted<'_>, u32> = hashed::Map::new(rt.alloc());
     let commands = (0..20u32).map(|number| MapCommand::Insert(
         Noted::new(number / 2, &notes),

@@ -1,6 +1,7 @@
 //! Head vectors: the worked rows, and an allocator that refuses requests.
 use std::alloc::{Allocator, Global};
 use std::cmp::Ordering;
+use std::process::Abort;
 use wasmi_collections::HeadVec;
 use wasmi_collections::arena::ArenaError;
 use wasmi_vectors::assert_equal;
@@ -15,6 +16,14 @@ fn list<T: Copy + Drop>(alloc: Global, items: &[T]) -> Result<HeadVec<T>, ArenaE
         list.push(*item)?;
     }
     Ok(list)
+}
+
+// Compares two lists, of which the items of greater numbers are greater.
+fn compare(rt: &impl Abort, this: &HeadVec<i32>, that: &HeadVec<i32>, one: usize, other: usize) {
+    let order = one.cmp(&other);
+    assert_equal!(*rt; this.cmp(that), order, "at {one} and {other}");
+    assert_equal!(*rt; this.partial_cmp(that), Some(order), "at {one} and {other}");
+    assert_equal!(*rt; this == that, one == other, "at {one} and {other}");
 }
 
 #[test]
@@ -33,26 +42,43 @@ fn the_last_items_are_compared_first(rt: HostRuntime) {
         let this = list(rt.alloc(), items).expect(&rt, "");
         for (other, items) in lists.iter().enumerate() {
             let that = list(rt.alloc(), items).expect(&rt, "");
-            assert_equal!(rt; this.cmp(&that), one.cmp(&other), "at {one} and {other}");
-            assert_equal!(rt; (this.partial_cmp(&that), this == that), (Some(one.cmp(&other)), one == other));
+            compare(&rt, &this, &that, one, other);
         }
     }
 }
 
-#[test]
-fn items_come_back_from_the_end(rt: HostRuntime) {
-    let mut items: HeadVec<u32> = HeadVec::new(rt.alloc());
-    assert_equal!(rt; (items.len(), items.is_empty(), items.last()), (0, true, None));
-    assert!(rt; items.last_mut().is_none());
-    assert_equal!(rt; (items.push(1), items.push(2), items.push(3)), (Ok(()), Ok(()), Ok(())));
-    assert_equal!(rt; (items.len(), items.is_empty(), items.last()), (3, false, Some(&3)));
+// Whether a list has so many items, of which this is the last.
+fn ends_with(items: &HeadVec<u32>, len: usize, last: Option<&u32>) -> bool {
+    items.len() == len && items.is_empty() == (len == 0) && items.last() == last
+}
+
+// A list of 1, 2 and 3, of which the last was written over by 30.
+fn three_items(rt: &impl Abort, alloc: Global) -> HeadVec<u32> {
+    let mut items = list(alloc, &[1, 2, 3]).expect(rt, "");
+    assert_equal!(*rt; ends_with(&items, 3, Some(&3)), true);
     if let Some(last) = items.last_mut() {
         *last = 30;
     }
+    items
+}
+
+#[test]
+fn items_come_back_from_the_end(rt: HostRuntime) {
+    let mut items = three_items(&rt, rt.alloc());
     let copy = items.clone().expect(&rt, "");
-    assert_equal!(rt; [items.pop(), items.pop(), items.pop(), items.pop()], [Some(30), Some(2), Some(1), None]);
-    assert_equal!(rt; items.len(), 0);
+    for last in [Some(30), Some(2), Some(1), None] {
+        assert_equal!(rt; items.pop(), last);
+    }
+    assert_equal!(rt; ends_with(&items, 0, None), true);
+    assert_equal!(rt; items.last_mut().is_none(), true);
     assert_equal!(rt; copy, list(rt.alloc(), &[1, 2, 30]).expect(&rt, ""));
+}
+
+#[test]
+fn an_empty_list_has_no_last_item(rt: HostRuntime) {
+    let mut items: HeadVec<u32> = HeadVec::new(rt.alloc());
+    assert_equal!(rt; ends_with(&items, 0, None), true);
+    assert_equal!(rt; items.last_mut().is_none(), true);
 }
 
 #[test]
@@ -104,6 +130,23 @@ fn a_pop_gives_no_memory_back(rt: HostRuntime) {
     assert_equal!(rt; log.returned(), returned);
 }
 
+// Pushes a number onto those below it, again where it is refused, which changed nothing. Whether it was.
+fn push_again<A: Allocator + Clone>(
+    rt: &impl Abort,
+    items: &mut HeadVec<usize, A>,
+    item: usize,
+) -> bool {
+    let pushed = items.push(item);
+    if let Err(error) = pushed {
+        assert_equal!(*rt; error, ArenaError::OutOfSystemMemory, "at {item}");
+        let copy = items.clone().expect(rt, "");
+        assert_equal!(*rt; ends_with_numbers(copy, item), true, "at {item}");
+        items.push(item).expect(rt, "");
+    }
+    assert_equal!(*rt; items.last(), Some(&item));
+    pushed.is_err()
+}
+
 #[test]
 fn each_request_refused_in_turn(rt: HostRuntime) {
     let mut refusals = 0u64;
@@ -112,22 +155,15 @@ fn each_request_refused_in_turn(rt: HostRuntime) {
         let mut items = HeadVec::new(Observed::new(rt.alloc(), &log));
         log.refuse_once(nth);
         for item in 0..300usize {
-            if let Err(error) = items.push(item) {
+            if push_again(&rt, &mut items, item) {
                 refusals = refusals.wrapping_add(1);
-                assert_equal!(rt; (error, items.len()), (ArenaError::OutOfSystemMemory, item), "at {nth}");
-                assert!(rt;
-                    ends_with_numbers(items.clone().expect(&rt, ""), item),
-                    "at {nth}"
-                );
-                items.push(item).expect(&rt, "");
             }
-            assert_equal!(rt; items.last(), Some(&item));
         }
-        assert!(rt; ends_with_numbers(items, 300), "at {nth}");
+        assert_equal!(rt; ends_with_numbers(items, 300), true, "at {nth}");
         assert_equal!(rt; log.amiss(), 0);
     }
     // The list grew several times.
-    assert!(rt; refusals > 3 && refusals < 19);
+    assert_equal!(rt; refusals > 3 && refusals < 19, true);
 }
 
 // Whether the items are the numbers below `len`, in order.
@@ -140,14 +176,22 @@ fn ends_with_numbers<A: Allocator>(items: HeadVec<usize, A>, len: usize) -> bool
     all && items.pop().is_none()
 }
 
+type Boxes<'l> = HeadVec<Box<u64, Observed<'l>>, Observed<'l>>;
+
+// A list of 102 boxes.
+fn boxes<'l>(rt: &impl Abort, alloc: Global, log: &'l Log) -> Boxes<'l> {
+    let mut items = HeadVec::new(Observed::new(alloc, log));
+    for number in 0..102u64 {
+        let item = Box::new(Observed::new(alloc, log), number).expect(rt, "");
+        items.push(item).expect(rt, "");
+    }
+    items
+}
+
 #[test]
 fn a_refused_clone_leaves_its_source(rt: HostRuntime) {
     let log = Log::new();
-    let mut items = HeadVec::new(Observed::new(rt.alloc(), &log));
-    for number in 0..102u64 {
-        let item = Box::new(Observed::new(rt.alloc(), &log), number).expect(&rt, "");
-        items.push(item).expect(&rt, "");
-    }
+    let items = boxes(&rt, rt.alloc(), &log);
     // A box for each item, and a block for all but the last.
     for nth in 1..104u64 {
         log.refuse_once(nth);
@@ -162,6 +206,18 @@ fn a_refused_clone_leaves_its_source(rt: HostRuntime) {
     assert_equal!(rt; log.amiss(), 0);
 }
 
+// Drops two items, after two others, and pushes one.
+fn clear_and_push<'t, A: Allocator>(
+    rt: &impl Abort,
+    tally: &'t Tally,
+    items: &mut HeadVec<Item<'t>, A>,
+) {
+    items.clear();
+    assert_equal!(*rt; (tally.dropped().0, items.len()), (4, 0));
+    items.push(Item::new(tally, 3)).expect(rt, "");
+    assert_equal!(*rt; tally.dropped().0, 4);
+}
+
 #[test]
 fn each_item_is_dropped_once(rt: HostRuntime) {
     let (log, tally) = (Log::new(), Tally::new());
@@ -171,13 +227,11 @@ fn each_item_is_dropped_once(rt: HostRuntime) {
     let refused = items.push(Item::new(&tally, 9)).err();
     assert_equal!(rt; (refused, tally.dropped()), (Some(ArenaError::OutOfSystemMemory), (1, 0)));
     log.refuse_none();
-    items.push(Item::new(&tally, 1)).expect(&rt, "");
-    items.push(Item::new(&tally, 2)).expect(&rt, "");
+    for number in [1, 2] {
+        items.push(Item::new(&tally, number)).expect(&rt, "");
+    }
     assert_equal!(rt; (items.pop().map(|item| item.number()), tally.dropped()), (Some(2), (2, 0)));
-    items.clear();
-    assert_equal!(rt; (tally.dropped().0, items.len()), (4, 0));
-    items.push(Item::new(&tally, 3)).expect(&rt, "");
-    assert_equal!(rt; tally.dropped().0, 4);
+    clear_and_push(&rt, &tally, &mut items);
     drop(items);
     assert_equal!(rt; (tally.dropped().0, log.amiss()), (5, 0));
 }

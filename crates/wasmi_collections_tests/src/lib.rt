@@ -4,6 +4,8 @@
 #[cfg(test)]
 mod asserts;
 #[cfg(test)]
+mod calls;
+#[cfg(test)]
 mod dedup;
 #[cfg(test)]
 mod dropped;
@@ -17,6 +19,8 @@ mod large_runs;
 mod places;
 #[cfg(test)]
 mod printed;
+#[cfg(test)]
+mod refused;
 #[cfg(test)]
 mod replace;
 #[cfg(test)]

@@ -1,7 +1,9 @@
 //! Values of a deduplicating arena that take the place of others: the worked rows, and what a call asks
 //! for, compares, clones and drops.
+use crate::calls::{get, hand_in, key_of, made_of, replace, text};
 use std::alloc::{AllocError, Global};
 use std::hash::{Hash, Hasher};
+use std::process::Abort;
 use wasmi_collections::arena::{ArenaError, DedupArena};
 use wasmi_collections::run::{DedupCommand, DedupReply, run_dedup};
 use wasmi_vectors::assert_equal;
@@ -30,7 +32,7 @@ fn costs(alloc: Global, len: u32, key: usize, number: u32) -> Result<(u64, u64, 
     let mut arena = of_numbers(alloc, &notes, len)?;
     *arena.get_mut(7)? = Noted::new(12_345, &notes);
     taken(&notes);
-    let there = arena.replace(key, Noted::new(number, &notes));
+    let there = replace(&mut arena, key, Noted::new(number, &notes));
     let counts = taken(&notes);
     drop(there);
     Ok(counts)
@@ -59,7 +61,7 @@ fn a_call_takes_no_walk(rt: HostRuntime) {
     let numbers = DedupArena::<usize, usize>::from_iter(rt.alloc(), 0..524_288);
     let mut arena = numbers.expect(&rt, "");
     for key in 0..524_288usize {
-        assert_equal!(rt; arena.replace(key, key + 524_288), Ok(key));
+        assert_equal!(rt; replace(&mut arena, key, key + 524_288), Ok(key));
     }
 }
 
@@ -70,7 +72,7 @@ fn a_look_compares_one_value(rt: HostRuntime) {
     let mut arena = of_numbers(rt.alloc(), &notes, 1_000).expect(&rt, "");
     let value = Noted::new(500, &notes);
     taken(&notes);
-    assert_equal!(rt; (arena.key_of(&value), taken(&notes)), (Some(500), (1, 0, 0)));
+    assert_equal!(rt; (key_of(&arena, &value), taken(&notes)), (Some(500), (1, 0, 0)));
     assert_equal!(rt; (arena.alloc_ref(&value), taken(&notes)), (Ok(500), (1, 0, 0)));
 }
 
@@ -117,18 +119,18 @@ fn the_worked_rows(rt: HostRuntime) {
     );
     // The value has this key already, so nothing is asked for.
     log.refuse_from(1);
-    assert_equal!(rt; (arena.replace(2, "a"), arena.alloc("a")), (Ok("q"), Ok(2)));
+    assert_equal!(rt; (replace(&mut arena, 2, "a"), hand_in(&mut arena, "a")), (Ok("q"), Ok(2)));
 }
 
 #[test]
 fn a_new_value_needs_no_key(rt: HostRuntime) {
-    let mut arena: DedupArena<FewKeys<4>, &str> = DedupArena::from_iter(
-        rt.alloc(),
-        ["p", "q", "r", "s"],
-    ).expect(&rt, "");
-    let last = arena.alloc("s").expect(&rt, "");
-    assert_equal!(rt; (arena.replace(last, "t").expect(&rt, ""), arena.alloc("t").expect(&rt, "")), ("s", last));
-    assert_equal!(rt; arena.alloc("s").err(), Some(ArenaError::NotEnoughKeys));
+    let mut arena: DedupArena<FewKeys<4>, &str> = made_of(rt.alloc(), &["p", "q", "r", "s"]).expect(
+        &rt, "",
+    );
+    let last = hand_in(&mut arena, "s").expect(&rt, "");
+    assert_equal!(rt; replace(&mut arena, last, "t"), Ok("s"));
+    assert_equal!(rt; hand_in(&mut arena, "t"), Ok(last));
+    assert_equal!(rt; hand_in(&mut arena, "s").err(), Some(ArenaError::NotEnoughKeys));
 }
 
 // A text whose clone has one more character.
@@ -143,8 +145,29 @@ impl Clone for Longer<'_> {
     }
 }
 
-fn text_to_lengthen<'l>(heap: Logged<'l>, text: &str) -> Result<Longer<'l>, AllocError> {
-    Ok(Longer(String::from_str(heap, text)?))
+type Longers<'l> = DedupArena<usize, Longer<'l>, Logged<'l>>;
+
+fn text_to_lengthen<'l>(rt: &impl Abort, heap: Logged<'l>, letter: &str) -> Longer<'l> {
+    Longer(text(rt, heap, letter))
+}
+
+// Hands letters in, whose keys are the numbers from 0 on.
+fn hand_letters_in<'l>(
+    rt: &impl Abort,
+    heap: Logged<'l>,
+    arena: &mut Longers<'l>,
+    letters: &[&str],
+) {
+    let mut key = 0usize;
+    for letter in letters {
+        assert_equal!(*rt; hand_in(arena, text_to_lengthen(rt, heap, *letter)), Ok(key));
+        key = key.wrapping_add(1);
+    }
+}
+
+// The text of an item.
+fn lengthened<'a>(arena: &'a Longers<'_>, key: usize) -> Result<&'a str, ArenaError> {
+    Ok(get(arena, key)?.0.as_str())
 }
 
 // What is refused is dropped, and so are the clones that were made for it.
@@ -152,20 +175,13 @@ fn text_to_lengthen<'l>(heap: Logged<'l>, text: &str) -> Result<Longer<'l>, Allo
 fn a_clone_that_differs_changes_nothing(rt: HostRuntime) {
     let log = Log::new();
     let heap = Logged::new(rt.alloc(), &log);
-    let mut arena: DedupArena<usize, Longer<'_>, Logged<'_>> = DedupArena::new(heap);
-    for text in ["a", "b"] {
-        arena
-            .alloc(text_to_lengthen(heap, text).expect(&rt, ""))
-            .expect(&rt, "");
-    }
-    let refused = arena.replace(0, text_to_lengthen(heap, "d").expect(&rt, ""));
+    let mut arena = DedupArena::new(heap);
+    hand_letters_in(&rt, heap, &mut arena, &["a", "b"]);
+    let refused = replace(&mut arena, 0, text_to_lengthen(&rt, heap, "d"));
     assert_equal!(rt; refused.err(), Some(ArenaError::OutOfSystemMemory));
-    for (key, item) in ["ax", "bx"].iter().enumerate() {
-        assert_equal!(rt; arena.get(key).map(|there| there.0.as_str()), Ok(*item));
-    }
-    for (key, text) in ["a", "b", "d"].iter().enumerate() {
-        assert_equal!(rt; arena.alloc(text_to_lengthen(heap, *text).expect(&rt, "")), Ok(key));
-    }
+    assert_equal!(rt; lengthened(&arena, 0), Ok("ax"));
+    assert_equal!(rt; lengthened(&arena, 1), Ok("bx"));
+    hand_letters_in(&rt, heap, &mut arena, &["a", "b", "d"]);
     assert_equal!(rt; arena.index().len(), 3);
     drop(arena);
     assert_equal!(rt; log.amiss(), 0);
@@ -173,37 +189,47 @@ fn a_clone_that_differs_changes_nothing(rt: HostRuntime) {
 
 type Texts<'l> = DedupArena<usize, String<Logged<'l>>, Logged<'l>>;
 
-// An arena of "a", "b" and "c", of which the second was written over where it says so.
-fn three_texts<'l>(heap: Logged<'l>, written: bool) -> Result<Texts<'l>, ArenaError> {
-    let mut arena = DedupArena::new(heap);
-    for text in ["a", "b", "c"] {
-        let _key = arena.alloc(String::from_str(heap, text)?)?;
+// Hands three texts in, whose keys are the numbers from 0 on. There is no other.
+fn hand_three_in<'l>(rt: &impl Abort, heap: Logged<'l>, arena: &mut Texts<'l>, letters: [&str; 3]) {
+    let mut key = 0usize;
+    for letter in letters {
+        assert_equal!(*rt; hand_in(arena, text(rt, heap, letter)), Ok(key), "of {letter}");
+        key = key.wrapping_add(1);
     }
-    if written {
-        *arena.get_mut(1)? = String::from_str(heap, "z")?;
-    }
-    Ok(arena)
+    assert_equal!(*rt; arena.len(), 3);
 }
 
-// Whether these values have the keys from 0 on, and there is no other.
-fn are_handed<'l>(
-    arena: &mut Texts<'l>,
-    heap: Logged<'l>,
-    texts: [&str; 3],
-) -> Result<bool, ArenaError> {
-    for (nth, text) in texts.iter().enumerate() {
-        if arena.alloc(String::from_str(heap, *text)?)? != nth {
-            return Ok(false);
-        }
+// An arena of "a", "b" and "c", of which the second was written over where it says so.
+fn three_texts<'l>(rt: &impl Abort, heap: Logged<'l>, written: bool) -> Texts<'l> {
+    let mut arena = DedupArena::new(heap);
+    hand_three_in(rt, heap, &mut arena, ["a", "b", "c"]);
+    if written {
+        *arena.get_mut(1).expect(rt, "") = text(rt, heap, "z");
     }
-    Ok(arena.len() == 3)
+    arena
+}
+
+// Puts a text in the place of the second one, where the nth request is refused.
+fn replace_second<'l>(
+    rt: &impl Abort,
+    heap: Logged<'l>,
+    log: &Log,
+    arena: &mut Texts<'l>,
+    letter: &str,
+    nth: u64,
+) -> Result<String<Logged<'l>>, ArenaError> {
+    let value = text(rt, heap, letter);
+    log.refuse_once(nth);
+    let there = replace(arena, 1, value);
+    log.refuse_none();
+    there
 }
 
 // The requests are for the clone of the value, and for that of the one that it takes the place of, where
 // an item was written there. The index has room.
 #[test]
 fn each_request_refused_in_turn(rt: HostRuntime) {
-    for (written, text, there, requests) in [
+    for (written, letter, there, requests) in [
         (false, "d", "b", 1),
         (true, "d", "z", 2),
         (true, "b", "z", 0),
@@ -211,24 +237,18 @@ fn each_request_refused_in_turn(rt: HostRuntime) {
         for nth in 1..4 {
             let log = Log::new();
             let heap = Logged::new(rt.alloc(), &log);
-            let mut arena = three_texts(heap, written).expect(&rt, "");
-            let value = String::from_str(heap, text).expect(&rt, "");
-            log.refuse_once(nth);
-            let result = arena.replace(1, value);
-            log.refuse_none();
-            let (want, second) = if nth <= requests {
-                (Err(ArenaError::OutOfSystemMemory), "b")
+            let mut arena = three_texts(&rt, heap, written);
+            let result = replace_second(&rt, heap, &log, &mut arena, letter, nth);
+            let second = if nth <= requests {
+                assert_equal!(rt; result.err(), Some(ArenaError::OutOfSystemMemory), "{letter} at {nth}");
+                "b"
             } else {
-                (Ok(there), text)
+                let was = result.expect(&rt, "");
+                assert_equal!(rt; was.as_str(), there, "{letter} at {nth}");
+                letter
             };
-            let found = result
-                .as_ref()
-                .map(|there| there.as_str())
-                .map_err(|error| *error);
-            assert_equal!(rt; found, want, "{text} at {nth}");
-            let handed = are_handed(&mut arena, heap, ["a", second, "c"]);
-            assert_equal!(rt; handed, Ok(true), "{text} at {nth}");
-            drop((arena, result));
+            hand_three_in(&rt, heap, &mut arena, ["a", second, "c"]);
+            drop(arena);
             assert_equal!(rt; log.amiss(), 0);
         }
     }
@@ -239,22 +259,42 @@ fn each_request_refused_in_turn(rt: HostRuntime) {
 fn a_run_goes_on_after_a_refusal(rt: HostRuntime) {
     let log = Log::new();
     let heap = Logged::new(rt.alloc(), &log);
-    let mut arena = three_texts(heap, false).expect(&rt, "");
+    let mut arena = three_texts(&rt, heap, false);
     let commands = vec![in heap;
-        DedupCommand::Replace(1, String::from_str(heap, "d").expect(&rt, "")),
-        DedupCommand::Replace(2, String::from_str(heap, "e").expect(&rt, "")),
+        DedupCommand::Replace(1, text(&rt, heap, "d")),
+        DedupCommand::Replace(2, text(&rt, heap, "e")),
     ]
     .expect(&rt, "");
     log.refuse_once(2);
     let replies = run_dedup(heap, &mut arena, commands).expect(&rt, "");
     let wanted = [
         DedupReply::Refused(ArenaError::OutOfSystemMemory),
-        DedupReply::Old(String::from_str(heap, "c").expect(&rt, "")),
+        DedupReply::Old(text(&rt, heap, "c")),
     ];
     assert_equal!(rt; replies.as_slice(), wanted.as_slice());
-    assert_equal!(rt; are_handed(&mut arena, heap, ["a", "b", "e"]), Ok(true));
+    hand_three_in(&rt, heap, &mut arena, ["a", "b", "e"]);
     drop((arena, replies, wanted));
     assert_equal!(rt; log.amiss(), 0);
+}
+
+type Numbers<'l> = DedupArena<usize, u32, Logged<'l>>;
+
+// Puts 99 in the place of 0, where the first request is refused, which is made only where the index is full. Then
+// nothing has changed, and 99 takes the place. Whether it is full.
+fn replace_refused(rt: &impl Abort, log: &Log, arena: &mut Numbers<'_>) -> bool {
+    let full = arena.index().capacity() == arena.len();
+    let asked = log.requests();
+    log.refuse_once(1);
+    let first = replace(arena, 0, 99);
+    log.refuse_none();
+    assert_equal!(*rt; first.is_err(), full);
+    if full {
+        assert_equal!(*rt; get(arena, 0), Ok(&0));
+        assert_equal!(*rt; hand_in(arena, 0), Ok(0));
+        assert_equal!(*rt; replace(arena, 0, 99), Ok(0));
+    }
+    assert_equal!(*rt; (log.requests() != asked, get(arena, 0)), (full, Ok(&99)));
+    full
 }
 
 // The numbers ask for nothing, so that what is refused is a block of the index, which is asked for only where
@@ -264,44 +304,49 @@ fn a_refused_growth_changes_nothing(rt: HostRuntime) {
     let mut refused = 0u64;
     for len in 1..60u32 {
         let log = Log::new();
-        let heap = Logged::new(rt.alloc(), &log);
-        let made = DedupArena::from_iter(heap, 0..len);
-        let mut arena: DedupArena<usize, u32, Logged<'_>> = made.expect(&rt, "");
-        let full = arena.index().capacity() == len as usize;
-        let asked = log.requests();
-        log.refuse_once(1);
-        let first = arena.replace(0, 99);
-        log.refuse_none();
-        assert_equal!(rt; first.is_err(), full, "of {len}");
-        if full {
+        let mut arena: Numbers<'_> = DedupArena::from_iter(
+            Logged::new(rt.alloc(), &log),
+            0..len,
+        ).expect(&rt, "");
+        if replace_refused(&rt, &log, &mut arena) {
             refused = refused.wrapping_add(1);
-            assert_equal!(rt; arena.get(0), Ok(&0));
-            assert_equal!(rt; (arena.alloc(0), arena.replace(0, 99)), (Ok(0), Ok(0)));
         }
-        assert_equal!(rt; (log.requests() != asked, arena.get(0)), (full, Ok(&99)), "of {len}");
         for value in 1..len {
-            assert_equal!(rt; arena.alloc(value), Ok(value as usize), "of {len}");
+            assert_equal!(rt; hand_in(&mut arena, value), Ok(value as usize), "of {len}");
         }
         assert_equal!(rt; arena.len(), len as usize);
         drop(arena);
         assert_equal!(rt; log.amiss(), 0);
     }
-    assert!(rt; refused > 2);
+    assert_equal!(rt; refused > 2, true);
 }
 
 // One entry more than there are values goes into the index, and no item.
 #[test]
 fn many_calls_ask_for_one_block(rt: HostRuntime) {
     let log = Log::new();
-    let heap = Logged::new(rt.alloc(), &log);
-    let mut arena: DedupArena<usize, u32, Logged<'_>> = DedupArena::from_iter(heap, 0..4u32).expect(
-        &rt, "",
-    );
+    let mut arena: Numbers<'_> = DedupArena::from_iter(
+        Logged::new(rt.alloc(), &log),
+        0..4u32,
+    ).expect(&rt, "");
     let asked = log.requests();
     for value in 4..1_004u32 {
-        assert_equal!(rt; arena.replace((value % 4) as usize, value), Ok(value.wrapping_sub(4)));
+        let there = replace(&mut arena, (value % 4) as usize, value);
+        assert_equal!(rt; there, Ok(value.wrapping_sub(4)));
     }
-    assert!(rt; log.requests().wrapping_sub(asked) < 2);
+    assert_equal!(rt; log.requests().wrapping_sub(asked) < 2, true);
+}
+
+// Puts a text in the place of the first of so many, where the second request is refused. Whether the call fails.
+fn replace_among(rt: &impl Abort, heap: Logged<'_>, log: &Log, len: u32) -> bool {
+    let mut arena: Texts<'_> = DedupArena::new(heap);
+    for number in 0..len {
+        let value = format!(in heap; "{number}").expect(rt, "");
+        hand_in(&mut arena, value).expect(rt, "");
+    }
+    let value = text(rt, heap, "new");
+    log.refuse_once(2);
+    replace(&mut arena, 0, value).is_err()
 }
 
 // The clone of the value is refused, or a block of the index.
@@ -310,19 +355,10 @@ fn a_refused_text_is_dropped(rt: HostRuntime) {
     let mut refused = 0u64;
     for len in 1..30u32 {
         let log = Log::new();
-        let heap = Logged::new(rt.alloc(), &log);
-        let mut arena: Texts<'_> = DedupArena::new(heap);
-        for number in 0..len {
-            let text = format!(in heap; "{number}").expect(&rt, "");
-            arena.alloc(text).expect(&rt, "");
-        }
-        let value = String::from_str(heap, "new").expect(&rt, "");
-        log.refuse_once(2);
-        if arena.replace(0, value).is_err() {
+        if replace_among(&rt, Logged::new(rt.alloc(), &log), &log, len) {
             refused = refused.wrapping_add(1);
         }
-        drop(arena);
         assert_equal!(rt; log.amiss(), 0);
     }
-    assert!(rt; refused > 1);
+    assert_equal!(rt; refused > 1, true);
 }

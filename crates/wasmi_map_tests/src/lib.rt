@@ -8,9 +8,13 @@ mod compared;
 #[cfg(test)]
 mod entries;
 #[cfg(test)]
+mod hashed;
+#[cfg(test)]
 mod kept;
 #[cfg(test)]
 mod large;
+#[cfg(test)]
+mod ordered;
 #[cfg(test)]
 mod refused;
 #[cfg(test)]

@@ -116,6 +116,36 @@ fn a_cut_and_a_join_lose_nothing(rt: HostRuntime) {
     }
 }
 
+// A map of five numbers.
+fn pairs_of<'a>(
+    rt: &impl Abort,
+    alloc: Global,
+    first: u32,
+    keys: &'a Notes,
+    values: &'a Cell<u64>,
+) -> Map<Noted<'a>, Counted<'a>> {
+    let mut pairs = Map::new(alloc);
+    for number in first..first.wrapping_add(5) {
+        let (key, value) = (Noted::new(number, keys), Counted::new(values));
+        pairs.insert(key, value).expect(rt, "");
+    }
+    pairs
+}
+
+// A set of them.
+fn elements_of<'a>(
+    rt: &impl Abort,
+    alloc: Global,
+    first: u32,
+    elements: &'a Notes,
+) -> Set<Noted<'a>> {
+    let mut others = Set::new(alloc);
+    for number in first..first.wrapping_add(5) {
+        others.insert(Noted::new(number, elements)).expect(rt, "");
+    }
+    others
+}
+
 // Of 0 to 4, 3 to 7 and 6 to 10, four are there when they come again.
 #[test]
 fn what_is_in_both_is_dropped_once(rt: HostRuntime) {
@@ -123,38 +153,61 @@ fn what_is_in_both_is_dropped_once(rt: HostRuntime) {
     let mut map: Map<Noted<'_>, Counted<'_>> = Map::new(rt.alloc());
     let mut set: Set<Noted<'_>> = Set::new(rt.alloc());
     for first in [0u32, 3, 6] {
-        let mut pairs: Map<Noted<'_>, Counted<'_>> = Map::new(rt.alloc());
-        let mut others: Set<Noted<'_>> = Set::new(rt.alloc());
-        for number in first..first.wrapping_add(5) {
-            pairs
-                .insert(Noted::new(number, &keys), Counted::new(&values))
-                .expect(&rt, "");
-            others.insert(Noted::new(number, &elements)).expect(&rt, "");
-        }
+        let mut pairs = pairs_of(&rt, rt.alloc(), first, &keys, &values);
         map.append(&mut pairs).expect(&rt, "");
+        let mut others = elements_of(&rt, rt.alloc(), first, &elements);
         set.append(&mut others).expect(&rt, "");
     }
     assert_equal!(rt; (map.len(), set.len()), (11, 11));
     assert_equal!(rt; (keys.dropped(), values.get(), elements.dropped()), (4, 4, 4));
 }
 
+// Joins an empty map and one of so many entries, which gets an entry then. How many requests come to the allocator of
+// the first.
+fn exchange_maps(rt: &impl Abort, alloc: Global, len: u64) -> u64 {
+    let (log, others) = (Log::new(), Log::new());
+    let mut map: Map<u64, u64, Observed<'_>> = Map::new(Observed::new(alloc, &log));
+    let mut pairs: Map<u64, u64, Observed<'_>> = Map::new(Observed::new(alloc, &others));
+    pairs.extend((0..len).map(|key| (key, key))).expect(rt, "");
+    map.append(&mut pairs).expect(rt, "");
+    pairs.insert(2, 2).expect(rt, "");
+    assert_equal!(*rt; map.len(), len as usize);
+    log.requests()
+}
+
+// The same of two sets.
+fn exchange_sets(rt: &impl Abort, alloc: Global, len: u64) -> u64 {
+    let (log, others) = (Log::new(), Log::new());
+    let mut set: Set<u64, Observed<'_>> = Set::new(Observed::new(alloc, &log));
+    let mut elements: Set<u64, Observed<'_>> = Set::new(Observed::new(alloc, &others));
+    elements.extend(0..len).expect(rt, "");
+    set.append(&mut elements).expect(rt, "");
+    elements.insert(2).expect(rt, "");
+    assert_equal!(*rt; set.len(), len as usize);
+    log.requests()
+}
+
 // What has entries leaves an empty one its allocator for its own, of which the next entry is asked; what has none keeps it.
 #[test]
 fn empty_ones_are_exchanged(rt: HostRuntime) {
     for len in [0, 1] {
-        let (log, others) = (Log::new(), Log::new());
-        let mut map: Map<u64, u64, Observed<'_>> = Map::new(Observed::new(rt.alloc(), &log));
-        let mut set: Set<u64, Observed<'_>> = Set::new(Observed::new(rt.alloc(), &log));
-        let mut pairs: Map<u64, u64, Observed<'_>> = Map::new(Observed::new(rt.alloc(), &others));
-        let mut elements: Set<u64, Observed<'_>> = Set::new(Observed::new(rt.alloc(), &others));
-        pairs.extend((0..len).map(|key| (key, key))).expect(&rt, "");
-        elements.extend(0..len).expect(&rt, "");
-        map.append(&mut pairs).expect(&rt, "");
-        set.append(&mut elements).expect(&rt, "");
-        pairs.insert(2, 2).expect(&rt, "");
-        elements.insert(2).expect(&rt, "");
-        assert_equal!(rt; (map.len(), set.len(), log.requests()), (len as usize, len as usize, len * 2));
+        let requests = (
+            exchange_maps(&rt, rt.alloc(), len),
+            exchange_sets(&rt, rt.alloc(), len),
+        );
+        assert_equal!(rt; requests, (len, len));
     }
+}
+
+// Whether the ends of a map of 0 to 131,071 and the first key after 6 are read.
+fn reads_keys(map: &Map<u32, u32>) -> bool {
+    (map.first_key_value(), map.last_key_value()) == (Some((&0, &0)), Some((&131_071, &131_071)))
+        && map.range(7..).next() == Some((&7, &7))
+}
+
+// The same of a set.
+fn reads_elements(set: &Set<u32>) -> bool {
+    (set.first(), set.last()) == (Some(&0), Some(&131_071)) && set.range(7..).next() == Some(&7)
 }
 
 // They, and a step of a range, would take minutes if they went over the entries.
@@ -163,17 +216,38 @@ fn the_ends_take_no_walk(rt: HostRuntime) {
     let pairs = (0..131_072u32).map(|key| (key, key));
     let map = Map::from_iter(rt.alloc(), pairs).expect(&rt, "");
     let set = Set::from_iter(rt.alloc(), 0..131_072u32).expect(&rt, "");
-    let mut turns = 0u32;
-    for _ in 0..131_072u32 {
-        let of_map = (map.first_key_value(), map.last_key_value())
-            == (Some((&0, &0)), Some((&131_071, &131_071)));
-        let of_ranges = (map.range(7..).next(), set.range(7..).next())
-            == (Some((&7, &7)), Some(&7));
-        if of_map && of_ranges && (set.first(), set.last()) == (Some(&0), Some(&131_071)) {
-            turns = turns.wrapping_add(1);
-        }
+    for turn in 0..131_072u32 {
+        assert_equal!(rt; (reads_keys(&map), reads_elements(&set)), (true, true), "at {turn}");
     }
-    assert_equal!(rt; turns, 131_072);
+}
+
+// Whether the calls by a text find it in a map, and take it out in the end.
+fn takes_entry(map: &mut Map<String, u32>, text: &str, number: u32) -> bool {
+    map.get_str(text) == Some(&number)
+        && map.contains_key_str(text)
+        && map.get_mut_str(text).is_some()
+        && map.get_key_value_str(text).is_some()
+        && if number % 2 == 0 {
+            map.remove_str(text) == Some(number)
+        } else {
+            map.remove_entry_str(text).is_some()
+        }
+}
+
+// The same of a set.
+fn takes_element(set: &mut Set<String>, text: &str, number: u32) -> bool {
+    set.contains_str(text)
+        && set.get_str(text).is_some()
+        && if number % 2 == 0 {
+            set.remove_str(text)
+        } else {
+            set.take_str(text).is_some()
+        }
+}
+
+// A text of a number.
+fn text(rt: &impl Abort, alloc: Global, number: u32) -> String {
+    format!(in alloc; "{number:05}").expect(rt, "")
 }
 
 // The greatest first, so a walk would take minutes.
@@ -182,25 +256,15 @@ fn a_text_takes_no_walk(rt: HostRuntime) {
     let mut map: Map<String, u32> = Map::new(rt.alloc());
     let mut set: Set<String> = Set::new(rt.alloc());
     for number in 0..20_000u32 {
-        let text = || format!(in rt.alloc(); "{number:05}");
-        map.insert(text().expect(&rt, ""), number).expect(&rt, "");
-        set.insert(text().expect(&rt, "")).expect(&rt, "");
+        map.insert(text(&rt, rt.alloc(), number), number)
+            .expect(&rt, "");
+        set.insert(text(&rt, rt.alloc(), number)).expect(&rt, "");
     }
-    let mut turns = 0u32;
     for number in (0..20_000u32).rev() {
-        let text = format!(in rt.alloc(); "{number:05}").expect(&rt, "");
-        let text = text.as_str();
-        let read = map.get_str(text) == Some(&number) && map.contains_key_str(text);
-        let there = map.get_mut_str(text).is_some() && map.get_key_value_str(text).is_some();
-        let in_set = set.contains_str(text) && set.get_str(text).is_some();
-        let taken = if number % 2 == 0 {
-            map.remove_str(text) == Some(number) && set.remove_str(text)
-        } else {
-            map.remove_entry_str(text).is_some() && set.take_str(text).is_some()
-        };
-        if read && there && in_set && taken {
-            turns = turns.wrapping_add(1);
-        }
+        let key = text(&rt, rt.alloc(), number);
+        let is_taken = takes_entry(&mut map, key.as_str(), number)
+            && takes_element(&mut set, key.as_str(), number);
+        assert_equal!(rt; is_taken, true, "of {number}");
     }
-    assert_equal!(rt; (turns, map.len(), set.len()), (20_000, 0, 0));
+    assert_equal!(rt; (map.len(), set.len()), (0, 0));
 }

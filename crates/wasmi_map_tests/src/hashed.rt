@@ -1,0 +1,5 @@
+//! Tests of hashed maps and sets alone.
+
+mod counted;
+mod room;
+mod states;

@@ -1,0 +1,4 @@
+//! Tests of ordered maps and sets alone.
+
+mod counted;
+mod parts;
