@@ -4,27 +4,18 @@
 --     good      what is owned of the result is a machine value of its type
 --     Told      what the result says of the list and of two positions.        told_outside, told_alike, told_lent      of each result
 --     ToldKeys, told_keys      the same of two keys
+use Rattle.wasmi_arena.proofs.Steps.{Ura, GName, Lft, T, named, ent, sep, Val, has_ty, WT, Logic, sem, follows, follows_both_if, RattleType, Is, layout, MutBor, MutRef, tuple_type}
 use mathlib.Core.Path.{◌≡◌, refl, sym, ap, subst}
 use mathlib.Core.List.{List, [], ◌∷◌}
 use mathlib.Core.Option as maybe
 use mathlib.Core.Logic.{◌↔◌, ◌⊎◌, inl, inr}
-use seplogic.Ra.Ura.{Ura}
-use base.Fml.{GName, Lft}
-use lib.Dec.{T}
-use mir.Syntax.{named}
-use base.Logic.{ent, sep}
-use mir.Val.{Val, has_ty, WT}
-use types.Logic.{Logic, sem}
 use denote.Enum.Declared.{shape}
 use denote.Enum.Enum.{Enum-Lawful}
-use denote.Follow.{follows, followed, both_if_by, follows_both_if}
-use denote.RattleType.{RattleType}
-use denote.Laws.{Is, Lawful}
-use denote.Param.{layout}
-use denote.Ref.{MutBor, MutRef, mut_Lawful}
+use denote.Follow.{followed, both_if_by}
+use denote.Laws.{Lawful}
+use denote.Ref.{mut_Lawful}
 use denote.Struct.Declared as Declared
 use denote.Struct.Struct.{Struct-Lawful}
-use denote.Struct.Tuple.{tuple_type}
 use Prim.Native.Nat.{ℕ}
 use Rattle.std.proofs.Common.{◌<◌, lit<, arith}
 use Rattle.std.specs.Prelude.{◌≢◌, ◌≤◌, length, Result, Ok, Err, Some, IfOk, IfErr, IsErrOf, slice_get}

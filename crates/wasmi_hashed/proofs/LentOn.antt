@@ -1,15 +1,11 @@
 -- What a map is once the table, lent on to an entry, has come back. Assumes `Logic`.
 -- for src/map/entry.rt
+use Rattle.wasmi_arena.proofs.Steps.{GName, Fml, ent, sep, Ura, Logic, sem, ‵, ◌$◌, ◌∵◌, !, qed, done, keep, move, fpick, fpack, use2, rewrite, RattleType, follows}
 use Rattle.std.proofs.Common.{◌≡◌, refl, sym, subst, MutBor}
-use base.Fml.{GName, Fml, fres}
-use base.Logic.{ent, sep}
+use base.Fml.{fres}
 use mathlib.Core.List.{[], ◌∷◌}
 use mathlib.Core.Option.{none, some}
-use seplogic.Ra.Ura.{Ura}
-use types.Logic.{Logic, sem}
-use types.Kit.{‵, ◌$◌, ◌∵◌, !, qed, done, keep, move, fpick, fpack, use2, rewrite}
-use denote.RattleType.{RattleType}
-use denote.Follow.{follows, follows_so, follows_by, such_by, followed}
+use denote.Follow.{follows_so, follows_by, such_by, followed}
 use Rattle.std.specs.Borrow.{name_if_ok, RestsIfErr}
 use Rattle.std.specs.HashMap.Entry.{entry_map_ref}
 use Rattle.std.specs.Prelude.{Result, Ok, Err, IfOk, OnOk, OnErr}

@@ -5,6 +5,7 @@ pub use Rattle.std.specs.HashMap.Entry.{entry_key, entry_map_ref, entry_value, m
 pub use Rattle.std.specs.declared.collections.hash_map.Entry.TheVariants.{Occupied, Vacant}
 pub use Rattle.wasmi_hashed.specs.MapEntry.{inner_entry, with_value, map_of, inner_without, inner_stays}
 pub use Rattle.wasmi_hashed.specs.inner.MapEntry.{IsEntryOf, IsOfInner, inner_rests}
+use Rattle.wasmi_arena.proofs.Steps.{ent, Lfts, Laws, RattleType, NamedLft, Ura, fpack, fsplit, Logic, sem}
 use Rattle.std.specs.declared.alloc.Allocator as alloc
 use Rattle.std.specs.declared.cmp.PartialEq as eq
 use Rattle.std.specs.declared.hash.Hash as hash
@@ -28,18 +29,10 @@ use Rattle.wasmi_hashed.proofs.map.entry.VacantEntry.TheLaws as FreeLaws
 use Rattle.wasmi_map_specs.proofs.HandedOn.{EntryRow, LeavesNone}
 use Rattle.wasmi_map_specs.proofs.Walk.{‵, ◌$◌, ◌∵◌, ◌∷◌, [], !, ◌⊑◌, done, fjoin, gone, left, let_go, move, nothing, param, param_laws, qed, use0, ◌≡◌, keep, named, see, yes, at, refl, rewrite}
 use base.Fml.{fres}
-use base.Logic.{ent}
-use contract.Lifetimes.{Lfts}
 use denote.Exit.{Last}
 use denote.Follow.{follows_by, such_by}
-use denote.Param.Laws.{Laws}
-use denote.RattleType.{RattleType}
-use denote.Ref.{NamedLft}
 use mathlib.Core.List.{List}
 use mathlib.Core.Option.{none}
-use seplogic.Ra.Ura.{Ura}
-use types.Kit.{fpack, fsplit}
-use types.Logic.{Logic, sem}
 
 module _ (X Y S Z N : RattleType) (p : eq.Ghosts X.Denot) (h : hash.Ghosts X.Denot) (s : builder.Ghosts S.Denot N.Denot) (n : hasher.Ghosts N.Denot) (g : alloc.Ghosts Z.Denot)
     (LX : Laws X) (LY : Laws Y) (LS : Laws S) (LZ : Laws Z) (LN : Laws N) where

@@ -5,22 +5,15 @@
 --     lent_there      a reference that is there.        lent_on      the same of a call that may have failed, and then left the part as it was
 --     each_ok      what is known of a value that is there
 pub use Rattle.core.proofs.once.Made.{ok_of}
+use Rattle.wasmi_arena.proofs.Steps.{ent, sep, id⊢, GName, follows, RattleType, T, Ty, Val, has_ty, WT, Ura, ‵, ◌$◌, ◌∵◌, !, qed, done, keep, move, fpick, use2, rewrite, Logic, sem}
 use Rattle.std.proofs.Common.{◌≡◌, refl, subst, MutBor}
 use Rattle.std.specs.Prelude.{Result, Ok, Err, IfOk, OnOk, OnErr}
 use Rattle.std.specs.Borrow.{RestsIfErr, name_if_ok}
-use base.Logic.{ent, sep, id⊢}
-use base.Fml.{GName, fres}
-use denote.Follow.{follows, follows_if, follows_by, such_by, followed}
+use base.Fml.{fres}
+use denote.Follow.{follows_if, follows_by, such_by, followed}
 use denote.Laws.{Typed}
-use denote.RattleType.{RattleType}
-use lib.Dec.{T}
 use mathlib.Core.List.{List, [], ◌∷◌}
 use mathlib.Core.Option.{Option, some}
-use mir.Syntax.{Ty}
-use mir.Val.{Val, has_ty, WT}
-use seplogic.Ra.Ura.{Ura}
-use types.Kit.{‵, ◌$◌, ◌∵◌, !, qed, done, keep, move, fpick, use2, rewrite}
-use types.Logic.{Logic, sem}
 
 pub sole : (τ : Ty) (vs : List Val) → Typed (τ ∷ []) vs → (v : Val) × (vs ≡ v ∷ []) × (T (has_ty τ v) × WT v)
 sole τ [] t = absurd t

@@ -4,6 +4,7 @@
 --     hands      the walk where the second call's answer is the function's.        answers, takes      how it ends, and where the entry is used up
 --     lends, lends_with, lends_bare      the walk where it is a reference, put into `Ok`;  with a second parameter, which the second call takes;  with no `Ok`
 --     calls_on, also      a call;  a clause that holds by itself
+use Rattle.wasmi_arena.proofs.Steps.{Fml, GName, Lft, ftrue, fsep, SProp, ent, sep, ex, emp, id⊢, guard, Lfts, fact, no, follows, Is, shows, layout, Laws, RattleType, MutRef, NamedLft, mut_Tells, plain, nothing, heard, peeks, only, stay_dropped, Ty, named, Val, vptr, of_list, Ura, alloc_all, pass_all, free_all, look_at, get, sets, lands_as, Step, prop, Item, ‵, raw, ◌⊛◌, some, later, given, at_ret, ◌$◌, ◌∵◌, !, qed, done, by, move, drop, join, split, fsplit, fjoin, use0, use1, use2, keep, pick, learn, await, updating, now, rewrite, group, Logic, sem, live, agg, of_opd, and_then, no_more, lit, returns}
 use Rattle.std.proofs.Common.{◌≡◌, Ok, refl, sym, ap, subst, MutBor}
 use Rattle.std.specs.Prelude.{IsOk}
 use Rattle.std.specs.contracts.result.Result as ResultType
@@ -11,34 +12,19 @@ use Rattle.wasmi_arena.specs.declared.error.ArenaError.{ArenaError}
 use Rattle.wasmi_arena.specs.contracts.error.ArenaError as ErrorType
 use Rattle.wasmi_arena.proofs.Frame.{let_go, gone}
 use Prim.Native.Nat.{ℕ}
-use base.Fml.{Fml, GName, Lft, ftrue, fsep}
-use base.Logic.{SProp, ent, sep, ex, emp, emp∗, id⊢, via, guard, guard_i, snd∗, mono_l, mono_r}
-use contract.Lifetimes.{Lfts}
-use contract.Monad.{fact, fact_i, fact_use, top}
-use denote.Exit.{no, Last, left}
-use denote.Follow.{follows, follows_if}
-use denote.Laws.{Is, shows}
-use denote.Param.{layout}
-use denote.Param.Laws.{Laws}
-use denote.RattleType.{RattleType}
-use denote.Ref.{MutRef, NamedLft, mut_Tells}
-use denote.Signature.{plain}
-use denote.Steps.{nothing, heard, peeks, only}
+use base.Logic.{emp∗, via, guard_i, snd∗, mono_l, mono_r}
+use contract.Monad.{fact_i, fact_use, top}
+use denote.Exit.{Last, left}
+use denote.Follow.{follows_if}
 use denote.Triple.Call.{calls_from}
-use denote.Triple.Walked.{Goes, stay_dropped}
+use denote.Triple.Walked.{Goes}
 use mathlib.Core.List.{List, [], ◌∷◌}
 use mathlib.Core.Option.{some as name}
-use mir.Syntax.{Ty, Callee, Home, Body, Opd, local, seq, assign, call, return, Place, place, copy, Rv, rv_opd, aggregate, int, w8, named}
-use mir.Val.{Val, vptr, of_list}
+use mir.Syntax.{Callee, Home, Body, Opd, local, seq, assign, call, return, Place, place, copy, Rv, rv_opd, aggregate, int, w8}
 use prog.Wp.{Calls, Loops, Env}
-use seplogic.Ra.Ura.{Ura}
 use sound.WpLaws.{FmC}
-use types.ByLocal.{alloc_all, pass_all, free_all, look_at, get, sets, lands_as}
-use types.Kit.{Seq, Step, step, prop, Item, mean, Post, lands, ‵, raw, ◌⊛◌, some, later, given, allocs, params', runs, at_ret, ◌$◌, ◌∵◌, !, qed, done, by, move, drop, join, split, fsplit, fjoin, use0, use1, use2, keep, pick, learn, await, updating, now, rewrite, group}
-use types.Logic.{Logic, sem}
-use types.Match.{live}
-use types.Part.{agg}
-use types.Run.{Opds, of_opd, and_then, no_more, lit, returns}
+use types.Kit.{Seq, step, mean, Post, lands, allocs, params', runs}
+use types.Run.{Opds}
 use Rattle.wasmi_map_specs.proofs.Handed.{ok_of, lent_there}
 use Rattle.wasmi_map_specs.proofs.Words.{Good, Within, typed_of, facts, apart}
 

@@ -3,32 +3,25 @@
 --     Spelling R      how a value of R is stored: `one_of` a row's laws, in one machine value, or `ref_of` a reference.        Spellings, Words, lists, Fitting      of a list of types
 --     proved_by      `proved_at` at those machine values
 --     facts φs R      each fact, beside R.        Within      a call's tokens and facts beside those that a call in it is handed: `all_of` them, or `but_last`, all but the last lifetime's and R
+use Rattle.wasmi_arena.proofs.Steps.{Lft, SProp, ent, sep, emp, id⊢, Lfts, Shares, fact, tables, Is, layout, Laws, RattleType, Denots, Valss, MutRef, mut_vals, mut_Tells, Stays, walk_of, Ty, Val, has_ty, WT, Ura, Logic}
 use Rattle.std.proofs.Common.{◌≡◌, refl, sym, subst}
 use Rattle.std.proofs.raw_atomic.Walks.{proved_at}
 use Prim.Native.Nat.{ℕ, zero, suc}
-use base.Fml.{Lft}
-use base.Logic.{SProp, ent, sep, emp, id⊢, via, fst∗, snd∗, comm∗, emp∗, assoc∗, assoc', mono∗, mono_l, mono_r}
-use contract.Lifetimes.{Lfts, Shares, AllOutlive, toks}
-use contract.Monad.{fact, fact_i, fact_use}
-use contract.Running.{Running, MachineTables, tables}
-use denote.Laws.{Is, Ises, Are, Typed}
-use denote.Param.{layout}
-use denote.Param.Laws.{Laws}
-use denote.RattleType.{RattleType, Denots, Valss}
-use denote.Ref.{MutRef, mut_vals, mut_Tells}
+use base.Logic.{via, fst∗, snd∗, comm∗, emp∗, assoc∗, assoc', mono∗, mono_l, mono_r}
+use contract.Lifetimes.{AllOutlive, toks}
+use contract.Monad.{fact_i, fact_use}
+use contract.Running.{Running, MachineTables}
+use denote.Laws.{Ises, Are, Typed}
 use denote.Signature.{Signature, types_at}
 use denote.Triple.Clauses.{Ended, Clauses, closing}
 use denote.Triple.Entry.{Args}
 use denote.Triple.Spec.{Meets}
-use denote.Triple.Walked.{Stays, AllGo, walk_of}
+use denote.Triple.Walked.{AllGo}
 use lib.Dec.{T as Holds}
 use mathlib.Core.List.{List, [], ◌∷◌}
-use mir.Syntax.{Ty, Fn, Callee, Lifetime}
-use mir.Val.{Val, has_ty, WT}
+use mir.Syntax.{Fn, Callee, Lifetime}
 use prog.Model.{Model}
 use prog.Wp.{WpFn, Closed}
-use seplogic.Ra.Ura.{Ura}
-use types.Logic.{Logic}
 use Rattle.wasmi_map_specs.proofs.Handed.{sole}
 
 abbrev pub Good : Ty → Val → Type 0

@@ -1,25 +1,13 @@
 -- The entry of a key that is there is, in memory, the standard library's and a value without bytes. Assumes `Logic`.
 -- for src/map/entry/occupied.rt
+use Rattle.wasmi_arena.proofs.Steps.{Ura, full_share, SProp, ent, sep, align, up, Logic, sem, Lawfuls, mem, lone, param, Laws, param_laws, RattleType, Denots, NamedLft, Member, rows_of, PartsBack, rest_at, field_out, field_back, Struct}
 use Prim.Native.Nat.{ℕ, zero, ◌+◌}
 use mathlib.Core.List.{[], ◌∷◌, List}
-use seplogic.Ra.Ura.{Ura}
-use base.Fraction.{full_share}
-use base.Logic.{SProp, ent, sep}
-use prog.Memory.{align, up}
-use types.Logic.{Logic, sem}
 use denote.Builtin as Builtin
-use denote.Laws.{Lawfuls}
-use denote.Memory.{mem, part_of, lone}
-use denote.Param.{param}
-use denote.Param.Laws.{Laws, param_laws}
-use denote.RattleType.{RattleType, Denots}
-use denote.Ref.{NamedLft}
+use denote.Memory.{part_of}
 use denote.Struct.Declared as Declared
 use denote.Struct.Field as Field
-use denote.Struct.Members.{Member, rows_of}
-use denote.Struct.Parts.{PartsBack}
-use denote.Struct.Pick.{rest_at, field_out, field_back}
-use denote.Struct.Struct.{Struct, Struct-Lawful}
+use denote.Struct.Struct.{Struct-Lawful}
 use Rattle.std.specs.contracts.marker.PhantomData as marker
 use Rattle.std.specs.contracts.collections.btree_map.OccupiedEntry as InnerType
 use Rattle.std.proofs.collections.btree_map.OccupiedEntry.TheLaws as InnerLaws

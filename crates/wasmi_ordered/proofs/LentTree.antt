@@ -2,29 +2,20 @@
 -- for src/map.rt
 --     lends_tree      the tree, lent to the call with half of the token
 --     tree_comes      what is left of the map is closed over it, and the map has other values in the end, of a new name
+use Rattle.wasmi_arena.proofs.Steps.{Ura, SProp, ent, sep, wand, all, ex, all_e, apply∗, Fml, Lft, GName, Share, fsep, flft, fobs, fauth, fbor, named, Val, ‵, raw, ◌⊛◌, some, later, ◌$◌, ◌∵◌, !, qed, by, done, move, keep, drop, split, join, fsplit, fjoin, fjoin3, feq_i, fpick, fpack, rewrite, use0, use1, use2, pick, await, group, assume, now, show, updating, Logic, sem, open_ref, Body, follows, mem, Laws, RattleType, MutBor, MutRef, mut_vals}
 use Prim.Native.Nat.{ℕ}
 use mathlib.Core.List.{List, [], ◌∷◌}
 use mathlib.Core.Path.{refl, subst}
-use seplogic.Ra.Ura.{Ura}
-use base.Logic.{SProp, ent, sep, wand, all, ex, via, upd, upd_mono, upd_frame, all_e, apply∗}
-use base.Fml.{Fml, Lft, GName, Share, feq, fex, fsep, fseps, fwand, fupd, fdead, flft, fobs, fauth, fbor, flent}
+use base.Logic.{via, upd, upd_mono, upd_frame}
+use base.Fml.{feq, fex, fseps, fwand, fupd, fdead, flent}
 use base.Share
 use base.Stored.{Gv}
 use ghost.Rules.{aged}
-use mir.Syntax.{named}
-use mir.Val.{Val}
-use types.Kit.{‵, raw, ◌⊛◌, some, later, ◌$◌, ◌∵◌, !, qed, by, done, move, keep, drop, split, join, fsplit, fjoin, fjoin3, feq_i, feq_l, fpick, fpack, rewrite, use0, use1, use2, pick, await, group, assume, now, show, updating}
+use types.Kit.{feq_l}
 use types.Follow.{follows_anew}
 use types.Late.{deep, ages, bor_new_deep, close_deep}
-use types.Logic.{Logic, sem}
-use types.Mut.{open_ref}
-use types.SemTy.{Body}
 use types.Tokens.{name_new}
-use denote.Follow.{follows, came}
-use denote.Memory.{mem}
-use denote.Param.Laws.{Laws}
-use denote.RattleType.{RattleType}
-use denote.Ref.{MutBor, MutRef, mut_vals}
+use denote.Follow.{came}
 use Rattle.std.specs.BTreeMap.{values}
 use Rattle.std.specs.Map.{values_of}
 use Rattle.std.specs.declared.alloc.Allocator as alloc

@@ -1,23 +1,10 @@
 -- A map in memory is the standard library's. Assumes `Logic`.
 -- for src/map.rt
+use Rattle.wasmi_arena.proofs.Steps.{Ura, full_share, SProp, ent, sep, ex, align, up, ‵, raw, ◌⊛◌, some, ◌$◌, ◌∵◌, !, qed, by, done, pick, show, split, use1, use2, Logic, sem, Lawfuls, mem, part_at, lone, view_owns, view_made, plain_out, Plain-in, param, Laws, param_laws, RattleType, Denots, Member, rows_of, PartsBack, rest_at, field_out, field_back}
 use Prim.Native.Nat.{ℕ, zero, ◌+◌}
 use mathlib.Core.List.{List, [], ◌∷◌}
 use mathlib.Core.Path.{◌≡◌, refl}
-use seplogic.Ra.Ura.{Ura}
-use base.Fraction.{full_share}
-use base.Logic.{SProp, ent, sep, ex}
-use prog.Memory.{align, up}
-use types.Kit.{‵, raw, ◌⊛◌, some, ◌$◌, ◌∵◌, !, qed, by, done, pick, show, split, use1, use2}
-use types.Logic.{Logic, sem}
-use denote.Laws.{Lawfuls}
-use denote.Memory.{mem, part_at, part_of, lone}
-use denote.Model.Fields.{view_owns, view_made, plain_out, Plain-in}
-use denote.Param.{param}
-use denote.Param.Laws.{Laws, param_laws}
-use denote.RattleType.{RattleType, Denots}
-use denote.Struct.Members.{Member, rows_of}
-use denote.Struct.Parts.{PartsBack}
-use denote.Struct.Pick.{rest_at, field_out, field_back}
+use denote.Memory.{part_of}
 use Rattle.std.proofs.collections.BTreeMap.TheLaws as TreeLaws
 use Rattle.std.specs.contracts.collections.BTreeMap as TreeType
 use Rattle.std.specs.declared.alloc.Allocator as alloc

@@ -1,18 +1,11 @@
 -- An iterator that lends a tree's values owns the same under any name of its loan. Assumes `Logic`.
 -- for src/map.rt
+use Rattle.wasmi_arena.proofs.Steps.{Ura, Val, ent, GName, ftrue, fsep, ‵, ◌$◌, ◌∵◌, !, qed, done, move, use1, fsplit, fjoin, fpick, fpack, Logic, sem, RattleType, Denots, Valss, owns, NamedLft, Struct, within}
 use Prim.Native.Nat.{ℕ}
 use mathlib.Core.Path.{◌≡◌}
 use mathlib.Core.List.{List, [], ◌∷◌}
-use seplogic.Ra.Ura.{Ura}
-use mir.Val.{Val}
-use base.Logic.{ent}
-use base.Fml.{GName, ftrue, fsep}
-use types.Kit.{‵, ◌$◌, ◌∵◌, !, qed, done, move, use1, fsplit, fjoin, fpick, fpack}
-use types.Logic.{Logic, sem}
-use denote.RattleType.{RattleType, Denots, Valss, owns}
-use denote.Ref.{NamedLft}
 use denote.Struct.Declared.{shape}
-use denote.Struct.Struct.{Shape, Struct, within}
+use denote.Struct.Struct.{Shape}
 use Rattle.std_collections.specs.contracts.btree_map.entries_mut.EntriesMut as Entries
 use Rattle.std_collections.specs.contracts.btree_map.entries_mut.EntriesMut.TheInside as InEntries
 use Rattle.std_collections.specs.contracts.btree_map.entries_mut.SpanMut as Span

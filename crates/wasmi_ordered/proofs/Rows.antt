@@ -5,6 +5,7 @@ pub use Rattle.std.specs.BTreeMap.Entry.{entry_key, entry_map_ref, entry_value, 
 pub use Rattle.std.specs.declared.collections.btree_map.Entry.TheVariants.{Occupied, Vacant}
 pub use Rattle.wasmi_ordered.specs.MapEntry.{inner_entry, with_value, inner_without}
 pub use Rattle.wasmi_ordered.specs.inner.MapEntry.{IsEntryOf, IsOfInner, inner_rests}
+use Rattle.wasmi_arena.proofs.Steps.{ent, Lfts, Laws, RattleType, NamedLft, Ura, fpack, fsplit, Logic, sem}
 use Rattle.std.specs.declared.alloc.Allocator as alloc
 use Rattle.std.specs.declared.cmp.Ord as ord
 use Rattle.std.specs.declared.cmp.PartialEq as eq
@@ -26,18 +27,10 @@ use Rattle.wasmi_ordered.proofs.map.entry.OccupiedEntry.TheLaws as HeldLaws
 use Rattle.wasmi_ordered.proofs.map.entry.VacantEntry.TheLaws as FreeLaws
 use Rattle.wasmi_map_specs.proofs.HandedOn.{EntryRow, LeavesNone}
 use Rattle.wasmi_map_specs.proofs.Walk.{‵, ◌$◌, ◌∵◌, ◌∷◌, [], !, ◌⊑◌, done, fjoin, gone, left, let_go, move, nothing, param, param_laws, qed, use0, keep, named, see, yes}
-use base.Logic.{ent}
-use contract.Lifetimes.{Lfts}
 use denote.Exit.{Last}
 use denote.Follow.{follows_by, such_by}
-use denote.Param.Laws.{Laws}
-use denote.RattleType.{RattleType}
-use denote.Ref.{NamedLft}
 use mathlib.Core.List.{List}
 use mathlib.Core.Option.{none}
-use seplogic.Ra.Ura.{Ura}
-use types.Kit.{fpack, fsplit}
-use types.Logic.{Logic, sem}
 
 module _ (X Y Z : RattleType) (p : eq.Ghosts X.Denot) (o : ord.Ghosts X.Denot) (q : partial.Ghosts X.Denot) (g : alloc.Ghosts Z.Denot) (LX : Laws X) (LY : Laws Y) (LZ : Laws Z) where
   -- nothing is left of an entry that is handed on

@@ -5,22 +5,10 @@
 --     again           a `&` to a handle can be had twice
 --     heap_of, opened     who has a `&` to a handle has one to its heap
 --     answer_fits     a machine value that an answer of `allocate` owns is of its type
+use Rattle.wasmi_arena.proofs.Steps.{Ura, named, Val, has_ty, WT, ent, sep, id⊢, Lft, Fml, Logic, sem, ‵, ◌$◌, ◌∵◌, !, qed, keep, drop, use1, fsplit, fjoin, feq_i, done, RefOf, Is, hidden_shr, unhide, layout, RawPtr, NamedLft, ShrRef, shr_vals, plain, named_lft}
 use Rattle.std.proofs.Common.{◌+◌, List, [], ◌∷◌, refl, Bor, T}
-use seplogic.Ra.Ura.{Ura}
-use mir.Syntax.{named}
-use mir.Val.{Val, has_ty, WT}
-use base.Logic.{ent, sep, id⊢}
-use base.Fml.{Lft, Fml}
-use types.Logic.{Logic, sem}
-use types.Kit.{‵, ◌$◌, ◌∵◌, !, qed, keep, drop, use1, fsplit, fjoin, feq_i, done}
-use denote.Builtin.{RefOf}
-use denote.Laws.{Is}
-use denote.Memory.{hidden_shr}
-use denote.Opens.{unhide}
-use denote.Param.{layout}
-use denote.RawPtr.{RawPtr}
-use denote.Ref.{NamedLft, ShrRef, shr_vals, shr_copy}
-use denote.Signature.{Slot, plain, named_lft}
+use denote.Ref.{shr_copy}
+use denote.Signature.{Slot}
 use borrow.Table.RawPtr.{ptr_laws}
 use Rattle.std.proofs.alloc.Calls.{Answer}
 use Rattle.std.specs.contracts.alloc.AllocError as error_type

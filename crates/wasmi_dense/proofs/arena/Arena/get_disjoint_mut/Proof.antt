@@ -1,42 +1,13 @@
 -- `get_disjoint_mut` lends two of the items that it has lent itself. Assumes `Logic`.
+use Rattle.wasmi_arena.proofs.Steps.{emp, id⊢, ftrue, flft, named, Args, a_type, dcons, dnil, inst_fn, Val, vint, vstruct, vcons, vnil, ◌⊑◌, Lfts, Shares, fact, tables, size, join, use0, use1, use2, ‵, raw, ◌⊛◌, some, later, ◌$◌, ◌∵◌, !, qed, done, move, keep, drop, split, split3, group, pick, await, rewrite, suffices, whole, sub, enter, of_opd, addr, fld, stop, returns, and_then, no_more, alloc_all, pass_all, free_all, look_at, get, get_in, through, sets, lands_as, Array, usize, no, follows, follows_both_if, shows, layout, param, copied, bounded, array_told, array_laws, uint_Makes, uint_vals, uint_Tells, RattleType, MutRef, mut_vals, mut_Tells, plain, MutSlice, slice_val, nothing, owned, heard, peeks, only, Struct-Tells, Tuple, tuple_type, calls_at, lasts, triple_of, framed, Stays, walk_of, stay_dropped, Goes-dropped, Goes-spent_ref, ends_at}
 use Rattle.std.proofs.Common.{◌≡◌, ℕ, ◌<◌, ◌^◌, List, [], ◌∷◌, length, slice_set, refl, ap, ◌∙◌, subst, w64, MutBor}
 use Rattle.std.proofs.raw_atomic.Walks.{proved}
-use base.Logic.{emp, id⊢}
-use base.Fml.{ftrue, flft}
-use mir.Syntax.{named, Args, a_type, dcons, dnil, wrote}
-use mir.MapTy.{inst_fn}
-use mir.Val.{Val, vint, vstruct, vcons, vnil}
-use contract.BorrowLft.{◌⊑◌}
+use mir.Syntax.{wrote}
 use contract.Fact.{fact_i}
-use contract.Lifetimes.{Lfts, Shares}
-use contract.Monad.{fact}
-use contract.Running.{tables}
-use prog.Memory.{size}
-use types.Kit.{join, use0, use1, use2, ‵, raw, ◌⊛◌, some, later, ◌$◌, ◌∵◌, !, qed, done, move, keep, drop, split, split3, group, pick, await, rewrite, suffices}
-use types.Part.{whole, sub}
-use types.Run.{enter, of_opd, addr, fld, stop, returns, and_then, no_more}
-use types.ByLocal.{alloc_all, pass_all, free_all, look_at, get, get_in, through, sets, lands_as}
-use denote.Array.{Array}
-use denote.Builtin.{usize}
-use denote.Exit.{no}
-use denote.Follow.{follows, follows_both_if}
-use denote.Laws.{shows}
-use denote.Param.{layout, param, copied, bounded}
-use denote.Param.Laws.{Told as Spelt, copied_laws, copied_copy, copy_told, array_told, array_laws}
-use denote.Plain.{uint_Makes, uint_vals, uint_Tells}
-use denote.RattleType.{RattleType}
-use denote.Ref.{MutRef, mut_vals, mut_Tells}
-use denote.Signature.{plain}
-use denote.Slice.{MutSlice, slice_val, mut_slice_vals}
-use denote.Steps.{nothing, owned, heard, peeks, facts, only}
+use denote.Param.Laws.{Told as Spelt, copied_laws, copied_copy, copy_told}
+use denote.Slice.{mut_slice_vals}
+use denote.Steps.{facts}
 use denote.Struct.Declared as Declared
-use denote.Struct.Struct.{Struct-Tells}
-use denote.Struct.Tuple.{Tuple, tuple_type}
-use denote.Triple.Call.{calls_at}
-use denote.Triple.Clauses.{lasts}
-use denote.Triple.Spec.{triple_of}
-use denote.Triple.Table.{framed}
-use denote.Triple.Walked.{Stays, walk_of, stay_dropped, Goes-dropped, Goes-spent_ref, ends_at}
 use Rattle.wasmi_arena.specs.Arena.{ArenaState}
 use Rattle.wasmi_arena.proofs.Answered.{asked-writes}
 use Rattle.wasmi_arena.proofs.Frame.{let_go, gone}

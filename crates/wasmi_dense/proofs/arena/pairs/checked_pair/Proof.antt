@@ -1,41 +1,18 @@
 -- `checked_pair` lends two items of a slice, or returns an error and changes nothing. Assumes `Logic`.
+use Rattle.wasmi_arena.proofs.Steps.{T, eqb, eqb→eq, leb→le, nleb→lt, emp, id⊢, ftrue, flft, fobs, named, Args, a_type, inst_fn, Val, of_list, ◌⊑◌, fact, tables, join, use0, use1, use2, ‵, raw, ◌⊛◌, some, later, prop, at_ret, Sq, ◌$◌, ◌∵◌, !, qed, done, move, keep, drop, split, split3, group, pick, await, fsplit3, rewrite, suffices, live, whole, sub, agg, enter, of_opd, lit, bin, addr, fld, stop, first, branches, skips, exec, returns, returns_within, and_then, no_more, alloc_all, pass_all, free_all, look_at, get, get_in, sets, lands_as, env, Array, usize, yes, no, follows_both, follows_both_if, shows, param, layouts, uint_Makes, uint_vals, uint_Tells, MutRef, plain, MutSlice, nothing, owned, heard, peeks, Tuple, calls_at, lasts, triple_of, framed, Stays, walk_of, stay_dropped, Goes-dropped, ends_at}
 use Rattle.std.proofs.Common.{◌≡◌, ◌≢◌, ◌<◌, List, [], ◌∷◌, length, lit<, slice_get, slice_set, Some, refl, subst, w64, MutBor}
 use Rattle.std.proofs.raw_atomic.Walks.{proved}
 use Rattle.std.specs.Prelude.{Ok, Err}
-use lib.Dec.{T, T_not, eqb, eqb→eq, eqb_refl, leb→le, nleb→lt}
+use lib.Dec.{T_not, eqb_refl}
 use mathlib.Core.Logic.{inl, inr}
-use base.Logic.{emp, id⊢}
-use base.Fml.{ftrue, flft, fobs, fres}
-use mir.Syntax.{named, Args, a_type}
-use mir.MapTy.{inst_fn}
-use mir.Val.{Val, of_list}
-use contract.BorrowLft.{◌⊑◌}
+use base.Fml.{fres}
 use contract.Fact.{fact_i}
-use contract.Monad.{fact}
-use contract.Running.{tables}
-use types.Kit.{join, use0, use1, use2, ‵, raw, ◌⊛◌, some, later, prop, at_ret, Sq, ◌$◌, ◌∵◌, !, qed, done, move, keep, drop, split, split3, group, pick, await, fsplit3, rewrite, suffices}
-use types.Match.{live}
-use types.Part.{whole, sub, agg}
-use types.Run.{enter, of_opd, lit, bin, addr, from, fld, hop, stop, first, branches, skips, exec, returns, returns_within, and_then, no_more}
-use types.ByLocal.{alloc_all, pass_all, free_all, look_at, look_in_at, get, get_in, sets, lands_as, env}
-use denote.Array.{Array}
-use denote.Builtin.{usize}
-use denote.Exit.{yes, no}
-use denote.Follow.{follows_both, both_if_by, follows_both_if}
-use denote.Laws.{shows}
-use denote.Param.{param, layouts}
+use types.Run.{from, hop}
+use types.ByLocal.{look_in_at}
+use denote.Follow.{both_if_by}
 use denote.FollowSlice.{heres_id}
-use denote.Plain.{uint_Makes, uint_vals, uint_Tells}
-use denote.Ref.{MutRef}
-use denote.Signature.{plain}
-use denote.Slice.{MutSlice, mut_slice_vals, mut_slice_Tells}
-use denote.Steps.{nothing, owned, heard, peeks}
-use denote.Struct.Tuple.{Tuple}
-use denote.Triple.Call.{calls_at}
-use denote.Triple.Clauses.{lasts}
-use denote.Triple.Spec.{triple_of}
-use denote.Triple.Table.{framed}
-use denote.Triple.Walked.{Stays, walk_of, stay_dropped, Goes-dropped, Goes-spent_slice, ends_at}
+use denote.Slice.{mut_slice_vals, mut_slice_Tells}
+use denote.Triple.Walked.{Goes-spent_slice}
 use Rattle.std.proofs.VecSteps.Shapes.{after}
 use Rattle.std.specs.contracts.result.Result as Res
 use Rattle.wasmi_arena.specs.contracts.error.ArenaError as Error

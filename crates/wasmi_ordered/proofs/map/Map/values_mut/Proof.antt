@@ -1,4 +1,5 @@
 -- `values_mut` lends the tree to the standard library's call. Assumes `Logic`.
+use Rattle.wasmi_arena.proofs.Steps.{shows, peeks}
 use Rattle.std.proofs.Common.{◌<◌, ◌^◌, List, length}
 use Rattle.std.proofs.collections.BTreeMap.values_mut.Met as Lent
 use Rattle.std.proofs.collections.btree_map.ValuesMut.TheLaws as AnswerLaws
@@ -12,8 +13,6 @@ use Rattle.std.specs.contracts.collections.btree_map.ValuesMut as AnswerType
 use base.Share
 use lib.ListN.{length-map}
 use Rattle.wasmi_map_specs.proofs.Values.{keeps_keys}
-use denote.Laws.{shows}
-use denote.Steps.{peeks}
 use Rattle.wasmi_map_specs.proofs.Walk.{◌≡◌, ◌∙◌, [], ◌∷◌, refl, ap, subst, leaves, GName, ftrue, flft, emp, id⊢, toks, fact, fact_i, tables, no, follows, bounded, param, param_laws, MutRef, mut_vals, plain, named_lft, nothing, heard, lasts, Lasts, framed, Stays, walk_of, stay_dropped, Goes-spent_ref, inst_fn, Args, a_type, dcons, dnil, named, alloc_all, pass_all, free_all, look_at, get, through, sets, lands_as, ‵, raw, ◌⊛◌, some, later, ◌$◌, ◌∵◌, !, qed, by, move, keep, drop, split, split3, fsplit3, frame, group, pick, await, use0, use1, use2, suffices, enter, addr, fld, stop, and_then, no_more, returns, let_go, gone, also, calls_on, proved_by, typed_of, ref_of, facts, twice}
 use Rattle.wasmi_ordered.specs.contracts.map.Map.values_mut as F
 use Rattle.wasmi_ordered.proofs.Rows.{alive_in}

@@ -1,30 +1,11 @@
 -- A request is written down, and refused where the log says so. Else the heap of the handle answers it, and the answer is written down.
+use Rattle.wasmi_arena.proofs.Steps.{id⊢, Fml, ftrue, flft, named, Val, fact, tables, Item, ‵, raw, ◌⊛◌, some, later, at_ret, ◌$◌, ◌∵◌, !, qed, by, move, keep, drop, use0, use1, split, split3, join, fjoin, rewrite, pick, await, agg, stop, fld, addr, lit, no_more, and_then, first, branches, skips, exec, returns, returns_within, enter, alloc_all, pass_all, free_all, look_at, get, through, sets, lands_as, env, usize, yes, Is, shows, uint_vals, uint_Tells, uint_Makes, owns, shr_vals, shr_Tells, plain, named_lft, nothing, owned, peeks, heard, only, calls_at, lasts, triple_of, framed, Stays, stay_dropped, walk_of, Goes-dropped}
 use Rattle.std.proofs.Common.{◌≡◌, [], ◌∷◌, Bool, false, Err, refl, sym, ap, w64}
 use Rattle.std.proofs.raw_atomic.Walks.{proved, leaves}
-use base.Logic.{id⊢}
-use base.Fml.{Fml, ftrue, flft}
-use mir.Syntax.{named}
-use mir.Val.{Val}
-use contract.Monad.{fact}
-use contract.Running.{tables}
-use types.Kit.{Item, ‵, raw, ◌⊛◌, some, later, at_ret, ◌$◌, ◌∵◌, !, qed, by, move, keep, drop, use0, use1, split, split3, join, fjoin, feq_l, rewrite, pick, await}
-use types.Part.{agg}
-use types.Run.{stop, fld, addr, lit, no_more, and_then, first, branches, skips, exec, returns, returns_within, enter}
-use types.ByLocal.{alloc_all, pass_all, free_all, look_at, get, through, sets, lands_as, env}
-use denote.Builtin.{usize, bool}
-use denote.Exit.{yes}
-use denote.Laws.{Is, shows}
-use denote.Plain.{uint_vals, uint_Tells, uint_Makes}
-use denote.RattleType.{owns}
-use denote.Ref.{shr_vals, shr_Tells}
-use denote.Signature.{plain, named_lft}
-use denote.Steps.{nothing, owned, peeks, heard, only}
-use denote.Triple.Call.{calls_at}
-use denote.Triple.Clauses.{Lasts, lasts}
+use types.Kit.{feq_l}
+use denote.Builtin.{bool}
+use denote.Triple.Clauses.{Lasts}
 use denote.Triple.Entry.{alive}
-use denote.Triple.Spec.{triple_of}
-use denote.Triple.Table.{framed}
-use denote.Triple.Walked.{Stays, stay_dropped, walk_of, Goes-dropped}
 use Rattle.std.specs.Allocator.{block_if_ok}
 use Rattle.std.proofs.alloc.Calls.{Answer, answer_val, Answer-typed, Answer-err}
 use Rattle.std.specs.contracts.impls.GlobalAllocator.TheImpl.{ghosts}

@@ -1,28 +1,12 @@
 -- A block comes back: the handle writes it down, and the heap of the handle takes it.
+use Rattle.wasmi_arena.proofs.Steps.{id⊢, ftrue, flft, named, Val, vunit, tables, ‵, raw, ◌⊛◌, some, later, ◌$◌, ◌∵◌, !, qed, by, move, keep, use1, split, split3, join, fjoin, feq_i, pick, await, stop, fld, addr, no_more, and_then, of_opd, unit_lit, returns, enter, alloc_all, pass_all, free_all, look_at, get, through, sets, lands_as, usize, unit, yes, uint_vals, uint_Tells, owns, shr_vals, shr_Tells, plain, named_lft, nothing, only, calls_at, lasts, triple_of, framed, Stays, stay_dropped, walk_of, Goes-dropped}
 use Rattle.std.proofs.Common.{List, [], ◌∷◌, refl, ap, w64}
 use Rattle.std.proofs.raw_atomic.Walks.{proved, leaves}
-use base.Logic.{id⊢}
-use base.Fml.{ftrue, flft}
-use mir.Syntax.{named}
-use mir.Val.{Val, vunit}
-use contract.Running.{tables}
-use types.Kit.{‵, raw, ◌⊛◌, some, later, ◌$◌, ◌∵◌, !, qed, by, move, keep, use1, split, split3, join, fjoin, feq_i, feq_l, pick, await}
-use types.Run.{stop, fld, addr, no_more, and_then, of_opd, unit_lit, returns, enter}
-use types.ByLocal.{alloc_all, pass_all, free_all, look_at, get, through, sets, lands_as}
-use denote.Builtin.{usize, unit, RawPtr}
-use denote.Exit.{yes}
-use denote.Plain.{uint_vals, uint_Tells}
-use denote.RattleType.{owns}
+use types.Kit.{feq_l}
+use denote.Builtin.{RawPtr}
 use denote.RawPtr.{rawptr_vals, rawptr_Tells, rawptr_Lawful}
-use denote.Ref.{shr_vals, shr_Tells}
-use denote.Signature.{plain, named_lft}
-use denote.Steps.{nothing, only}
-use denote.Triple.Call.{calls_at}
-use denote.Triple.Clauses.{Lasts, lasts}
+use denote.Triple.Clauses.{Lasts}
 use denote.Triple.Entry.{alive}
-use denote.Triple.Spec.{triple_of}
-use denote.Triple.Table.{framed}
-use denote.Triple.Walked.{Stays, stay_dropped, walk_of, Goes-dropped}
 use Rattle.wasmi_vectors.proofs.LoggedHandles.{handle, HandleRef, HeapRef, again, heap_of, opened}
 use Rattle.wasmi_vectors.specs.contracts.logged.Logged as handle_type
 use Rattle.wasmi_vectors.specs.contracts.logged.Logged.takes_back as noted
