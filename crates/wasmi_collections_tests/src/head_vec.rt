@@ -138,7 +138,7 @@ fn push_again<A: Allocator + Clone>(
 ) -> bool {
     let pushed = items.push(item);
     if let Err(error) = pushed {
-        assert_equal!(*rt; error, ArenaError::OutOfSystemMemory, "at {item}");
+        assert_equal!(*rt; (error, items.len()), (ArenaError::OutOfSystemMemory, item));
         let copy = items.clone().expect(rt, "");
         assert_equal!(*rt; ends_with_numbers(copy, item), true, "at {item}");
         items.push(item).expect(rt, "");
