@@ -1,5 +1,5 @@
 -- Facts on a vector that is cloned bucket by bucket.
-use Rattle.std.proofs.Common.{◌≡◌, ℕ, ◌+◌, ◌^◌, ◌<◌, ◌≤◌, List, [], ◌∷◌, ◌++◌, length, drop, min, refl, sym, ◌∙◌, ap, subst, add-one, arith, length-append, length-drop, append_assoc}
+use Rattle.std.proofs.Common.{◌≡◌, ℕ, ◌+◌, ◌^◌, ◌<◌, ◌≤◌, List, [], ◌∷◌, ◌++◌, length, drop, min, refl, sym, ◌∙◌, ap, subst, add-one, arith, length-append, length-drop, append_assoc, append-nil}
 use Rattle.std.proofs.Math.Nat.{le_of_lt}
 use Rattle.std.proofs.Math.Seq.{drop-append_seam}
 use Rattle.std.proofs.lemmas.List.{length-take, take-append-drop}
@@ -39,6 +39,13 @@ module _ {T : Type 0} (is_clone : T → T → Type 0) where
   pub cloned_none : (items : List T) → length items ≤ max_len → IsCloned items (filled_parts items) []
   cloned_none items few = record { first = []; rest = items; whole = refl; few = few; clones = tt; next = 0; parts_are = AreParts-filled_parts items few; full = λ some. refl }
 
+  -- where no part is left all items have their clones
+  pub cloned_all : {items : List T} {parts : List (List T)} {made : List T} → IsCloned items parts made → parts ≡ [] → AllZip is_clone items made
+  cloned_all {items} {parts} {made} so_far none =
+      let no_rest : so_far.rest ≡ [] = subst (AreParts (size so_far.next) so_far.rest) none so_far.parts_are in
+      let all : items ≡ so_far.first = so_far.whole ∙ (ap (λ xs. so_far.first ++ xs) no_rest ∙ append-nil so_far.first) in
+      rw all so_far.clones
+
 -- another part comes
 module _ {T : Type 0} {is_clone : T → T → Type 0} {items part made : List T} {parts left : List (List T)} (so_far : IsCloned is_clone items parts made) (came : parts ≡ part ∷ left) where
   are : AreParts (size so_far.next) so_far.rest (part ∷ left)
@@ -58,6 +65,10 @@ module _ {T : Type 0} {is_clone : T → T → Type 0} {items part made : List T}
 
   fewest_made : fewest (length made) ≡ so_far.next
   fewest_made = ap fewest begins ∙ fewest_start so_far.next (le_of_lt bucket_exists)
+
+  -- so there are items
+  pub part_some : items ≡ [] → ⊥
+  part_some none = let some = are.0 in omega (arith, counted, ap length none)
 
   pub part_bucket : fewest (length made) < 27
   part_bucket = rw fewest_made bucket_exists

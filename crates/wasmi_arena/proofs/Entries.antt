@@ -1,9 +1,18 @@
 -- Facts on the entries of an arena.
-use Rattle.std.proofs.Common.{◌≡◌, ℕ, zero, suc, ◌+◌, ◌<◌, ◌≤◌, List, [], ◌∷◌, ◌++◌, length, refl, sym, ◌∙◌, ap, arith, length-append}
+use Rattle.std.proofs.Common.{◌≡◌, ℕ, zero, suc, ◌+◌, ◌<◌, ◌≤◌, List, [], ◌∷◌, ◌++◌, length, refl, sym, ◌∙◌, ap, arith, length-append, Fits, w64}
 use Rattle.std.proofs.lemmas.Option.{same_Some, slice_get_within}
 use Rattle.std.specs.Prelude.{Some, slice_get}
+use Rattle.wasmi_arena.specs.Arena.{stable_limit}
 use Rattle.wasmi_arena.specs.Keys.{Keys, KeyLaw}
 use Rattle.wasmi_arena.specs.Entries.{entries_from, entries}
+
+-- a position below the limit of a stable arena has a key, and none up to the limit is too large for a word
+module _ {K : Type 0} (keys : Keys K) where
+  pub has_key : (n : ℕ) → n < stable_limit keys → n < keys.count
+  has_key n below = omega arith
+
+  pub position_fits : (n : ℕ) → n ≤ stable_limit keys → Fits w64 n
+  position_fits n within = record { fits = omega arith }
 
 module _ {K T : Type 0} (keys : Keys K) where
   -- there is one entry an item
@@ -32,3 +41,10 @@ module _ {K T : Type 0} (keys : Keys K) where
   entry_read law items n entry few there =
       let at = entry_at 0 items n entry there in let within = slice_get_within items n entry.1 at.0 in
       (within, ap keys.number (at.1 ∙ ap keys.key (omega arith)) ∙ law.numbered n (omega arith), at.0)
+
+  -- of items up to the limit, the first and the last stand below it
+  pub first_below : (next : ℕ) {old : List T} (new : List T) (item : T) → old ≡ item ∷ new → next + length old ≤ stable_limit keys → (next < stable_limit keys) × (next + 1 + length new ≤ stable_limit keys)
+  first_below next new item first within = (omega (arith, ap length first), omega (arith, ap length first))
+
+  pub last_below : (next : ℕ) {old : List T} (new : List T) (item : T) → old ≡ new ++ item ∷ [] → next + length old ≤ stable_limit keys → next + length new < stable_limit keys
+  last_below next new item last within = omega (arith, ap length last, length-append new (item ∷ []))

@@ -18,6 +18,7 @@ pub mod Apart
 pub mod Cloned
 pub mod Yielded
 pub mod Results
+pub mod Read
 pub mod SlotRuns
 pub mod Frame
 pub mod Sharing

@@ -7,7 +7,7 @@ use Rattle.std.proofs.lemmas.Nat.{pow_pos}
 use Rattle.std.proofs.lemmas.List.{nil_from_length, get_or_default, take_all, take-append-drop, take-append-le, drop-append-le, drop-drop, drop-take, take-take, length-take, length-set, take-set-le, drop-set-lt, drop-set-add, get_or-set_same, set-set}
 use Rattle.std.specs.Iterator.{YieldsLastRef}
 use Rattle.std.specs.Borrow.{Bor}
-use Rattle.std.specs.Slice.Iter.{iter_rest, iter_steps_back}
+use Rattle.std.specs.Slice.Iter.{iter_rest, iter_steps, iter_steps_back}
 use Rattle.std.specs.declared.slice.Iter.{Iter}
 use Rattle.wasmi_arena.specs.Bucket.{Bucket}
 use Rattle.wasmi_arena.specs.inner.Table.{items_of, items_in, bucket_filled, bucket_cut, with_item, write, bucket_from, IsTable, AreFilled}
@@ -194,6 +194,14 @@ module _ {T : Type 0} where
   filled_last_open (None ∷ buckets) filled = filled
   filled_last_open (Some first ∷ buckets) filled = filled_last_open buckets filled.1
 
+  -- the first bucket that is found is open
+  pub first_open : {buckets rest : List (Option (Bucket T))} {found : Option (Bucket T)} → AreFilled buckets → buckets ≡ found ∷ rest → None ≡ found → ⊥
+  first_open filled first closed = rw (first, ← closed) at filled
+
+  -- and so is the last
+  pub last_open : {buckets : List (Option (Bucket T))} (rest : List (Option (Bucket T))) {found : Option (Bucket T)} → AreFilled buckets → buckets ≡ rest ++ found ∷ [] → None ≡ found → ⊥
+  last_open rest filled last closed = filled_last_open rest (rw (last, ← closed) at filled)
+
   pub filled_last : (buckets : List (Option (Bucket T))) (bucket : Bucket T) → AreFilled (buckets ++ Some bucket ∷ []) → (0 < length bucket.items) × AreFilled buckets
   filled_last [] bucket filled = (filled.0, tt)
   filled_last (None ∷ buckets) bucket filled = absurd filled
@@ -236,7 +244,7 @@ module _ {T : Type 0} where
     pub first_filled : (0 < length bucket.items) × AreFilled rest
     first_filled = rw entered at it.filled
 
-    first_counted : between ≡ length bucket.items + length (items_of rest)
+    pub first_counted : between ≡ length bucket.items + length (items_of rest)
     first_counted = it.counted ∙ (ap (λ (bs : List (Option (Bucket T))). length (items_of bs)) entered ∙ length-append bucket.items (items_of rest))
 
     pub first_ahead : (left : List T) (count : ℕ) → count ≡ length bucket.items → length left ≤ count → IsAhead left rest back (between - count)
@@ -245,7 +253,20 @@ module _ {T : Type 0} where
     pub first_items : length front ≡ 0 → (left : List T) (x : T) → bucket.items ≡ x ∷ left → front ++ items_of buckets ++ back ≡ x ∷ (left ++ items_of rest ++ back)
     first_items none left x are = rw (nil_from_length front none) (ap (λ (xs : List T). xs ++ back) (ap items_of entered ∙ ap (λ (xs : List T). xs ++ items_of rest) are))
 
-  -- a call from the back leaves no more than there was
+  -- what is ahead of an iterator with fewer items left at its ends
+  pub ahead_fewer : {front back first last : List T} {buckets : List (Option (Bucket T))} {between : ℕ} → IsAhead front buckets back between → length first ≤ length front → length last ≤ length back → IsAhead first buckets last between
+  ahead_fewer it fewer fewer_back = let few = it.few in record { filled = it.filled; counted = it.counted; few = omega arith }
+
+  -- the items ahead are those of the ends and those between
+  pub length-ahead : {front back : List T} {buckets : List (Option (Bucket T))} {between : ℕ} → IsAhead front buckets back between → length front + between + length back ≡ length (front ++ items_of buckets ++ back)
+  length-ahead it = rw it.counted (simp length-append)
+
+  -- a call from the front leaves no more than there was
+  pub length-steps : (s t : Iter T) (r : Option (Bor T)) → iter_steps s r t → length (iter_rest t) ≤ length (iter_rest s)
+  length-steps s t None ended = omega (arith, ap (λ (u : Iter T). length (iter_rest u)) ended.1)
+  length-steps s t (Some x) at = omega (arith, ap length at)
+
+  -- and so does one from the back
   pub length-steps_back : (s t : Iter T) (r : Option (Bor T)) → iter_steps_back s r t → length (iter_rest t) ≤ length (iter_rest s)
   length-steps_back s t None ended = omega (arith, ap (λ (u : Iter T). length (iter_rest u)) ended.1)
   length-steps_back s t (Some x) at = omega (arith, ap length at, length-append (iter_rest t) (x.now ∷ []))

@@ -8,18 +8,20 @@ use Rattle.std.specs.Iterator.{YieldsFirst, YieldsLast}
 use Rattle.wasmi_arena.specs.Bucket.{Bucket}
 use Rattle.wasmi_arena.specs.inner.Table.{items_of}
 use Rattle.wasmi_arena.specs.inner.Ahead.{IsAhead}
-use Rattle.wasmi_arena.proofs.Table.{first_filled, first_items, first_ahead, last_filled, last_items, last_counted, last_ahead}
+use Rattle.wasmi_arena.proofs.Table.{first_filled, first_items, first_ahead, first_counted, last_filled, last_items, last_counted, last_ahead}
 
 module _ {T : Type 0} where
   -- the list itself is what is left
   abbrev pub all_left : List T → List T
   all_left items = items
 
-  fewer_first : (items left : List T) (r : Option T) → YieldsFirst all_left items r left → length left ≤ length items
+  -- a call from the front leaves no more than there was
+  pub fewer_first : (items left : List T) (r : Option T) → YieldsFirst all_left items r left → length left ≤ length items
   fewer_first items left None ended = omega (arith, ap length ended.1)
   fewer_first items left (Some x) at = omega (arith, ap length at)
 
-  fewer_last : (items left : List T) (r : Option T) → YieldsLast all_left items r left → length left ≤ length items
+  -- and so does one from the back
+  pub fewer_last : (items left : List T) (r : Option T) → YieldsLast all_left items r left → length left ≤ length items
   fewer_last items left None ended = omega (arith, ap length ended.1)
   fewer_last items left (Some x) at = omega (arith, ap length at, length-append left (x ∷ []))
 
@@ -34,6 +36,9 @@ module _ {T : Type 0} where
 
       pub first_taken_ahead : {left : List T} (r : Option T) → YieldsFirst all_left items r left → (count : ℕ) → count ≡ length items → IsAhead left rest back (between - count)
       first_taken_ahead {left} r step count counted = first_ahead front back buckets rest found bucket between it first is left count (counted ∙ ap length whole) (omega (arith, fewer_first items left r step))
+
+      pub first_taken_counted : length items ≤ between
+      first_taken_counted = let counted = first_counted front back buckets rest found bucket between it first is in omega (arith, ap length whole)
 
     -- the last bucket is entered
     module _ (last : buckets ≡ rest ++ found ∷ []) where

@@ -1,5 +1,5 @@
 -- Facts on the items that an iterator yields.
-use Rattle.std.proofs.Common.{◌≡◌, List, [], ◌∷◌, ◌++◌, Option, Some, None, refl, sym, ◌∙◌, ap, subst, append_assoc}
+use Rattle.std.proofs.Common.{◌≡◌, List, [], ◌∷◌, ◌++◌, Option, Some, None, refl, sym, ◌∙◌, ap, subst, append_assoc, append-nil}
 use Rattle.std.specs.Iterator.{Count, IsFinite, Yields, Drains}
 use Rattle.wasmi_arena.specs.Growth.{TakesAll, TakesUpTo}
 use Rattle.wasmi_arena.specs.inner.Growth.{TakesSome}
@@ -30,7 +30,15 @@ module _ {U S T : Type 0} (becomes : U → S → Type 0) (steps : S → Option T
     pub can_go_on : can items
     pub finite : IsFinite (left items)
 
+  -- at first that is nothing
+  pub taken_none : {iter : U} {it : S} {old : List T} → becomes iter it → can it × IsFinite (left it) → TakenSoFar iter it old old
+  taken_none {iter} {it} {old} made goes = record { it = it; xs = []; is_made = made; came = refl; are = sym (append-nil old); can_go_on = goes.0; finite = goes.1 }
+
   module _ {iter : U} {s : S} {old mid : List T} (so_far : TakenSoFar iter s old mid) where
+    -- no item comes
+    pub taken_all : {t : S} → steps s None t → TakesAll becomes steps iter old mid
+    taken_all {t} end = (so_far.it, so_far.xs, so_far.is_made, (t, (s, so_far.came, end)), so_far.are)
+
     module _ {x : T} {t : S} (step : steps s (Some x) t) where
       -- an item comes that doesn't go in
       pub taken_up_to : TakesUpTo becomes steps iter old mid

@@ -1,4 +1,5 @@
-use Rattle.std.proofs.Common.{rules, arith, [], ◌∷◌, ◌++◌, ◌∙◌, ap, length-append, append_assoc}
+use Rattle.std.proofs.Common.{rules, arith, ◌≡◌, ◌+◌, ◌-◌, [], ◌∷◌, ◌++◌, sym, ◌∙◌, ap, length-append, append_assoc}
+use Rattle.std.proofs.Math.Nat.{le_antisymm}
 use Rattle.wasmi_arena.proofs.Yielded.{yields_more}
 use Rattle.wasmi_arena.proofs.bucket.Bucket.push_from.Goals as goal
 
@@ -21,3 +22,25 @@ loop-filled-preserved g c =
       can = on.0;
       finite = (on.1, let fewer = on.2 in let most = inv.finite.1 in omega arith);
     }
+
+pub returns-in-None-clause-items : goal.returns-in-None-clause-items
+returns-in-None-clause-items g c =
+    let came = c.loop-filled.invariant.items in (came.0, came.1, (c.next.new.self, (c.loop-filled.items, came.2, c.in-None.ensures.steps)))
+
+pub returns-in-None-clause-fits : goal.returns-in-None-clause-fits
+returns-in-None-clause-fits g c =
+    let inv = c.loop-filled.invariant in rw (inv.counted, ← inv.capacity) (omega (arith, inv.free))
+
+pub invariant_of-self-2 : goal.invariant_of-self-2
+invariant_of-self-2 g c =
+    let inv = c.loop-filled.invariant in
+    let all : c.self.inside.capacity - c.args.slot ≡ c.loop-filled.filled = le_antisymm c.loop-filled-test.false c.loop-filled.auto.filled-end in
+    record { one = inv.one; none_taken = inv.taken; items_counted = ap (λ n. c.args.slot + n) all ∙ sym inv.counted; rest_free = rw all inv.free }
+
+pub returns-clause-filled : goal.returns-clause-filled
+returns-clause-filled g c =
+    rw (le_antisymm c.loop-filled-test.false c.loop-filled.auto.filled-end) (sym (c.loop-filled.invariant.counted ∙ ap (λ n. n + c.loop-filled.filled) c.requires.slot))
+
+pub returns-clause-fits : goal.returns-clause-fits
+returns-clause-fits g c =
+    let inv = c.loop-filled.invariant in rw (inv.counted, ← inv.capacity) (omega (arith, inv.free))

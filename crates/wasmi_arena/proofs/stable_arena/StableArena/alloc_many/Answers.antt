@@ -11,3 +11,27 @@ returns-then-amount-len-clause-with_room g c = λ has_key within.
 pub returns-in_err-push_defaults-clause-without_size : goal.returns-in_err-push_defaults-clause-without_size
 returns-in_err-push_defaults-clause-without_size g c = λ has_key within no_size safe.
     absurd (true≢false (sym (c.in_err-push_defaults.ensures.without_size no_size safe)))
+
+pub returns-then-amount-len-clause-no_key : goal.returns-then-amount-len-clause-no_key
+returns-then-amount-len-clause-no_key g c = grind arith
+
+pub returns-then-amount-len-clause-without_size : goal.returns-then-amount-len-clause-without_size
+returns-then-amount-len-clause-without_size g c = grind arith
+
+pub returns-in_err-start : goal.returns-in_err-start
+returns-in_err-start g c = grind arith
+
+pub returns-in_err-end : goal.returns-in_err-end
+returns-in_err-end g c = grind arith
+
+pub returns-in_err-push_defaults-clause-no_key : goal.returns-in_err-push_defaults-clause-no_key
+returns-in_err-push_defaults-clause-no_key g c = grind arith
+
+pub returns-in_err-push_defaults-clause-memory : goal.returns-in_err-push_defaults-clause-memory
+returns-in_err-push_defaults-clause-memory g c = grind arith
+
+pub returns-in_err-push_defaults-clause-with_room : goal.returns-in_err-push_defaults-clause-with_room
+returns-in_err-push_defaults-clause-with_room g c = grind arith
+
+pub returns : goal.returns
+returns g c = grind arith

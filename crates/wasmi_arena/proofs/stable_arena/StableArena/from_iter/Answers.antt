@@ -1,4 +1,4 @@
-use Rattle.std.proofs.Common.{length, inl, inr}
+use Rattle.std.proofs.Common.{arith, length, inl, inr}
 use Rattle.std.proofs.lemmas.Bool.{cases_lt, false≢true}
 use Rattle.std.proofs.lemmas.Result.{err_from_is_err_and}
 use Rattle.wasmi_arena.specs.Arena.{stable_limit}
@@ -35,3 +35,6 @@ loop-item-preserved g c =
 pub returns-in-None-clause-ok : goal.returns-in-None-clause-ok
 returns-in-None-clause-ok g c =
     taken_last g.U.IntoIterator.into_iter_gives g.U.IntoIter.Iterator.next_gives g.U.IntoIter.Iterator.can_next g.U.IntoIter.Iterator.remaining c.loop-item.invariant c.in-Some.ensures.steps c.in_ok-alloc.ensures.ok c.in-None.ensures.items
+
+pub returns : goal.returns
+returns g c = grind arith

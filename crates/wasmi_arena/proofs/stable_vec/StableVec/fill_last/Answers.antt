@@ -1,6 +1,7 @@
 use Rattle.std.proofs.Common.{arith, ◌<◌, ◌++◌, ◌∙◌, ap}
 use Rattle.std.proofs.Math.Nat.{lt_of_lt_of_le}
 use Rattle.wasmi_arena.specs.inner.Table.{items_of}
+use Rattle.wasmi_arena.proofs.Apart.{len_is, open_is}
 use Rattle.wasmi_arena.proofs.LaidOut.{first_free, open_size, place-open, len-le_slots, slots-le_max, fits-last, items_of-fill, IsLaidOut-fill}
 use Rattle.wasmi_arena.proofs.stable_vec.StableVec.fill_last.Goals as goal
 
@@ -39,3 +40,11 @@ returns-clause-items g c =
       filled.2,
       filled.3,
     )
+
+pub returns-then-filled-eq0-clause-filled : goal.returns-then-filled-eq0-clause-filled
+returns-then-filled-eq0-clause-filled g c =
+    rw (c.if-filled-eq0.true, c.self.invariant.slots_counted, open_is c.self.invariant _ c.self.view_is, len_is c.self.invariant _ c.self.view_is) at c.min-filled.ensures
+
+pub returns-clause-filled : goal.returns-clause-filled
+returns-clause-filled g c =
+    rw (c.self.invariant.slots_counted, open_is c.self.invariant _ c.self.view_is, len_is c.self.invariant _ c.self.view_is) at c.min-filled.ensures

@@ -4,7 +4,7 @@ use Rattle.std.proofs.Math.Numerals.{lt_of_le_of_ne}
 use Rattle.wasmi_arena.specs.Geometry.{start}
 use Rattle.wasmi_arena.specs.inner.Table.{items_of}
 use Rattle.wasmi_arena.proofs.Apart.{len_is, open_is}
-use Rattle.wasmi_arena.proofs.LaidOut.{first_free, open_size, place-open, len-le_slots, slots-le_max, free-last, items_of-fill, IsLaidOut-fill}
+use Rattle.wasmi_arena.proofs.LaidOut.{first_free, open_size, place-open, length-le_slots, fewest-len, len-le_slots, slots-le_max, free-last, items_of-fill, IsLaidOut-fill}
 use Rattle.wasmi_arena.proofs.Doubling.{place_fits}
 use Rattle.wasmi_arena.proofs.stable_vec.StableVec.fill_last_from.Goals as goal
 
@@ -52,3 +52,7 @@ returns-clause-within g c =
 
 pub overflow_add-self : goal.overflow_add-self
 overflow_add-self g c = place_fits c.place_in_last-place.ensures.place _ c.fill_bucket_from-filled.ensures.fits
+
+pub returns-then-self-clause-within : goal.returns-then-self-clause-within
+returns-then-self-clause-within g c =
+    let enough = length-le_slots c.self.invariant in rw (fewest-len c.self.invariant, c.self.view_is) at enough

@@ -1,5 +1,6 @@
 use Rattle.std.proofs.Common.{◌∙◌, refl, sym}
-use Rattle.wasmi_arena.proofs.LaidOut.{index-lt_len, slot_filled, slice_get-slot, items_of-written, IsLaidOut-written}
+use Rattle.wasmi_arena.proofs.LaidOut.{index-lt_len, index-lt_max, slot_filled, slice_get-slot, items_of-written, IsLaidOut-written}
+use Rattle.wasmi_arena.proofs.Sizes.{table_small}
 use Rattle.wasmi_arena.proofs.stable_vec.StableVec.item_mut.Goals as goal
 
 pub slot_mut-requires : goal.slot_mut-requires
@@ -21,3 +22,9 @@ returns g c =
         value = rw (← c.self.view_is) (sym read ∙ rw c.bucket_mut-found.ensures.value c.slot_mut.ensures.value);
       },
     )
+
+pub place-bucket-requires : goal.place-bucket-requires
+place-bucket-requires g c = index-lt_max c.self.invariant (rw c.self.view_is c.requires)
+
+pub bucket_mut-found-requires : goal.bucket_mut-found-requires
+bucket_mut-found-requires g c = (table_small g.row.T g.row.A g.A.Allocator assumption, c.place-bucket.ensures.place.bucket_exists)

@@ -13,3 +13,6 @@ invariant_of-result g c = rw c.iter-2.ensures.rest (all_ahead c.self.invariant _
 
 pub returns-clause-items : goal.returns-clause-items
 returns-clause-items g c = rw (c.iter-2.ensures.rest, ← c.self.view_is) (all_ahead c.self.invariant _ _ c.iter.ensures.rest c.iter-3.ensures.rest).1
+
+pub returns-clause-bound : goal.returns-clause-bound
+returns-clause-bound g c = rw (← c.self.view_is, ← c.self.invariant.items_counted) c.self.invariant.few_items

@@ -14,3 +14,6 @@ invariant_of-result g c = rw c.iter.ensures.rest (parts_open c.self.invariant).0
 
 pub returns-clause-parts : goal.returns-clause-parts
 returns-clause-parts g c = rw (c.iter.ensures.rest, ← c.self.view_is) (parts_open c.self.invariant).1
+
+pub returns-clause-bound : goal.returns-clause-bound
+returns-clause-bound g c = rw (← c.self.view_is, ← c.self.invariant.items_counted) c.self.invariant.few_items

@@ -12,3 +12,7 @@ returns-clause-few g c =
 pub returns-clause-none : goal.returns-clause-none
 returns-clause-none g c = λ empty.
     rw (c.self.invariant.slots_counted, c.self.invariant.fewest_open, c.self.invariant.items_counted, c.self.view_is, empty) slots-zero
+
+pub returns-clause-value : goal.returns-clause-value
+returns-clause-value g c =
+    rw (← c.self.view_is, ← c.self.invariant.items_counted, ← c.self.invariant.fewest_open) c.self.invariant.slots_counted

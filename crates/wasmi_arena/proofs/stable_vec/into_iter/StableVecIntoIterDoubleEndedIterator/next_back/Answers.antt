@@ -1,10 +1,20 @@
-use Rattle.std.proofs.Common.{◌∙◌, [], ◌∷◌, ◌++◌, sym, ap, subst}
+use Rattle.std.proofs.Common.{◌∙◌, [], ◌∷◌, ◌++◌, Some, sym, ap, subst, arith, append_assoc}
 use Rattle.std.specs.Array.Iter.{array_into_iter_items}
+use Rattle.wasmi_arena.specs.inner.Ahead.{in_hand}
 use Rattle.wasmi_arena.specs.inner.Table.{AreFilled}
-use Rattle.wasmi_arena.proofs.Table.{filled_last_open}
-use Rattle.wasmi_arena.proofs.Taken.{all_left, last_taken, last_taken_counted, last_taken_ahead, taken_before, taken_before_ahead}
+use Rattle.wasmi_arena.proofs.Table.{ahead_fewer, filled_last_open}
+use Rattle.wasmi_arena.proofs.Taken.{all_left, fewer_last, last_taken, last_taken_counted, last_taken_ahead, taken_before, taken_before_ahead}
 use Rattle.wasmi_arena.proofs.Ahead.{progress_last}
 use Rattle.wasmi_arena.proofs.stable_vec.into_iter.StableVecIntoIterDoubleEndedIterator.next_back.Goals as goal
+
+pub invariant_of-self : goal.invariant_of-self
+invariant_of-self g c = ahead_fewer c.self.invariant (omega arith) (fewer_last (in_hand c.self.inside.back) (in_hand c.last_of.new.items) (Some c.in-Some.item) c.in-Some.ensures)
+
+pub returns-in-Some-clause-steps : goal.returns-in-Some-clause-steps
+returns-in-Some-clause-steps g c = rw (← c.self.view_is, c.in-Some.ensures) (simp append_assoc)
+
+pub returns-in-Some-clause-goes : goal.returns-in-Some-clause-goes
+returns-in-Some-clause-goes g c = progress_last (λ x. x) all_left _ (λ _. tt) _ _ _ (returns-in-Some-clause-steps g c)
 
 pub overflow_sub-self : goal.overflow_sub-self
 overflow_sub-self g c =

@@ -1,8 +1,34 @@
-use Rattle.std.proofs.Common.{◌∷◌, List, refl, sym, ap, ◌∙◌, map}
+use Rattle.std.proofs.Common.{arith, Some, None, MutBor, ◌∷◌, List, refl, sym, ap, ◌∙◌, map}
 use Rattle.wasmi_arena.specs.IterMut.{left}
 use Rattle.wasmi_arena.specs.inner.Table.{items_in}
-use Rattle.wasmi_arena.proofs.Loans.{front_filled, back_left, front_first}
+use Rattle.wasmi_arena.proofs.Ahead.{progress_first}
+use Rattle.wasmi_arena.proofs.Loans.{none_left, front_filled, back_left, front_first}
 use Rattle.wasmi_arena.proofs.stable_vec.slices_mut.StableVecSlicesMutIterator.next.Goals as goal
+
+pub returns-then-self-eq0-clause-steps : goal.returns-then-self-eq0-clause-steps
+returns-then-self-eq0-clause-steps g c =
+    let none = none_left c.self.inside.loan c.self.invariant c.if-self-eq0.true in rw (← c.self.view_is) (none, none)
+
+pub returns-then-self-eq0-clause-goes : goal.returns-then-self-eq0-clause-goes
+returns-then-self-eq0-clause-goes g c = progress_first (λ (x : MutBor (List g.row.T.Denot)). x.now) left _ (λ _. tt) _ _ None (returns-then-self-eq0-clause-steps g c)
+
+pub invariant_of-self : goal.invariant_of-self
+invariant_of-self g c = absurd (rw (← c.in_err-loan.ensures.value) at c.self.invariant)
+
+pub returns-in_err-loan-clause-steps : goal.returns-in_err-loan-clause-steps
+returns-in_err-loan-clause-steps g c = absurd (rw (← c.in_err-loan.ensures.value) at c.self.invariant)
+
+pub returns-in_err-loan-clause-goes : goal.returns-in_err-loan-clause-goes
+returns-in_err-loan-clause-goes g c = absurd (rw (← c.in_err-loan.ensures.value) at c.self.invariant)
+
+pub cut-first-requires : goal.cut-first-requires
+cut-first-requires g c = let counted = (rw (← c.in_ok-loan.ensures.value) at c.self.invariant).0 in omega arith
+
+pub overflow_sub-self : goal.overflow_sub-self
+overflow_sub-self g c = omega arith
+
+pub into_slice-requires-clause-one : goal.into_slice-requires-clause-one
+into_slice-requires-clause-one g c = c.cut-first.ensures.counted
 
 pub into_slice-requires-clause-open : goal.into_slice-requires-clause-open
 into_slice-requires-clause-open g c = front_filled c.self.inside.loan _ c.self.invariant (sym c.in_ok-loan.ensures.value) c.cut-first.ensures
@@ -14,3 +40,6 @@ pub returns-clause-steps : goal.returns-clause-steps
 returns-clause-steps g c =
     ap left (sym c.self.view_is) ∙ (front_first c.self.inside.loan _ c.self.invariant (sym c.in_ok-loan.ensures.value) c.cut-first.ensures refl
     ∙ ap (λ (xs : List g.row.T.Denot). xs ∷ map items_in c.cut-first.result.1.buckets) (sym c.into_slice.ensures))
+
+pub returns-clause-goes : goal.returns-clause-goes
+returns-clause-goes g c = progress_first (λ (x : MutBor (List g.row.T.Denot)). x.now) left _ (λ _. tt) _ _ (Some c.into_slice.result) (returns-clause-steps g c)
