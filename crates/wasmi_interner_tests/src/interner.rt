@@ -63,6 +63,7 @@ fn five_texts(rt: HostRuntime) {
     count_among_five(&rt, &interner);
     let text = format!(in rt.alloc(); "{interner:?}").expect(&rt, "");
     assert_equal!(rt; text.as_str(), "[\"b\", \"a\", \"bb\", \"\", \"é\"]");
+    drop(interner);
 }
 
 #[test]
@@ -133,6 +134,7 @@ fn most_among_letters(rt: &impl Abort, alloc: Global, around: (&str, &str), coun
         assert_equal!(*rt; count == 0 || 0 < compared, true, "of {letter}");
         most = compared.max(most);
     }
+    drop(interner);
     most
 }
 
@@ -190,6 +192,14 @@ fn most_compared_of_order(
     most
 }
 
+// The same, in a copy that is made for it.
+fn most_compared_in_copy(rt: &impl Abort, interner: &mut StringInterner, order: &str) -> u64 {
+    let copy = copy_of(rt, interner);
+    let most = most_compared_of_order(rt, interner, &copy, order);
+    drop(copy);
+    most
+}
+
 // A text behind each of them, and more behind all. A search of eight entries compares four texts at the most.
 #[test]
 fn texts_of_one_hash_are_told_apart(rt: HostRuntime) {
@@ -197,12 +207,11 @@ fn texts_of_one_hash_are_told_apart(rt: HostRuntime) {
     for order in ORDERS {
         interner.clear();
         intern_order(&rt, &mut interner, rt.alloc(), order);
-        let copy = copy_of(&rt, &interner);
-        assert_equal!(rt; most_compared_of_order(&rt, &mut interner, &copy, order), 4);
+        assert_equal!(rt; most_compared_in_copy(&rt, &mut interner, order), 4);
         intern_numbers(&rt, &mut interner, rt.alloc(), APART, 8..100);
-        let copy = copy_of(&rt, &interner);
-        assert_equal!(rt; most_compared_of_order(&rt, &mut interner, &copy, order), 4);
+        assert_equal!(rt; most_compared_in_copy(&rt, &mut interner, order), 4);
     }
+    drop(interner);
 }
 
 // Nine texts are compared at the most where 300 texts are looked up, in a copy. Each is there in both.
@@ -217,6 +226,7 @@ fn find_in_rest(
     intern_in_turn(rt, interner, alloc, around, 300);
     let absent = numbered(rt, alloc, around, 300);
     assert_equal!(*rt; get(&copy, absent.as_str()), None);
+    drop(copy);
 }
 
 // In the rest are all where they have one hash, 268 of one home, for the others fill its 32 slots, and at least 259 of
@@ -230,6 +240,7 @@ fn texts_that_find_no_slot_are_found(rt: HostRuntime) {
         find_in_rest(&rt, &mut interner, rt.alloc(), around);
         intern_numbers(&rt, &mut interner, rt.alloc(), APART, 0..1000);
         find_in_rest(&rt, &mut interner, rt.alloc(), around);
+        drop(interner);
     }
 }
 
@@ -281,12 +292,15 @@ fn many_texts_are_found(rt: HostRuntime) {
     find_scattered(&rt, &copy, rt.alloc());
     assert_equal!(rt; get(&interner, "660003"), None);
     compare(&rt, &copy, &interner);
+    drop(copy);
+    drop(interner);
 }
 
 #[test]
 fn more_texts_of_one_hash_than_a_short_number_tells(rt: HostRuntime) {
     let mut interner = StringInterner::new(rt.alloc());
     intern_in_turn(&rt, &mut interner, rt.alloc(), ONE_HASH, 65_540);
+    drop(interner);
 }
 
 // Interns a text of that length, again without memory, and reads it.
@@ -318,4 +332,5 @@ fn long_texts_are_kept(rt: HostRuntime) {
         keep_long(&rt, &mut interner, &log, rt.alloc(), len, number);
         number = number.wrapping_add(1);
     }
+    drop(interner);
 }

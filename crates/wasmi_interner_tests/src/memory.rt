@@ -196,6 +196,7 @@ fn slots_are_doubled_in_turn(rt: HostRuntime) {
     interner.clear();
     double_slots(&rt, &mut interner, &log, rt.alloc(), 1..32, (32, 33, 34));
     find_numbers(&rt, &interner, rt.alloc(), APART, 100, true);
+    drop(interner);
 }
 
 // Behind 4,096 texts of one hash one more asks for eight blocks in the place of sixteen and for their list, for a longer
@@ -252,14 +253,14 @@ fn blocks_of_the_rest_widen_in_turn(rt: HostRuntime) {
 }
 
 // An interner of the names. One that is refused is interned again.
-fn with_names<'l>(handle: Logged<'l>) -> Result<StringInterner<Logged<'l>>, ArenaError> {
+fn with_names<'l>(rt: &impl Abort, handle: Logged<'l>) -> StringInterner<Logged<'l>> {
     let mut interner = StringInterner::new(handle);
     for name in NAMES {
         if intern(&mut interner, name).is_err() {
-            let _symbol = intern_with_hint(&mut interner, name, InternHint::LikelyNew)?;
+            intern_with_hint(&mut interner, name, InternHint::LikelyNew).expect(rt, "");
         }
     }
-    Ok(interner)
+    interner
 }
 
 // Interns a text that is there, under each hint and without a request.
@@ -283,7 +284,7 @@ fn a_text_that_is_there_needs_no_memory(rt: HostRuntime) {
     for nth in 1..30 {
         let log = Log::new();
         log.refuse_once(nth);
-        let mut interner = with_names(Logged::new(rt.alloc(), &log)).expect(&rt, "");
+        let mut interner = with_names(&rt, Logged::new(rt.alloc(), &log));
         log.refuse_from(1);
         intern_with_hints(&rt, &mut interner, &log, "global", 3);
         assert!(rt; intern(&mut interner, LONG).is_err());
@@ -301,6 +302,7 @@ fn a_long_text_that_is_there_needs_no_memory(rt: HostRuntime) {
     assert_equal!(rt; intern(&mut interner, LONG), Ok(Sym::from_u32(0)));
     log.refuse_from(1);
     intern_with_hints(&rt, &mut interner, &log, LONG, 0);
+    drop(interner);
 }
 
 // The request for its bytes is refused. One for where it lies is in `a_refused_text_changes_nothing`.
@@ -314,11 +316,12 @@ fn a_third_text_is_refused(rt: HostRuntime) {
     assert_equal!(rt; (get(&interner, LONG), interner.len()), (None, 2));
     log.refuse_none();
     assert_equal!(rt; intern(&mut interner, LONG), Ok(Sym::from_u32(2)));
+    drop(interner);
 }
 
 // An interner of the names and two texts of one hash.
 fn with_rest<'l>(rt: &impl Abort, handle: Logged<'l>, alloc: Global) -> StringInterner<Logged<'l>> {
-    let mut interner = with_names(handle).expect(rt, "");
+    let mut interner = with_names(rt, handle);
     intern_numbers(rt, &mut interner, alloc, ONE_HASH, 0..2);
     interner
 }
@@ -328,7 +331,9 @@ fn clone_requests(rt: &impl Abort, interner: &StringInterner<Logged<'_>>, log: &
     let before = counted(log);
     let copy = copy_of(rt, interner);
     compare(rt, &copy, interner);
-    counted_since(log, before).0
+    let (requests, _, _) = counted_since(log, before);
+    drop(copy);
+    requests
 }
 
 // One for the texts, one for where they lie, and one for the slots. Two more for the rest.
@@ -336,10 +341,12 @@ fn clone_requests(rt: &impl Abort, interner: &StringInterner<Logged<'_>>, log: &
 fn a_clone_asks_for_five_blocks(rt: HostRuntime) {
     let log = Log::new();
     let handle = Logged::new(rt.alloc(), &log);
-    let interner = with_names(handle).expect(&rt, "");
-    assert_equal!(rt; clone_requests(&rt, &interner, &log), 3);
-    let interner = with_rest(&rt, handle, rt.alloc());
-    assert_equal!(rt; clone_requests(&rt, &interner, &log), 5);
+    let names = with_names(&rt, handle);
+    assert_equal!(rt; clone_requests(&rt, &names, &log), 3);
+    let more = with_rest(&rt, handle, rt.alloc());
+    assert_equal!(rt; clone_requests(&rt, &more, &log), 5);
+    drop(more);
+    drop(names);
 }
 
 #[test]
@@ -352,7 +359,9 @@ fn a_refused_clone_leaves_its_source(rt: HostRuntime) {
         assert_equal!(rt; refused, Some(ArenaError::OutOfSystemMemory), "at {nth}");
         assert!(rt; has_first(&interner, 12), "at {nth}");
     }
-    compare(&rt, &copy_of(&rt, &interner), &interner);
+    let copy = copy_of(&rt, &interner);
+    compare(&rt, &copy, &interner);
+    drop(copy);
     drop(interner);
     assert_equal!(rt; log.amiss(), 0);
 }
@@ -368,6 +377,8 @@ fn an_empty_interner_is_cloned(rt: HostRuntime) {
     compare(&rt, &copy, &interner);
     log.refuse_none();
     assert_equal!(rt; intern(&mut copy, "b"), Ok(Sym::from_u32(0)));
+    drop(copy);
+    drop(interner);
 }
 
 // Nor does a new one, whatever the hint, but for slots or a block that it opens.
@@ -386,6 +397,7 @@ fn a_text_clones_no_handle(rt: HostRuntime) {
         }
     }
     assert_equal!(rt; (log.requests(), log.clones()), before);
+    drop(interner);
 }
 
 // The first 39 slots take 32 texts, so from the sixth text on each asks for more, once.
@@ -402,6 +414,7 @@ fn refused_slots_are_asked_for_once(rt: HostRuntime) {
         let wanted = u64::from(number == 0 || 5 <= number);
         assert_equal!(rt; requests, wanted, "behind {number}");
     }
+    drop(interner);
 }
 
 // They go on from 2^13 homes to 2^14.
@@ -412,6 +425,7 @@ fn slots_are_doubled_beside_a_long_rest(rt: HostRuntime) {
     let mut interner = with_texts(&rt, handle, rt.alloc(), ONE_HASH, 5120);
     let (requests, bytes, _) = asked_for_text(&rt, &mut interner, &log, rt.alloc(), APART, 0);
     assert_equal!(rt; (requests, bytes), (1, 131_320));
+    drop(interner);
 }
 
 #[test]
@@ -424,4 +438,5 @@ fn long_texts_ask_seldom(rt: HostRuntime) {
         intern(&mut interner, text.as_str()).expect(&rt, "");
     }
     assert!(rt; log.requests() < 50, "{} requests", log.requests());
+    drop(interner);
 }

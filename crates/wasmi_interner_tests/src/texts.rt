@@ -35,6 +35,7 @@ fn texts_are_visited_from_both_ends(rt: HostRuntime) {
     for (symbol, text) in &interner {
         assert_equal!(rt; resolve(&interner, symbol), Some(text));
     }
+    drop(interner);
 }
 
 #[test]
