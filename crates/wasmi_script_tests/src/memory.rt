@@ -21,13 +21,12 @@ fn key(number: usize) -> Result<EntityKey, ArenaError> {
     EntityKey::from_usize(number).ok_or(ArenaError::KeyOutOfBounds)
 }
 
-// A store of these two.
-fn two_entities<'a, 'l>(heap: &'a Observed<'l>) -> Result<Store<'a, 'l>, ArenaError> {
-    let mut store = EntityStore::new(heap);
+// Adds these two.
+fn add_entities(store: &mut Store<'_, '_>) -> Result<(), ArenaError> {
     for (name, kind) in ENTITIES {
         let _key = store.add(name, kind)?;
     }
-    Ok(store)
+    Ok(())
 }
 
 // Whether a store has the first so many of these entities, and no other.
@@ -70,6 +69,7 @@ fn an_entity_that_was_refused_is_added_again(rt: HostRuntime) {
             refused = refused.wrapping_add(refused_entities(&mut store).expect(&rt, ""));
             assert_equal!(rt; (has_first(&store, 2), store.names(), store.kinds()), (Ok(true), 2, 2), "{nth}");
             requests = log.requests();
+            drop(store);
         }
         assert_equal!(rt; log.amiss(), 0);
     }
@@ -98,13 +98,15 @@ fn a_kind_that_was_refused_a_name_is_renamed_again(rt: HostRuntime) {
         let log = Log::new();
         {
             let heap = Observed::new(rt.alloc(), &log);
-            let mut store = two_entities(&heap).expect(&rt, "");
+            let mut store = EntityStore::new(&heap);
+            add_entities(&mut store).expect(&rt, "");
             log.refuse_once(nth);
             if was_refused_a_name(&mut store).expect(&rt, "") {
                 refused = refused.wrapping_add(1);
             }
             let bob = key(1).expect(&rt, "");
             assert_equal!(rt; (store.get(bob).expect(&rt, "").1, store.names(), store.kinds()), ("admin", 2, 2));
+            drop(store);
         }
         assert_equal!(rt; log.amiss(), 0);
     }
@@ -132,13 +134,17 @@ fn what_is_there_needs_no_memory(rt: HostRuntime) {
     let log = Log::new();
     {
         let heap = Observed::new(rt.alloc(), &log);
-        assert_equal!(rt; (EntityStore::new(&heap).len(), log.requests()), (0, 0));
-        let mut store = two_entities(&heap).expect(&rt, "");
+        let empty = EntityStore::new(&heap);
+        assert_equal!(rt; (empty.len(), log.requests()), (0, 0));
+        drop(empty);
+        let mut store = EntityStore::new(&heap);
+        add_entities(&mut store).expect(&rt, "");
         let ann = key(0).expect(&rt, "");
         assert_equal!(rt; store.set(ann, 1), Ok(None));
         let asked = log.requests();
         log.refuse_from(1);
         assert_equal!(rt; (goes_on_without_memory(&mut store), log.requests()), (Ok(()), asked));
+        drop(store);
     }
     assert_equal!(rt; log.amiss(), 0);
 }

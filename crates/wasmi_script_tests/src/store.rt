@@ -19,6 +19,7 @@ fn entities_are_added(rt: HostRuntime) {
         assert_equal!(rt; store.add(name, kind).expect(&rt, "").into_usize(), number);
         assert_equal!(rt; (store.len(), store.names(), store.kinds()), counts);
     }
+    drop(store);
 }
 
 #[test]
@@ -36,6 +37,7 @@ fn properties_are_set_and_taken_out(rt: HostRuntime) {
     let refused = Err(ArenaError::KeyOutOfBounds);
     assert_equal!(rt; (store.set(nobody, 1), store.unset(nobody)), (refused, refused));
     assert_equal!(rt; store.get(nobody).err(), refused.err());
+    drop(store);
 }
 
 #[test]
@@ -57,4 +59,5 @@ fn kinds_are_renamed(rt: HostRuntime) {
         assert_equal!(rt; store.get(key(number).expect(&rt, "")), Ok((name, kind, None)));
     }
     assert_equal!(rt; store.kinds(), 2);
+    drop(store);
 }
