@@ -34,6 +34,7 @@ fn a_store_of_two_functions(rt: HostRuntime) {
     assert!(rt; first != second && store.count() == 2);
     assert_equal!(rt; store.get(first), Some(&"add"));
     assert_equal!(rt; store.get(second), Some(&"sub"));
+    drop(store);
 }
 
 #[test]
@@ -44,6 +45,7 @@ fn symbols_of_three_names(rt: HostRuntime) {
     }
     assert_equal!(rt; (symbols.find("table"), symbols.find("tables")), (Some(1), None));
     assert_equal!(rt; intern_both(&mut symbols, rt.alloc(), "", "start").expect(&rt, ""), (2, 3));
+    drop(symbols);
 }
 
 // Numbers without order, the greatest there is among them.
@@ -77,7 +79,9 @@ fn look_ups_by_the_keys_of_a_walk(rt: HostRuntime) {
             if one.len() <= other.len() {
                 assert_equal!(rt; any_differs(&one, &other), (place as u64) < len, "{place} of {len}");
             }
+            drop(other);
         }
+        drop(one);
     }
 }
 
@@ -91,6 +95,7 @@ fn a_key_that_fails_is_named(rt: HostRuntime) {
         Err(error) => format!(in rt.alloc(); "{error:#}").expect(&rt, ""),
     };
     assert_equal!(rt; text.as_str(), "key 40 of an arena of 40 items: encounteded out of bounds key");
+    drop(arena);
 }
 
 #[test]
@@ -102,6 +107,7 @@ fn a_search_across_buckets(rt: HostRuntime) {
     assert_equal!(rt; (position_of(&vec, &140), position_of(&vec, &141)), (Some(70), None));
     let found = (push_and_find(&mut vec, 141), push_and_find(&mut vec, 140));
     assert_equal!(rt; found, (Ok(Some(100)), Ok(Some(70))));
+    drop(vec);
 }
 
 #[test]
@@ -130,6 +136,7 @@ fn a_write_into_either_arena(rt: HostRuntime) {
     }
     assert_equal!(rt; (dense.len(), dense.get(0), dense.get(1)), (2, Ok(&"c"), Ok(&"d")));
     assert_equal!(rt; (stable.len(), stable.get(0), stable.get(1)), (2, Ok(&"c"), Ok(&"d")));
+    drop(stable);
 }
 
 #[test]
@@ -202,6 +209,7 @@ fn a_name_is_exported_once(rt: HostRuntime) {
     }
     let found = (import(&names, "table"), import(&names, "global"));
     assert_equal!(rt; found, (Some(Sym::from_u32(1)), None));
+    drop(names);
 }
 
 #[test]
@@ -213,6 +221,7 @@ fn a_name_has_one_symbol(rt: HostRuntime) {
     assert_equal!(rt; symbol_again(&mut names, "table", "start"), Ok((table, table)));
     assert_equal!(rt; (names.len(), symbol_of_new(&mut names, "start")), (3, Ok(None)));
     assert_equal!(rt; symbol_of_new(&mut names, "elem"), Ok(Some(Sym::from_u32(3))));
+    drop(names);
 }
 
 #[test]
@@ -227,6 +236,7 @@ fn what_names_stand_for(rt: HostRuntime) {
         assert_equal!(rt; noted_of(&names, &noted, name), value, "of {name}");
     }
     assert_equal!(rt; noted.get(Sym::from_u32(2)), Some(&2));
+    drop(names);
 }
 
 #[test]
@@ -240,6 +250,7 @@ fn a_text_has_a_slot(rt: HostRuntime) {
         let text = String::from_str(rt.alloc(), text).expect(&rt, "");
         assert_equal!(rt; slot_of_text(&table, &text), slot, "of {text}");
     }
+    drop(table);
 }
 
 #[test]
@@ -250,6 +261,7 @@ fn a_constant_has_one_slot(rt: HostRuntime) {
     assert_equal!(rt; (in_its_slot(&mut table, 9), table.len()), (Ok(9), 3));
     table.put(2, 4).expect(&rt, "");
     assert_equal!(rt; (in_its_slot(&mut table, 9), in_its_slot(&mut table, 4)), (Ok(4), Ok(4)));
+    drop(table);
 }
 
 #[test]
@@ -265,6 +277,7 @@ fn a_folded_constant_has_one_slot(rt: HostRuntime) {
     for (slot, item) in [43, 2, 42, 40].iter().enumerate() {
         assert_equal!(rt; table.alloc(*item).expect(&rt, ""), slot as u32);
     }
+    drop(table);
 }
 
 #[test]
@@ -283,6 +296,7 @@ fn tables_of_a_module(rt: HostRuntime) {
     let (step, again) = tables.declare_twice("step").expect(&rt, "");
     assert!(rt; step == again && step != other);
     assert_equal!(rt; tables.name_and_line(FuncId::from_u32(3)), Some((step, Some(2))));
+    drop(tables);
 }
 
 #[test]
@@ -300,6 +314,7 @@ fn functions_by_name(rt: HostRuntime) {
     assert_equal!(rt; (functions.find("stop"), functions.find("step")), (Some((stop, 9)), None));
     assert_equal!(rt; (functions.name_of(stop), functions.get(stop)), (Some("stop"), Some(9)));
     assert_equal!(rt; functions.get(FunctionKey::from_u32(2)), None);
+    drop(functions);
 }
 
 #[test]
@@ -307,6 +322,7 @@ fn an_entity_has_a_property_at_once(rt: HostRuntime) {
     let mut store = EntityStore::new(rt.alloc());
     let key = spawn(&mut store, "ann", "cat", 7).expect(&rt, "");
     assert_equal!(rt; store.get(key), Ok(("ann", "cat", Some(7))));
+    drop(store);
 }
 
 // From each to each of four, and past them.
@@ -325,6 +341,7 @@ fn two_items_are_written_at_once(rt: HostRuntime) {
             }
             assert_equal!(rt; transfer(&mut arena, from, to), is_done, "{from} to {to}");
             assert!(rt; arena.values().copied().eq(want), "{from} to {to}");
+            drop(arena);
         }
     }
 }
@@ -344,4 +361,5 @@ fn an_item_goes_into_another_bucket(rt: HostRuntime) {
         assert_equal!(rt; transfer(&mut arena, from, to), done);
         assert_equal!(rt; (arena.get(from).ok(), arena.get(to).ok()), (source.as_ref(), target.as_ref()));
     }
+    drop(arena);
 }
