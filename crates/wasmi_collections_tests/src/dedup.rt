@@ -27,6 +27,8 @@ fn equal_values_have_one_key(rt: HostRuntime) {
     assert_equal!(rt; made == arena, true);
     arena.clear();
     assert_equal!(rt; has_len(&arena, 0), true);
+    drop(made);
+    drop(arena);
 }
 
 #[test]
@@ -36,6 +38,7 @@ fn equal_values_of_an_iterator_have_one_key(rt: HostRuntime) {
     assert_equal!(rt; hand_in(&mut made, "a"), Ok(0));
     assert_equal!(rt; get(&made, 1), Ok(&"b"));
     assert_equal!(rt; has_len(&made, 2), true);
+    drop(made);
 }
 
 // An arena that was handed "x" and "y". Its item under the key of "x" was written over by "y".
@@ -54,6 +57,7 @@ fn writes_change_no_key(rt: HostRuntime) {
     let index = arena.index();
     assert_equal!(rt; (arena.len(), index.len()), (2, 2));
     assert_equal!(rt; (index.get(&"x"), index.get(&"y")), (Some(&0), Some(&1)));
+    drop(arena);
 }
 
 #[test]
@@ -64,6 +68,7 @@ fn writes_in_a_loop_change_no_key(rt: HostRuntime) {
     }
     hand_in_turn(&rt, &mut arena, &["a", "b", "c", "z"]);
     assert_equal!(rt; (get(&arena, 0), get(&arena, 2)), (Ok(&"z"), Ok(&"z")));
+    drop(arena);
 }
 
 // The number of the key of a value, which is handed in if it is new.
@@ -85,6 +90,7 @@ fn a_repeat_needs_no_key(rt: HostRuntime) {
     arena.clear();
     assert_equal!(rt; number_of(&mut arena, "t"), Ok(0));
     assert_equal!(rt; arena.index().len(), 1);
+    drop(arena);
 }
 
 #[test]
@@ -111,6 +117,7 @@ fn one_key_is_enough_for_equal_values(rt: HostRuntime) {
         );
         assert_equal!(rt; made.map(|made| made.len()), wanted, "with {last}");
     }
+    drop(arena);
 }
 
 #[test]
@@ -121,6 +128,7 @@ fn a_look_hands_nothing_in(rt: HostRuntime) {
     }
     assert_equal!(rt; (arena.len(), arena.index().len()), (2, 2));
     assert_equal!(rt; arena.next_key(), Ok(2));
+    drop(arena);
 }
 
 #[test]
@@ -131,6 +139,7 @@ fn a_write_under_a_key_hands_nothing_in(rt: HostRuntime) {
     assert_equal!(rt; (key_of(&arena, &"y"), key_of(&arena, &"z")), (Some(1), None));
     assert_equal!(rt; get(&arena, 1), Ok(&"z"));
     assert_equal!(rt; (arena.has(1), arena.has(2)), (true, false));
+    drop(arena);
 }
 
 #[test]
@@ -164,6 +173,7 @@ fn commands_and_replies(rt: HostRuntime) {
         ]
         .as_slice()
     );
+    drop(arena);
 }
 
 #[test]
@@ -175,4 +185,6 @@ fn items_alone_are_compared(rt: HostRuntime) {
     assert_equal!(rt; &one, &other);
     let text = format!(in rt.alloc(); "{one:?}").expect(&rt, "");
     assert_equal!(rt; text.as_str(), "{0: 7, 1: 2}");
+    drop(other);
+    drop(one);
 }

@@ -61,6 +61,7 @@ fn a_value_is_cloned_where_it_is_new(rt: HostRuntime) {
         &rt, "",
     );
     assert_equal!(rt; (arena.len(), notes.cloned()), (2, 2));
+    drop(arena);
 }
 
 // Whether a run of one of the two maps ends well, whose nth request is refused.
@@ -115,7 +116,9 @@ fn collected(log: &Log, heap: Logged<'_>, nth: u64) -> Result<usize, ArenaError>
         heap,
         [0, 1, 0, 2, 3, 4, 5],
     )?;
-    Ok(made.len())
+    let len = made.len();
+    drop(made);
+    Ok(len)
 }
 
 // Each request refused in turn, of which there are as many as a run without a refusal makes.
@@ -150,7 +153,9 @@ fn a_run_of_an_interner_asks_for_its_replies_alone(rt: HostRuntime) {
     let heap = Logged::new(rt.alloc(), &log);
     let commands = (0..9).map(|_| InternCommand::Len).collect(heap);
     let (commands, before) = (commands.expect(&rt, ""), log.bytes());
-    let replies = run_interner(heap, &mut StringInterner::new(rt.alloc()), commands);
+    let mut interner = StringInterner::new(rt.alloc());
+    let replies = run_interner(heap, &mut interner, commands);
+    drop(interner);
     assert_equal!(rt; asks_for_these(&log, before, &replies.expect(&rt, "")), Ok(true));
 }
 
@@ -182,7 +187,9 @@ fn a_run_of_an_arena_asks_for_its_replies_alone(rt: HostRuntime) {
         .map(|_| DedupCommand::<FewKeys<4>, i32>::Clear)
         .collect(heap);
     let (commands, before) = (commands.expect(&rt, ""), log.bytes());
-    let replies = run_dedup(heap, &mut DedupArena::new(rt.alloc()), commands);
+    let mut arena = DedupArena::new(rt.alloc());
+    let replies = run_dedup(heap, &mut arena, commands);
+    drop(arena);
     assert_equal!(rt; asks_for_these(&log, before, &replies.expect(&rt, "")), Ok(true));
 }
 
@@ -217,4 +224,5 @@ fn a_value_without_room_is_not_cloned(rt: HostRuntime) {
     log.refuse_from(1);
     let refused = arena.alloc(Noted::new(1, &notes)).err();
     assert_equal!(rt; (refused, notes.cloned()), (Some(ArenaError::OutOfSystemMemory), 0));
+    drop(arena);
 }

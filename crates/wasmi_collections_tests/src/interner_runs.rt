@@ -49,6 +49,7 @@ fn a_run_replies_as_the_table_says(rt: HostRuntime) {
         InternReply::Sym(Sym::from_u32(2)),
     ];
     assert_equal!(rt; (replies.as_slice(), interner.len()), (wanted.as_slice(), 3));
+    drop(interner);
 }
 
 // Commands that hand in each name.

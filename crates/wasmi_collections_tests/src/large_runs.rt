@@ -88,6 +88,7 @@ fn many_commands_to_a_dedup_arena(rt: HostRuntime) {
     for (turn, reply) in (0..ALL).zip(replies) {
         assert_equal!(rt; reply, dedup_command(turn).1, "{turn}");
     }
+    drop(arena);
 }
 
 // Interned, interned again, found, not found, and counted.
@@ -119,4 +120,5 @@ fn many_commands_to_an_interner(rt: HostRuntime) {
         assert_equal!(rt; reply, want, "{turn}");
     }
     assert!(rt; interner.len() == 30_000);
+    drop(interner);
 }

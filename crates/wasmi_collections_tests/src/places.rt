@@ -25,6 +25,7 @@ fn many_numbers(rt: &impl Abort, alloc: Global) {
     for number in 5_000..2_097_153u32 {
         assert_equal!(*rt; numbers.alloc(number), Ok(number as usize));
     }
+    drop(numbers);
 }
 
 fn many_texts(rt: &impl Abort, alloc: Global, long: &str) {
@@ -35,6 +36,7 @@ fn many_texts(rt: &impl Abort, alloc: Global, long: &str) {
     }
     assert_equal!(*rt; texts.len(), 5_000);
     assert_equal!(*rt; (texts.key_of_str(long), texts.key_of_str("4500")), (Some(4_500), None));
+    drop(texts);
 }
 
 fn many_names(rt: &impl Abort, alloc: Global, long: &str) {
@@ -48,6 +50,7 @@ fn many_names(rt: &impl Abort, alloc: Global, long: &str) {
         Some(symbol) => assert_equal!(*rt; symbol.into_u32(), 4_500),
         None => assert!(*rt; false, "the long text has no symbol"),
     }
+    drop(interner);
 }
 
 // From empty on, past the growths of each part.
@@ -88,4 +91,5 @@ fn a_value_asks_for_its_places_alone(rt: HostRuntime) {
     let (requests, bytes) = (log.requests(), log.bytes());
     assert_equal!(rt; requests < 64, true, "{requests}");
     assert_equal!(rt; bytes < 4 * 16_384 + 40 * 32_768, true, "{bytes}");
+    drop(arena);
 }

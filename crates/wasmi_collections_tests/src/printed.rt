@@ -42,6 +42,7 @@ const ENTRIES: &str = "{\n    0: 7,\n}";
 fn stable_arena(rt: &impl Abort, alloc: Global) {
     let made: StableArena<usize, i32> = StableArena::from_iter(alloc, [7]).expect(rt, "");
     prints(rt, alloc, &made, ENTRIES);
+    drop(made);
 }
 
 fn arena(rt: &impl Abort, alloc: Global) {
@@ -52,6 +53,7 @@ fn arena(rt: &impl Abort, alloc: Global) {
 fn dedup_arena(rt: &impl Abort, alloc: Global) {
     let made: DedupArena<usize, i32> = DedupArena::from_iter(alloc, [7]).expect(rt, "");
     prints(rt, alloc, &made, ENTRIES);
+    drop(made);
 }
 
 fn component_vec(rt: &impl Abort, alloc: Global) {
@@ -65,6 +67,7 @@ fn string_interner(rt: &impl Abort, alloc: Global) {
     let mut names = StringInterner::new(alloc);
     names.get_or_intern("x").expect(rt, "");
     prints(rt, alloc, &names, "[\n    \"x\",\n]");
+    drop(names);
 }
 
 #[test]
@@ -80,6 +83,7 @@ fn arenas_print_a_line_for_each_item(rt: HostRuntime) {
 fn stable_vec(rt: &impl Abort, alloc: Global) {
     let made: StableVec<i32> = StableVec::from_iter(alloc, [7]).expect(rt, "");
     prints(rt, alloc, &made, LIST);
+    drop(made);
 }
 
 fn head_vec(rt: &impl Abort, alloc: Global) {
@@ -142,7 +146,9 @@ fn len_of<T: Debug>(container: &T) -> usize {
 // How many bytes the text of each container has, whose items 0 to 99,999 are their own keys.
 fn bytes_of_arena(alloc: Global) -> Result<usize, ArenaError> {
     let arena: DedupArena<usize, usize> = DedupArena::from_iter(alloc, 0..100_000)?;
-    Ok(len_of(&arena))
+    let bytes = len_of(&arena);
+    drop(arena);
+    Ok(bytes)
 }
 
 fn bytes_of_components(alloc: Global) -> Result<usize, ArenaError> {
@@ -161,13 +167,20 @@ fn bytes_of_list(alloc: Global) -> Result<usize, ArenaError> {
     Ok(len_of(&list))
 }
 
-fn bytes_of_names(alloc: Global) -> Result<usize, ArenaError> {
-    let mut names = StringInterner::new(alloc);
+// Interns the numbers, and tells how many bytes the text has then.
+fn bytes_with_numbers(alloc: Global, names: &mut StringInterner) -> Result<usize, ArenaError> {
     for number in 0..100_000usize {
         let name = format!(in alloc; "{number}")?;
         names.get_or_intern(name.as_str())?;
     }
-    Ok(len_of(&names))
+    Ok(len_of(names))
+}
+
+fn bytes_of_names(alloc: Global) -> Result<usize, ArenaError> {
+    let mut names = StringInterner::new(alloc);
+    let bytes = bytes_with_numbers(alloc, &mut names);
+    drop(names);
+    bytes
 }
 
 #[test]

@@ -90,6 +90,7 @@ fn a_refused_clone_changes_nothing(rt: HostRuntime) {
     for (number, key) in [(2, 1), (4, 2)] {
         assert_equal!(rt; hand_in(&mut arena, Even(number)), Ok(key));
     }
+    drop(arena);
 }
 
 // How many values were refused of a run that handed in those from 0 on, of which each other one has its key; nothing
@@ -291,7 +292,9 @@ fn a_value_by_reference_is_cloned_twice(rt: HostRuntime) {
         let long = "0123456789".repeat(heap, 7_000).expect(&rt, "");
         clone_twice(&rt, &log, &mut arena, heap, &long, is_value);
         find_by_reference(&rt, &log, &mut arena, heap, &long, is_value, 2);
-        drop((arena, known, long));
+        drop(arena);
+        drop(known);
+        drop(long);
         assert_equal!(rt; log.amiss(), 0);
     }
 }

@@ -27,15 +27,27 @@ fn of_numbers<'a>(
 }
 
 // What one call compares, clones and drops, where something else was written under the key 7.
+fn costs_in<'a>(
+    notes: &'a Notes,
+    arena: &mut DedupArena<usize, Noted<'a>>,
+    key: usize,
+    number: u32,
+) -> Result<(u64, u64, u64), ArenaError> {
+    *arena.get_mut(7)? = Noted::new(12_345, notes);
+    taken(notes);
+    let there = replace(arena, key, Noted::new(number, notes));
+    let counts = taken(notes);
+    drop(there);
+    Ok(counts)
+}
+
+// The same, in an arena of the numbers below `len`.
 fn costs(alloc: Global, len: u32, key: usize, number: u32) -> Result<(u64, u64, u64), ArenaError> {
     let notes = Notes::new();
     let mut arena = of_numbers(alloc, &notes, len)?;
-    *arena.get_mut(7)? = Noted::new(12_345, &notes);
-    taken(&notes);
-    let there = replace(&mut arena, key, Noted::new(number, &notes));
-    let counts = taken(&notes);
-    drop(there);
-    Ok(counts)
+    let counts = costs_in(&notes, &mut arena, key, number);
+    drop(arena);
+    counts
 }
 
 // The value and the one that it takes the place of are looked up, and that one is taken out; where another
@@ -63,6 +75,7 @@ fn a_call_takes_no_walk(rt: HostRuntime) {
     for key in 0..524_288usize {
         assert_equal!(rt; replace(&mut arena, key, key + 524_288), Ok(key));
     }
+    drop(arena);
 }
 
 // A value that is looked up is compared with no other that was handed in.
@@ -74,6 +87,7 @@ fn a_look_compares_one_value(rt: HostRuntime) {
     taken(&notes);
     assert_equal!(rt; (key_of(&arena, &value), taken(&notes)), (Some(500), (1, 0, 0)));
     assert_equal!(rt; (arena.alloc_ref(&value), taken(&notes)), (Ok(500), (1, 0, 0)));
+    drop(arena);
 }
 
 #[test]
@@ -120,6 +134,7 @@ fn the_worked_rows(rt: HostRuntime) {
     // The value has this key already, so nothing is asked for.
     log.refuse_from(1);
     assert_equal!(rt; (replace(&mut arena, 2, "a"), hand_in(&mut arena, "a")), (Ok("q"), Ok(2)));
+    drop(arena);
 }
 
 #[test]
@@ -131,6 +146,7 @@ fn a_new_value_needs_no_key(rt: HostRuntime) {
     assert_equal!(rt; replace(&mut arena, last, "t"), Ok("s"));
     assert_equal!(rt; hand_in(&mut arena, "t"), Ok(last));
     assert_equal!(rt; hand_in(&mut arena, "s").err(), Some(ArenaError::NotEnoughKeys));
+    drop(arena);
 }
 
 // A text whose clone has one more character.
@@ -273,7 +289,9 @@ fn a_run_goes_on_after_a_refusal(rt: HostRuntime) {
     ];
     assert_equal!(rt; replies.as_slice(), wanted.as_slice());
     hand_three_in(&rt, heap, &mut arena, ["a", "b", "e"]);
-    drop((arena, replies, wanted));
+    drop(arena);
+    drop(replies);
+    drop(wanted);
     assert_equal!(rt; log.amiss(), 0);
 }
 
@@ -335,6 +353,7 @@ fn many_calls_ask_for_one_block(rt: HostRuntime) {
         assert_equal!(rt; there, Ok(value.wrapping_sub(4)));
     }
     assert_equal!(rt; log.requests().wrapping_sub(asked) < 2, true);
+    drop(arena);
 }
 
 // Puts a text in the place of the first of so many, where the second request is refused. Whether the call fails.
@@ -346,7 +365,9 @@ fn replace_among(rt: &impl Abort, heap: Logged<'_>, log: &Log, len: u32) -> bool
     }
     let value = text(rt, heap, "new");
     log.refuse_once(2);
-    replace(&mut arena, 0, value).is_err()
+    let fails = replace(&mut arena, 0, value).is_err();
+    drop(arena);
+    fails
 }
 
 // The clone of the value is refused, or a block of the index.
