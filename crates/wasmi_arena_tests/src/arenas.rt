@@ -24,6 +24,7 @@ fn fills<Key: ArenaKey + PartialEq + Debug>(
     assert_equal!(*rt; (arena.len(), arena.room()), (2, 30));
     let mut entries = arena.iter();
     assert_equal!(*rt; (entries.len(), entries.next(), entries.len()), (2, Some((first, &7)), 1));
+    drop(arena);
 }
 
 #[test]
@@ -51,6 +52,7 @@ fn alloc_and_get(rt: HostRuntime) {
     }
     assert_equal!(rt; arena.get(100), Err(ArenaError::KeyOutOfBounds));
     assert_equal!(rt; (arena.len(), arena.has(100), arena.last()), (100, false, Some(&99)));
+    drop(arena);
 }
 
 // An arena of 0 to 9.
@@ -63,6 +65,7 @@ fn ten_defaults(rt: &impl Abort, alloc: Global) {
     let keys = ten.alloc_many(10).expect(rt, "");
     assert_equal!(*rt; (keys.start, keys.end, ten.len()), (0, 10, 10));
     assert_equal!(*rt; are_all(ten.items(), &0), true);
+    drop(ten);
 }
 
 fn a_pair(rt: &impl Abort, alloc: Global) {
@@ -71,6 +74,7 @@ fn a_pair(rt: &impl Abort, alloc: Global) {
     *one = -1;
     *eight = -8;
     assert_equal!(*rt; are(pair.items(), &[0, -1, 2, 3, 4, 5, 6, 7, -8, 9]), true);
+    drop(pair);
 }
 
 fn five_backward(rt: &impl Abort, alloc: Global) {
@@ -81,6 +85,7 @@ fn five_backward(rt: &impl Abort, alloc: Global) {
         assert_equal!(*rt; entries.next_back(), Some((key, &key)));
     }
     assert_equal!(*rt; (entries.next_back(), entries.next()), (None, None));
+    drop(five);
 }
 
 #[test]
@@ -102,6 +107,7 @@ fn written_by_calls(rt: &impl Abort, alloc: Global) {
     let refused = (arena.put(10, 7), arena.get_mut(10).err(), arena.swap(0, 10));
     assert_equal!(*rt; refused, (Err(error), Some(error), Err(error)));
     assert_equal!(*rt; are(arena.items(), &[90, 1, 2, 30, 40, 5, 6, 7, 8, 0]), true);
+    drop(arena);
 }
 
 fn written_by_a_loop(rt: &impl Abort, alloc: Global) {
@@ -110,6 +116,7 @@ fn written_by_a_loop(rt: &impl Abort, alloc: Global) {
         *item = item.wrapping_add(key);
     }
     assert_equal!(*rt; are(arena.items(), &[0, 2, 4, 6, 8, 10, 12, 14, 16, 18]), true);
+    drop(arena);
 }
 
 // By `get_mut`, by index, by `put` and by a loop.
@@ -122,8 +129,13 @@ fn items_are_written_under_their_keys(rt: HostRuntime) {
 #[test]
 fn equal_arenas(rt: HostRuntime) {
     let arena = numbered(rt.alloc(), 10).expect(&rt, "");
-    assert_equal!(rt; &arena, &numbered(rt.alloc(), 10).expect(&rt, ""));
-    assert!(rt; arena != numbered(rt.alloc(), 9).expect(&rt, ""));
+    let same = numbered(rt.alloc(), 10).expect(&rt, "");
+    let shorter = numbered(rt.alloc(), 9).expect(&rt, "");
+    assert_equal!(rt; &arena, &same);
+    assert!(rt; arena != shorter);
+    drop(arena);
+    drop(same);
+    drop(shorter);
 }
 
 #[test]
@@ -142,6 +154,7 @@ fn keys_and_values_of_an_arena(rt: HostRuntime) {
     for item in values {
         assert_equal!(rt; *item, 7);
     }
+    drop(arena);
 }
 
 // The numbers of a range of keys.
@@ -164,6 +177,7 @@ fn while_there_are_four(rt: &impl Abort, alloc: Global) {
     assert_equal!(*rt; (last.into_usize(), numbers(four.alloc_many(0))), (3, refused));
     assert_equal!(*rt; (four.alloc(9).err(), four.next_key().err()), (refused.err(), refused.err()));
     assert_equal!(*rt; are(four.items(), &[0, 0, 0, 9]), true);
+    drop(four);
 }
 
 fn while_there_is_one(rt: &impl Abort, alloc: Global) {
@@ -171,6 +185,7 @@ fn while_there_is_one(rt: &impl Abort, alloc: Global) {
     let mut one: StableArena<FewKeys<1>, i32> = StableArena::new(alloc);
     assert_equal!(*rt; numbers(one.alloc_many(0)), Ok((0, 0)));
     assert_equal!(*rt; (numbers(one.alloc_many(1)), one.len()), (refused, 0));
+    drop(one);
 }
 
 #[test]
@@ -188,6 +203,7 @@ fn four_of_four_keys_are_collected(rt: HostRuntime) {
     for (number, (key, item)) in four.iter().enumerate() {
         assert_equal!(rt; (key.into_usize(), *item), (number, number));
     }
+    drop(four);
     let five = StableArena::<FewKeys<4>, usize>::from_iter(rt.alloc(), 0..5);
     assert_equal!(rt; five.err(), Some(ArenaError::NotEnoughKeys));
 }
@@ -208,6 +224,7 @@ fn too_many_items_ask_for_nothing(rt: HostRuntime) {
             }
             assert_equal!(rt; values.next(), None);
             assert_equal!(rt; (log.requests(), arena.items().open_buckets() as u64), (made, made));
+            drop(arena);
         }
     }
 }
@@ -229,8 +246,10 @@ fn debug_texts_of_arenas(rt: HostRuntime) {
     assert!(rt; many.as_str().ends_with(", 4999: false}"));
     // The numbers of its keys, and not what these hold.
     let made = StableArena::<NonZero<u32>, u8>::from_iter(rt.alloc(), 7..9);
-    let keyed = text(alloc, &made.expect(&rt, "")).expect(&rt, "");
-    assert_equal!(rt; keyed.as_str(), "{0: 7, 1: 8}");
+    let keyed = made.expect(&rt, "");
+    assert_equal!(rt; text(alloc, &keyed).expect(&rt, "").as_str(), "{0: 7, 1: 8}");
+    drop(keyed);
+    drop(arena);
 }
 
 fn texts_of_commands(rt: &impl Abort, alloc: Global) {

@@ -33,6 +33,7 @@ fn a_bucket_that_is_left_is_given_back(rt: HostRuntime) {
             let left = (first <= taken) as u64 + (second <= taken) as u64;
             assert_equal!(rt; (is_some, log.returned()), (true, left), "at {taken}");
         }
+        drop(items);
     }
 }
 
@@ -63,8 +64,13 @@ fn a_hundred_items_of_an_arena_are_cloned_and_dropped_once(rt: HostRuntime) {
     let (log, tally) = (Log::new(), Tally::new());
     let made = tallied_arena::<usize>(rt.alloc(), &log, &tally, 0..100);
     let mut arena = made.expect(&rt, "");
-    assert_equal!(rt; arena.clone().expect(&rt, "").len(), 100);
-    assert_equal!(rt; arena.clone_in(Observed::new(rt.alloc(), &log)).expect(&rt, "").len(), 100);
+    let copy = arena.clone().expect(&rt, "");
+    assert_equal!(rt; copy.len(), 100);
+    drop(copy);
+    let copy = arena.clone_in(Observed::new(rt.alloc(), &log));
+    let copy = copy.expect(&rt, "");
+    assert_equal!(rt; copy.len(), 100);
+    drop(copy);
     assert_equal!(rt; (tally.cloned(), tally.dropped(), log.requests()), (200, (200, 100), 9));
     tally.refuse_clone_of(50);
     let refused = arena.clone_in(Observed::new(rt.alloc(), &log)).err();
@@ -115,7 +121,8 @@ fn items_that_do_not_come_in_are_dropped(rt: HostRuntime) {
     let more = tallied_arena::<FewKeys<4>>(rt.alloc(), &log, &refused, 0..5);
     assert_equal!(rt; more.err(), Some(ArenaError::NotEnoughKeys));
     assert_equal!(rt; (refused.dropped().0, kept.dropped().0), (8, 0));
-    drop((vec, arena));
+    drop(vec);
+    drop(arena);
     assert_equal!(rt; (kept.dropped(), refused.dropped().0), ((5, 4), 8));
 }
 

@@ -25,6 +25,7 @@ fn ninety_six_items_fit(rt: HostRuntime) {
         assert_equal!(rt; copy.push(96), Ok(96));
         drop(vec);
         assert_equal!(rt; heap.used(), before);
+        drop(copy);
     }
 }
 
@@ -39,4 +40,6 @@ fn a_refused_call_keeps_no_block(rt: HostRuntime) {
     assert_equal!(rt; (keys.start, keys.end), (32, 96));
     let copy = arena.clone_in(rt.alloc()).expect(&rt, "");
     assert_equal!(rt; are_same(copy.items(), arena.items()), true);
+    drop(copy);
+    drop(arena);
 }

@@ -29,6 +29,7 @@ fn each_item_is_written_in_place(rt: HostRuntime) {
         }
         assert_equal!(rt; are_odd(&vec, len), true, "at {len}");
         assert_equal!(rt; (vec.open_buckets(), vec.slots()), (open_buckets, slots), "at {len}");
+        drop(vec);
     }
 }
 
@@ -48,6 +49,7 @@ fn vector_left_early(rt: &impl Abort, alloc: Global) {
     let is_written = are_ranges(&vec, &[seven, seven, seven, (3, 98), seven, seven]);
     assert_equal!(*rt; is_written, true);
     assert_equal!(*rt; (vec.push(5), vec.open_buckets()), (Ok(100), 3));
+    drop(vec);
 }
 
 fn arena_left_early(rt: &impl Abort, alloc: Global) {
@@ -62,7 +64,10 @@ fn arena_left_early(rt: &impl Abort, alloc: Global) {
     }
     // No other item was written.
     assert_equal!(*rt; (arena.put(0, 0), arena.put(299, 299)), (Ok(1000), Ok(2000)));
-    assert_equal!(*rt; &arena, &numbered(alloc, 300).expect(rt, ""));
+    let same = numbered(alloc, 300).expect(rt, "");
+    assert_equal!(*rt; &arena, &same);
+    drop(arena);
+    drop(same);
 }
 
 #[test]
@@ -94,6 +99,7 @@ fn both_ends_meet(rt: HostRuntime) {
     assert_equal!(rt; (items.next(), items.next_back(), items.len()), (None, None, 0));
     drop(items);
     assert_equal!(rt; are_ranges(&vec, &[(1000, 1114), (2114, 2225)]), true);
+    drop(vec);
 }
 
 // The length of a slice.
@@ -136,4 +142,5 @@ fn slices_are_written_from_both_ends(rt: HostRuntime) {
         assert_equal!(rt; items.next(), Some(&filled(index)), "at {index}");
     }
     assert_equal!(rt; items.next(), None);
+    drop(vec);
 }

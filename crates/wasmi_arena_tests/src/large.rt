@@ -51,7 +51,8 @@ fn many_defaults(rt: &impl Abort, alloc: Global) {
     let copy = arena.clone().expect(rt, "");
     assert_equal!(*rt; (copy == arena, are_all(arena.items(), &0)), (true, true));
     assert_equal!(*rt; (log.requests(), log.given()), (26, 26));
-    drop((arena, copy));
+    drop(arena);
+    drop(copy);
     assert_equal!(*rt; log.amiss(), 0);
 }
 
@@ -64,6 +65,7 @@ fn many_of_an_iterator(rt: &impl Abort, alloc: Global) {
     assert_equal!(*rt; (log.requests(), log.given()), (13, 13));
     drop(vec);
     assert_equal!(*rt; log.amiss(), 0);
+    drop(other);
 }
 
 // All that one call adds.
@@ -94,6 +96,7 @@ fn many_items_go_as_they_should(rt: HostRuntime) {
                     assert_equal!(rt; number_of(items.next().as_ref()), Some(number));
                 }
                 assert_equal!(rt; number_of(items.next_back().as_ref()), Some(131_040));
+                drop(items);
             }
         }
         assert_equal!(rt; (vec.len(), vec.open_buckets(), log.returned()), (0, 0, 13));
@@ -109,20 +112,16 @@ fn has_hundred<T: PartialEq>(vec: &StableVec<T, Observed<'_>>, item: &T) -> bool
 }
 
 // Whether a vector and an arena, and their clones, hold a hundred such items in three blocks each.
-fn holds<T: Copy + PartialEq + Drop>(
-    alloc: Global,
-    item: T,
-    size: u64,
-) -> Result<bool, ArenaError> {
+fn holds<T: Copy + PartialEq + Drop>(rt: &impl Abort, alloc: Global, item: T, size: u64) -> bool {
     let log = Log::new();
     let mut vec = StableVec::new(Observed::new(alloc, &log));
     let heap = Observed::new(alloc, &log);
     let mut arena: StableArena<usize, T, Observed<'_>> = StableArena::new(heap);
     for _ in 0..100 {
-        vec.push(item)?;
-        arena.alloc(item)?;
+        vec.push(item).expect(rt, "");
+        arena.alloc(item).expect(rt, "");
     }
-    let (second, other) = (vec.clone()?, arena.clone()?);
+    let (second, other) = (vec.clone().expect(rt, ""), arena.clone().expect(rt, ""));
     let are_there = [
         has_hundred(&vec, &item),
         has_hundred(&second, &item),
@@ -131,15 +130,20 @@ fn holds<T: Copy + PartialEq + Drop>(
     ];
     let blocks = if size == 0 { 0 } else { 12 };
     let asked = (log.requests(), log.bytes());
-    Ok((are_there, asked) == ([true; 4], (blocks, size.wrapping_mul(896))))
+    drop(vec);
+    drop(second);
+    drop(arena);
+    drop(other);
+    (are_there, asked) == ([true; 4], (blocks, size.wrapping_mul(896)))
 }
 
 // Of no byte, one, 16 that are aligned to 16, and 4,096.
 #[test]
 fn items_of_many_sizes(rt: HostRuntime) {
-    assert_equal!(rt; (holds(rt.alloc(), (), 0), holds(rt.alloc(), 7u8, 1)), (Ok(true), Ok(true)));
-    assert_equal!(rt; holds(rt.alloc(), 7u128, 16), Ok(true));
-    assert_equal!(rt; holds(rt.alloc(), [7u64; 512], 4_096), Ok(true));
+    assert_equal!(rt; holds(&rt, rt.alloc(), (), 0), true);
+    assert_equal!(rt; holds(&rt, rt.alloc(), 7u8, 1), true);
+    assert_equal!(rt; holds(&rt, rt.alloc(), 7u128, 16), true);
+    assert_equal!(rt; holds(&rt, rt.alloc(), [7u64; 512], 4_096), true);
 }
 
 #[test]
@@ -153,7 +157,10 @@ fn a_run_of_many_commands(rt: HostRuntime) {
     assert_equal!(rt; (replies.len(), arena.len()), (150_000, 150_000));
     let are_keys = are_keys_but(replies.as_slice(), &[], ArenaError::NotEnoughKeys);
     assert_equal!(rt; are_keys, true);
-    assert_equal!(rt; &arena, &numbered(rt.alloc(), 150_000).expect(&rt, ""));
+    let same = numbered(rt.alloc(), 150_000).expect(&rt, "");
+    assert_equal!(rt; &arena, &same);
+    drop(arena);
+    drop(same);
 }
 
 fn calls_of_a_vector(rt: &impl Abort, alloc: Global) {
@@ -172,6 +179,7 @@ fn calls_of_a_vector(rt: &impl Abort, alloc: Global) {
         assert_equal!(*rt; (written, vec.iter_mut().next_back().is_some()), ((true, Ok(())), true));
         assert_equal!(*rt; (vec.pop().is_some(), vec.push(7)), (true, Ok(131_071)));
     }
+    drop(vec);
 }
 
 fn calls_of_an_arena(rt: &impl Abort, alloc: Global) {
@@ -189,6 +197,7 @@ fn calls_of_an_arena(rt: &impl Abort, alloc: Global) {
         assert_equal!(*rt; (ends, arena.put(index, 7).is_ok()), ((true, true), true));
         assert_equal!(*rt; arena.alloc(7), Ok(131_072 + turn));
     }
+    drop(arena);
 }
 
 #[test]
@@ -206,6 +215,7 @@ fn a_block_of_two_gigabytes_is_asked_for(rt: HostRuntime) {
     log.refuse_once(24);
     assert_equal!(rt; arena.alloc_many(268_435_425).err(), Some(ArenaError::OutOfSystemMemory));
     assert_equal!(rt; (log.requests(), arena.len()), (24, 0));
+    drop(arena);
 }
 
 #[test]
@@ -216,4 +226,5 @@ fn a_run_asks_for_its_replies_alone(rt: HostRuntime) {
         .collect(rt.alloc());
     let replies = run_arena(rt.alloc(), &mut arena, commands.expect(&rt, "")).expect(&rt, "");
     assert_equal!(rt; (replies.len(), replies.capacity()), (9, 9));
+    drop(arena);
 }

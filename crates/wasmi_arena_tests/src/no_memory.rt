@@ -11,13 +11,16 @@ fn no_vector(rt: &impl Abort, alloc: Global) {
     let handle = Observed::new(alloc, &log);
     let none = StableVec::<u64, Observed<'_>>::from_iter(handle, 0..0);
     let mut vec = none.expect(rt, "");
-    let copies = (
-        vec.clone().expect(rt, ""),
-        vec.clone_in(alloc).expect(rt, ""),
-    );
-    assert_equal!(*rt; (copies.0.len(), copies.1.len(), vec.extend(0..0)), (0, 0, Ok(())));
+    let copy = vec.clone().expect(rt, "");
+    let other = vec.clone_in(alloc).expect(rt, "");
+    assert_equal!(*rt; (copy.len(), other.len(), vec.extend(0..0)), (0, 0, Ok(())));
+    drop(copy);
+    drop(other);
     vec.clear();
-    assert_equal!(*rt; (vec.pop(), vec.into_iter().len()), (None, 0));
+    assert_equal!(*rt; vec.pop(), None);
+    let items = vec.into_iter();
+    assert_equal!(*rt; items.len(), 0);
+    drop(items);
     assert_equal!(*rt; log.requests(), 0);
 }
 
@@ -27,14 +30,16 @@ fn no_arena(rt: &impl Abort, alloc: Global) {
     let handle = Observed::new(alloc, &log);
     let none = StableArena::<usize, u64, Observed<'_>>::from_iter(handle, 0..0);
     let mut arena = none.expect(rt, "");
-    let copies = (
-        arena.clone().expect(rt, ""),
-        arena.clone_in(alloc).expect(rt, ""),
-    );
-    assert_equal!(*rt; (copies.0.len(), copies.1.len()), (0, 0));
+    let copy = arena.clone().expect(rt, "");
+    let other = arena.clone_in(alloc).expect(rt, "");
+    assert_equal!(*rt; (copy.len(), other.len()), (0, 0));
+    drop(copy);
+    drop(other);
     assert_equal!(*rt; arena.alloc_many(0).expect(rt, "").end, 0);
     arena.clear();
-    assert_equal!(*rt; (arena.into_iter().len(), log.requests()), (0, 0));
+    let entries = arena.into_iter();
+    assert_equal!(*rt; (entries.len(), log.requests()), (0, 0));
+    drop(entries);
 }
 
 #[test]
@@ -59,7 +64,9 @@ fn a_vector_with_room_needs_no_memory(rt: HostRuntime) {
     assert_equal!(rt; (vec == vec, vec.cmp(&vec).is_eq()), (true, true));
     assert_equal!(rt; (vec.first(), vec.get(95), vec.last()), (Some(&7), Some(&0), Some(&0)));
     assert_equal!(rt; log.requests(), 2);
-    assert_equal!(rt; (vec.into_iter().next_back(), log.requests()), (Some(0), 2));
+    let mut items = vec.into_iter();
+    assert_equal!(rt; (items.next_back(), log.requests()), (Some(0), 2));
+    drop(items);
 }
 
 #[test]
@@ -83,6 +90,7 @@ fn an_arena_with_room_needs_no_memory(rt: HostRuntime) {
     assert_equal!(rt; arena.alloc_many(1).err(), Some(ArenaError::OutOfSystemMemory));
     arena.clear();
     assert_equal!(rt; (arena.len(), log.requests(), log.returned()), (0, 2, 1));
+    drop(arena);
 }
 
 fn vector_without_size(rt: &impl Abort, alloc: Global) {
@@ -99,7 +107,8 @@ fn vector_without_size(rt: &impl Abort, alloc: Global) {
     let longer = made.expect(rt, "");
     assert_equal!(*rt; (vec == longer, vec < longer), (false, true));
     assert_equal!(*rt; (vec.extend([()]), vec.iter_mut().count()), (Ok(()), 41));
-    assert_equal!(*rt; &vec.clone().expect(rt, ""), &longer);
+    let copy = vec.clone().expect(rt, "");
+    assert_equal!(*rt; &copy, &longer);
     let mut parts = vec.slices();
     let lens = (
         parts.next().expect(rt, "").len(),
@@ -107,6 +116,9 @@ fn vector_without_size(rt: &impl Abort, alloc: Global) {
     );
     assert_equal!(*rt; (lens, parts.next().is_none()), ((32, 9), true));
     assert_equal!(*rt; log.requests(), 0);
+    drop(vec);
+    drop(copy);
+    drop(longer);
 }
 
 fn arena_without_size(rt: &impl Abort, alloc: Global) {
@@ -115,7 +127,10 @@ fn arena_without_size(rt: &impl Abort, alloc: Global) {
     let handle = Observed::new(alloc, &log);
     let mut arena: StableArena<usize, (), Observed<'_>> = StableArena::new(handle);
     assert_equal!(*rt; (arena.alloc(()), arena.alloc_many(40).expect(rt, "").end), (Ok(0), 41));
-    assert_equal!(*rt; (arena.clone().expect(rt, "").len(), log.requests()), (41, 0));
+    let copy = arena.clone().expect(rt, "");
+    assert_equal!(*rt; (copy.len(), log.requests()), (41, 0));
+    drop(arena);
+    drop(copy);
 }
 
 #[test]

@@ -41,6 +41,8 @@ fn two_items_are_written_and_no_other(rt: HostRuntime) {
         assert_equal!(rt; (vec.swap(first, second), arena.swap(second, first)), (Ok(()), Ok(())));
         assert_equal!(rt; (vec.get(first), vec.get(second)), (Some(&999), Some(&111)));
         assert_equal!(rt; (arena.get(first), arena.get(second)), (Ok(&999), Ok(&111)));
+        drop(vec);
+        drop(arena);
     }
 }
 
@@ -76,6 +78,10 @@ fn equal_indices_are_refused_before_those_out_of_bounds(rt: HostRuntime) {
         assert_equal!(rt; errors(&mut vec, &mut arena, indices), [Some(error); 4]);
         assert_equal!(rt; (&vec, &arena), (&same_vec, &same_arena));
     }
+    drop(vec);
+    drop(arena);
+    drop(same_vec);
+    drop(same_arena);
 }
 
 // In each bucket, and at its ends.
@@ -94,4 +100,8 @@ fn a_refused_pair_changes_no_item(rt: HostRuntime) {
             assert_equal!(rt; (&vec, &arena), (&same_vec, &same_arena));
         }
     }
+    drop(vec);
+    drop(arena);
+    drop(same_vec);
+    drop(same_arena);
 }

@@ -54,7 +54,9 @@ fn call_vector<'a>(
         Call::CloneIn => vec.clone_in(alloc)?,
         Call::Collect => StableVec::from_iter(alloc, 0..300)?,
     };
-    Ok(len_of(&made, 300))
+    let len = len_of(&made, 300);
+    drop(made);
+    Ok(len)
 }
 
 fn call_arena<'a>(
@@ -75,7 +77,9 @@ fn call_arena<'a>(
         Call::CloneIn => arena.clone_in(alloc)?,
         Call::Collect => StableArena::from_iter(alloc, 0..300)?,
     };
-    Ok(len_of(made.items(), 300))
+    let len = len_of(made.items(), 300);
+    drop(made);
+    Ok(len)
 }
 
 // Each request of each call refused in turn. What a refused call keeps is told of the call and the request.
@@ -288,10 +292,16 @@ fn a_bucket_takes_one_clone_of_the_allocator(rt: HostRuntime) {
         assert_equal!(rt; vec.push(7u8), Ok(number));
         assert_equal!(rt; log.clones(), vec.open_buckets() as u64, "of {number}");
     }
-    assert_equal!(rt; vec.clone_in(Observed::new(rt.alloc(), &other)).expect(&rt, "").len(), 97);
-    assert_equal!(rt; vec.clone().expect(&rt, "").len(), 97);
+    let copy = vec.clone().expect(&rt, "");
+    let apart = vec.clone_in(Observed::new(rt.alloc(), &other));
+    let apart = apart.expect(&rt, "");
+    assert_equal!(rt; (apart.len(), copy.len()), (97, 97));
     assert_equal!(rt; (other.clones(), log.clones()), (3, 7));
     let handle = Observed::new(rt.alloc(), &other);
     let mut arena: StableArena<usize, u8, Observed<'_>> = StableArena::new(handle);
     assert_equal!(rt; (arena.alloc_many(97).expect(&rt, "").end, other.clones()), (97, 6));
+    drop(vec);
+    drop(copy);
+    drop(apart);
+    drop(arena);
 }

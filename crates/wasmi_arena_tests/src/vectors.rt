@@ -43,6 +43,7 @@ fn buckets_are_the_fewest(rt: HostRuntime) {
         let vec = counted(rt.alloc(), len).expect(&rt, "");
         let taken = vec.room() + vec.len();
         assert_equal!(rt; (vec.open_buckets(), vec.slots(), taken), (open, slots, slots), "at {len}");
+        drop(vec);
     }
 }
 
@@ -61,6 +62,7 @@ fn two_hundred_pushes(rt: HostRuntime) {
     for i in 0..200usize {
         assert_equal!(rt; vec.get(i), Some(&i));
     }
+    drop(vec);
 }
 
 #[test]
@@ -74,6 +76,7 @@ fn an_empty_vector_has_no_item(rt: HostRuntime) {
         vec.iter().next_back().is_none(),
     );
     assert_equal!(rt; walks, (true, true));
+    drop(vec);
 }
 
 fn ends_meet(rt: &impl Abort, alloc: Global) {
@@ -85,6 +88,7 @@ fn ends_meet(rt: &impl Abort, alloc: Global) {
         assert_equal!(*rt; (items.next(), items.next_back()), (Some(&front), Some(&(99 - front))));
     }
     assert_equal!(*rt; (items.len(), items.next(), items.next_back()), (0, None, None));
+    drop(vec);
 }
 
 fn ends_in_two_buckets(rt: &impl Abort, alloc: Global) {
@@ -96,6 +100,7 @@ fn ends_in_two_buckets(rt: &impl Abort, alloc: Global) {
     }
     assert_equal!(*rt; (ends.next_back(), ends.next()), (Some(&96), Some(&32)));
     assert_equal!(*rt; (ends.next_back(), ends.len()), (Some(&95), 62));
+    drop(three);
 }
 
 #[test]
@@ -120,6 +125,8 @@ fn both_ends_give_items_away(rt: HostRuntime) {
         assert_equal!(rt; (items.len(), entries.len()), (left as usize, left as usize));
         assert_equal!(rt; (items.next_back().is_some(), items.next()), (left, None), "of {len}");
         assert_equal!(rt; (entries.next_back().is_some(), entries.next()), (left, None), "of {len}");
+        drop(items);
+        drop(entries);
     }
 }
 
@@ -152,6 +159,7 @@ fn doubled_by_index(rt: &impl Abort, alloc: Global) {
         *item = item.wrapping_mul(2);
     }
     assert_equal!(*rt; (are_doubled(&vec), vec.get_mut(100)), (true, None));
+    drop(vec);
 }
 
 fn doubled_by_a_loop(rt: &impl Abort, alloc: Global) {
@@ -160,6 +168,7 @@ fn doubled_by_a_loop(rt: &impl Abort, alloc: Global) {
         *item = item.wrapping_mul(2);
     }
     assert_equal!(*rt; are_doubled_backward(&vec), true);
+    drop(vec);
 }
 
 // What is written by `get_mut`, and by a loop, is read by a walk and backward.
@@ -179,6 +188,7 @@ fn fifty_items_extended_by_fifty(rt: HostRuntime) {
         next = item.wrapping_add(1);
     }
     assert_equal!(rt; (next, vec.len(), vec.open_buckets()), (100, 100, 3));
+    drop(vec);
 }
 
 fn hash_of(vec: &StableVec<u32>) -> u64 {
@@ -192,9 +202,13 @@ fn a_clone_equals_its_source(rt: HostRuntime) {
     let vec = counted(rt.alloc(), 100).expect(&rt, "");
     let mut copy = vec.clone().expect(&rt, "");
     assert_equal!(rt; (&copy, hash_of(&copy)), (&vec, hash_of(&vec)));
-    assert!(rt; vec != counted(rt.alloc(), 99).expect(&rt, ""));
+    let shorter = counted(rt.alloc(), 99).expect(&rt, "");
+    assert!(rt; vec != shorter);
     assert_equal!(rt; copy.push(100), Ok(100));
     assert_equal!(rt; (copy == vec, hash_of(&copy) == hash_of(&vec)), (false, false));
+    drop(vec);
+    drop(copy);
+    drop(shorter);
 }
 
 #[test]
@@ -204,8 +218,13 @@ fn ord_is_lexicographic(rt: HostRuntime) {
     let c = StableVec::from_iter(rt.alloc(), [1, 2]).expect(&rt, "");
     assert_equal!(rt; (a < b, c < a), (true, true));
     assert_equal!(rt; (a.cmp(&b), c.cmp(&a)), (Ordering::Less, Ordering::Less));
-    assert_equal!(rt; a.cmp(&a.clone().expect(&rt, "")), Ordering::Equal);
+    let same = a.clone().expect(&rt, "");
+    assert_equal!(rt; a.cmp(&same), Ordering::Equal);
     assert_equal!(rt; format!(in rt.alloc(); "{a:?}").expect(&rt, "").as_str(), "[1, 2, 3]");
+    drop(a);
+    drop(b);
+    drop(c);
+    drop(same);
 }
 
 // A vector of the numbers below `len`, and one more.
@@ -229,6 +248,8 @@ fn lists_of_two_lengths_compare_no_item(rt: HostRuntime) {
     let vec = noted(rt.alloc(), &notes, 95, 95).expect(&rt, "");
     let longer = noted(rt.alloc(), &notes, 96, 96).expect(&rt, "");
     assert_equal!(rt; (vec == longer, notes.compared()), (false, 0));
+    drop(vec);
+    drop(longer);
 }
 
 // Of 97 items, of which the last ones differ.
@@ -240,6 +261,8 @@ fn each_pair_is_compared_once(rt: HostRuntime) {
     assert_equal!(rt; (one == other, notes.compared()), (false, 97));
     assert_equal!(rt; (one.cmp(&other), notes.compared()), (Ordering::Greater, 97));
     assert_equal!(rt; (one.partial_cmp(&other), notes.compared()), (Some(Ordering::Greater), 97));
+    drop(one);
+    drop(other);
 }
 
 // Of eight buckets the same text as that of a `Vec`.
@@ -256,4 +279,7 @@ fn debug_texts_of_vectors(rt: HostRuntime) {
     let none: StableVec<u32> = StableVec::new(rt.alloc());
     let text = format!(in rt.alloc(); "{two:?} {two:#?} {none:?}").expect(&rt, "");
     assert_equal!(rt; text.as_str(), "[0, 1] [\n    0,\n    1,\n] []");
+    drop(vec);
+    drop(two);
+    drop(none);
 }
