@@ -27,6 +27,7 @@ pub fn answer<A: Allocator + Copy>(alloc: A, text: &str) -> Result<String<A>, Ar
     let answered = reply_all(&mut texts, &mut store, &mut replies, text);
     // proof: dropped before a branch.
     drop(texts);
+    drop(store);
     answered?;
     Ok(replies)
 }
