@@ -15,7 +15,7 @@ module _ {T : Type 0} where
   AreSome-last (first ∷ parts) part some = let rest = AreSome-last parts part some.1 in (rest.0, (some.0, rest.1))
 
   -- the last part is entered
-  module _ (front back : List T) (parts rest : List (List T)) (part : List T) (between : ℕ) (it : HasAhead front parts back between) (last : parts ≡ rest ++ part ∷ []) where
+  module _ {front back : List T} {parts : List (List T)} (rest : List (List T)) (part : List T) {between : ℕ} (it : HasAhead front parts back between) (last : parts ≡ rest ++ part ∷ []) where
     last_some : (0 < length part) × AreSome rest
     last_some = AreSome-last rest part (rw last at it.filled)
 

@@ -5,7 +5,7 @@ use Rattle.std.proofs.Math.ListN.{drop_of_length-le}
 use Rattle.std.proofs.Math.Seq.{drop-nil, take-set-lt}
 use Rattle.std.proofs.lemmas.Nat.{pow_pos}
 use Rattle.std.proofs.lemmas.List.{nil_from_length, get_or_default, take_all, take-append-drop, take-append-le, drop-append-le, drop-drop, drop-take, take-take, length-take, length-set, take-set-le, drop-set-lt, drop-set-add, get_or-set_same, set-set}
-use Rattle.std.specs.Iterator.{YieldsLastRef}
+use Rattle.std.specs.Iterator.{YieldsFirstRef, YieldsLastRef}
 use Rattle.std.specs.Borrow.{Bor}
 use Rattle.std.specs.Slice.Iter.{iter_rest, iter_steps, iter_steps_back}
 use Rattle.std.specs.declared.slice.Iter.{Iter}
@@ -208,7 +208,7 @@ module _ {T : Type 0} where
   filled_last (Some first ∷ buckets) bucket filled = let rest = filled_last buckets bucket filled.1 in (rest.0, (filled.0, rest.1))
 
   -- what is ahead of an iterator, where nothing is left of the last bucket and the one before it is entered
-  module _ (front back : List T) (buckets rest : List (Option (Bucket T))) (found : Option (Bucket T)) (bucket : Bucket T) (between : ℕ) (it : IsAhead front buckets back between) (last : buckets ≡ rest ++ found ∷ []) (is : Some bucket ≡ found) where
+  module _ {front back : List T} {buckets : List (Option (Bucket T))} (rest : List (Option (Bucket T))) {found : Option (Bucket T)} {bucket : Bucket T} {between : ℕ} (it : IsAhead front buckets back between) (last : buckets ≡ rest ++ found ∷ []) (is : Some bucket ≡ found) where
     opened : buckets ≡ rest ++ Some bucket ∷ []
     opened = last ∙ ap (λ (b : Option (Bucket T)). rest ++ b ∷ []) (sym is)
 
@@ -228,16 +228,12 @@ module _ {T : Type 0} where
         ∙ (sym (append_assoc front (items_of rest) (left ++ x ∷ [])) ∙ sym (append_assoc (front ++ items_of rest) left (x ∷ [])))))
 
     -- the bucket is entered and called from the back
-    module _ (s t : Iter T) (r : Option (Bor T)) (whole : iter_rest s ≡ bucket.items) (steps : iter_steps_back s r t) where
-      yields_by : (r : Option (Bor T)) → iter_steps_back s r t → length back ≡ 0 → YieldsLastRef (λ (xs : List T). xs) (front ++ items_of buckets ++ back) r (front ++ items_of rest ++ iter_rest t)
-      yields_by None ended none = absurd (let some = last_filled.0 in let short = ended.0 in omega (arith, ap length whole))
-      yields_by (Some x) at none = last_items none (iter_rest t) x.now (sym whole ∙ at)
-
-      pub last_yields : length back ≡ 0 → YieldsLastRef (λ (xs : List T). xs) (front ++ items_of buckets ++ back) r (front ++ items_of rest ++ iter_rest t)
-      last_yields none = yields_by r steps none
+    pub last_yields : (s t : Iter T) (r : Option (Bor T)) → iter_rest s ≡ bucket.items → iter_steps_back s r t → length back ≡ 0 → YieldsLastRef (λ (xs : List T). xs) (front ++ items_of buckets ++ back) r (front ++ items_of rest ++ iter_rest t)
+    last_yields s t None whole ended none = absurd (let some = last_filled.0 in let short = ended.0 in omega (arith, ap length whole))
+    last_yields s t (Some x) whole at none = last_items none (iter_rest t) x.now (sym whole ∙ at)
 
   -- what is ahead of an iterator, where nothing is left of the first bucket and the next one is entered
-  module _ (front back : List T) (buckets rest : List (Option (Bucket T))) (found : Option (Bucket T)) (bucket : Bucket T) (between : ℕ) (it : IsAhead front buckets back between) (first : buckets ≡ found ∷ rest) (is : Some bucket ≡ found) where
+  module _ {front back : List T} {buckets rest : List (Option (Bucket T))} {found : Option (Bucket T)} {bucket : Bucket T} {between : ℕ} (it : IsAhead front buckets back between) (first : buckets ≡ found ∷ rest) (is : Some bucket ≡ found) where
     entered : buckets ≡ Some bucket ∷ rest
     entered = first ∙ ap (λ (b : Option (Bucket T)). b ∷ rest) (sym is)
 
@@ -252,6 +248,11 @@ module _ {T : Type 0} where
 
     pub first_items : length front ≡ 0 → (left : List T) (x : T) → bucket.items ≡ x ∷ left → front ++ items_of buckets ++ back ≡ x ∷ (left ++ items_of rest ++ back)
     first_items none left x are = rw (nil_from_length front none) (ap (λ (xs : List T). xs ++ back) (ap items_of entered ∙ ap (λ (xs : List T). xs ++ items_of rest) are))
+
+    -- the bucket is entered and called from the front
+    pub first_yields : (s t : Iter T) (r : Option (Bor T)) → iter_rest s ≡ bucket.items → iter_steps s r t → length front ≡ 0 → YieldsFirstRef (λ (xs : List T). xs) (front ++ items_of buckets ++ back) r (iter_rest t ++ items_of rest ++ back)
+    first_yields s t None whole ended none = absurd (let some = first_filled.0 in let short = ended.0 in omega (arith, ap length whole))
+    first_yields s t (Some x) whole at none = first_items none (iter_rest t) x.now (sym whole ∙ at)
 
   -- what is ahead of an iterator with fewer items left at its ends
   pub ahead_fewer : {front back first last : List T} {buckets : List (Option (Bucket T))} {between : ℕ} → IsAhead front buckets back between → length first ≤ length front → length last ≤ length back → IsAhead first buckets last between

@@ -30,29 +30,29 @@ module _ {T : Type 0} where
     module _ (first : buckets ≡ found ∷ rest) where
       pub first_taken : (left : List T) (r : Option T) → YieldsFirst all_left items r left → front ≡ [] → YieldsFirst all_left (front ++ items_of buckets ++ back) r (left ++ items_of rest ++ back)
       first_taken left None ended none =
-          let some = (first_filled front back buckets rest found bucket between it first is).0 in
+          let some = (first_filled it first is).0 in
           absurd (omega (arith, ap length whole, ap length ended.0))
-      first_taken left (Some x) at none = first_items front back buckets rest found bucket between it first is (ap length none) left x (sym whole ∙ at)
+      first_taken left (Some x) at none = first_items it first is (ap length none) left x (sym whole ∙ at)
 
       pub first_taken_ahead : {left : List T} (r : Option T) → YieldsFirst all_left items r left → (count : ℕ) → count ≡ length items → IsAhead left rest back (between - count)
-      first_taken_ahead {left} r step count counted = first_ahead front back buckets rest found bucket between it first is left count (counted ∙ ap length whole) (omega (arith, fewer_first items left r step))
+      first_taken_ahead {left} r step count counted = first_ahead it first is left count (counted ∙ ap length whole) (omega (arith, fewer_first items left r step))
 
       pub first_taken_counted : length items ≤ between
-      first_taken_counted = let counted = first_counted front back buckets rest found bucket between it first is in omega (arith, ap length whole)
+      first_taken_counted = let counted = first_counted it first is in omega (arith, ap length whole)
 
     -- the last bucket is entered
     module _ (last : buckets ≡ rest ++ found ∷ []) where
       pub last_taken : (left : List T) (r : Option T) → YieldsLast all_left items r left → back ≡ [] → YieldsLast all_left (front ++ items_of buckets ++ back) r (front ++ items_of rest ++ left)
       last_taken left None ended none =
-          let some = (last_filled front back buckets rest found bucket between it last is).0 in
+          let some = (last_filled rest it last is).0 in
           absurd (omega (arith, ap length whole, ap length ended.0))
-      last_taken left (Some x) at none = last_items front back buckets rest found bucket between it last is (ap length none) left x (sym whole ∙ at)
+      last_taken left (Some x) at none = last_items rest it last is (ap length none) left x (sym whole ∙ at)
 
       pub last_taken_counted : length items ≤ between
-      last_taken_counted = let counted = last_counted front back buckets rest found bucket between it last is in omega (arith, ap length whole)
+      last_taken_counted = let counted = last_counted rest it last is in omega (arith, ap length whole)
 
       pub last_taken_ahead : {left : List T} (r : Option T) → YieldsLast all_left items r left → (count : ℕ) → count ≡ length items → IsAhead front rest left (between - count)
-      last_taken_ahead {left} r step count counted = last_ahead front back buckets rest found bucket between it last is left count (counted ∙ ap length whole) (omega (arith, fewer_last items left r step))
+      last_taken_ahead {left} r step count counted = last_ahead rest it last is left count (counted ∙ ap length whole) (omega (arith, fewer_last items left r step))
 
   -- no bucket is left, and the other end is called
   module _ {front back kept : List T} (left : List T) {buckets : List (Option (Bucket T))} (rest : List (Option (Bucket T))) {between : ℕ} (it : IsAhead front buckets back between) (same : rest ≡ buckets) where

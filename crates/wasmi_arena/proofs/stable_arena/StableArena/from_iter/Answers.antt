@@ -1,16 +1,15 @@
-use Rattle.std.proofs.Common.{arith, length, inl, inr}
+use Rattle.std.proofs.Common.{length, inl, inr}
 use Rattle.std.proofs.lemmas.Bool.{cases_lt, false≢true}
-use Rattle.std.proofs.lemmas.Result.{err_from_is_err_and}
 use Rattle.wasmi_arena.specs.Arena.{stable_limit}
 use Rattle.wasmi_arena.proofs.Growth.{refuses_one_more}
 use Rattle.wasmi_arena.proofs.Yielded.{taken_up_to, taken_more, taken_last}
-use Rattle.wasmi_arena.proofs.Results.{same_error}
+use Rattle.wasmi_arena.proofs.Results.{err_returned, same_error}
 use Rattle.wasmi_arena.proofs.stable_arena.StableArena.from_iter.Goals as goal
 
 pub returns-in_err-alloc-clause-err : goal.returns-in_err-alloc-clause-err
 returns-in_err-alloc-clause-err g c =
-    let failed = err_from_is_err_and c.from_residual.result c.from_residual.ensures.1 in let refused = c.in_err-alloc.ensures in
-    rw (failed.1, failed.2) (
+    let refused = c.in_err-alloc.ensures in
+    rw (err_returned _ c.from_residual.ensures.1) (
       c.loop-item.arena,
       (
         taken_up_to g.U.IntoIterator.into_iter_gives g.U.IntoIter.Iterator.next_gives g.U.IntoIter.Iterator.can_next g.U.IntoIter.Iterator.remaining c.loop-item.invariant c.in-Some.ensures.steps,
@@ -20,10 +19,9 @@ returns-in_err-alloc-clause-err g c =
 
 pub returns-in_err-alloc-clause-without_size : goal.returns-in_err-alloc-clause-without_size
 returns-in_err-alloc-clause-without_size g c = λ none infallible.
-    let failed = err_from_is_err_and c.from_residual.result c.from_residual.ensures.1 in
     elim (cases_lt (length c.loop-item.arena) (stable_limit g.Key.ArenaKey.keys)) [
       | inl below ↦ absurd (false≢true (c.in_err-alloc.ensures.without_size below none infallible))
-      | inr above ↦ rw (failed.1, failed.2) (same_error (c.in_err-alloc.ensures.no_key.1 above))
+      | inr above ↦ rw (err_returned _ c.from_residual.ensures.1) (same_error (c.in_err-alloc.ensures.no_key.1 above))
     ]
 
 pub loop-item-preserved : goal.loop-item-preserved
@@ -35,6 +33,3 @@ loop-item-preserved g c =
 pub returns-in-None-clause-ok : goal.returns-in-None-clause-ok
 returns-in-None-clause-ok g c =
     taken_last g.U.IntoIterator.into_iter_gives g.U.IntoIter.Iterator.next_gives g.U.IntoIter.Iterator.can_next g.U.IntoIter.Iterator.remaining c.loop-item.invariant c.in-Some.ensures.steps c.in_ok-alloc.ensures.ok c.in-None.ensures.items
-
-pub returns : goal.returns
-returns g c = grind arith

@@ -1,4 +1,4 @@
-use Rattle.std.proofs.Common.{arith, refl}
+use Rattle.std.proofs.Common.{refl}
 use Rattle.std.proofs.Math.Nat.{not-le_of_lt}
 use Rattle.wasmi_arena.proofs.stable_arena.StableArena.get_mut.Goals as goal
 
@@ -12,6 +12,3 @@ returns-then-index-len g c = (
     errors = tt;
   },
 )
-
-pub returns-else-index-len : goal.returns-else-index-len
-returns-else-index-len g c = grind arith

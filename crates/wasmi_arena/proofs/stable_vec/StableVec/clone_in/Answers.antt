@@ -1,10 +1,10 @@
 use Rattle.std.proofs.Common.{ap, ◌∙◌, arith, length}
 use Rattle.std.proofs.lemmas.Bool.{false≢true}
-use Rattle.std.proofs.lemmas.Result.{err_from_is_err_and}
 use Rattle.wasmi_arena.specs.Bucket.{Bucket}
 use Rattle.wasmi_arena.specs.Geometry.{size}
 use Rattle.wasmi_arena.proofs.Cloned.{cloned_none, cloned_next, cloned_all, part_some, part_bucket, part_size, part_fits, part_appended, part_all}
 use Rattle.wasmi_arena.proofs.Sizes.{array_small}
+use Rattle.wasmi_arena.proofs.Results.{err_returned}
 use Rattle.wasmi_arena.proofs.stable_vec.StableVec.clone_in.Goals as goal
 
 pub loop-part-init : goal.loop-part-init
@@ -47,21 +47,19 @@ pub array_drop-made-inside-requires-in_err-push_clones : goal.array_drop-made-in
 array_drop-made-inside-requires-in_err-push_clones g c = array_small g.row.T g.row.B g.B.Allocator assumption
 
 pub returns-in_err-clone-clause-items : goal.returns-in_err-clone-clause-items
-returns-in_err-clone-clause-items g c = let failed = err_from_is_err_and c.from_residual.result c.from_residual.ensures.1 in rw failed.1 tt
+returns-in_err-clone-clause-items g c = rw (err_returned _ c.from_residual.ensures.1) tt
 
 pub returns-in_err-clone-clause-empty : goal.returns-in_err-clone-clause-empty
 returns-in_err-clone-clause-empty g c = λ none. absurd (part_some c.loop-part.invariant c.in-Some.ensures.steps none)
 
 pub returns-in_err-next-clause-items : goal.returns-in_err-next-clause-items
-returns-in_err-next-clause-items g c =
-    let failed = err_from_is_err_and c.from_residual-in_err-next.result c.from_residual-in_err-next.ensures.1 in rw failed.1 tt
+returns-in_err-next-clause-items g c = rw (err_returned _ c.from_residual-in_err-next.ensures.1) tt
 
 pub returns-in_err-next-clause-empty : goal.returns-in_err-next-clause-empty
 returns-in_err-next-clause-empty g c = λ none. absurd (part_some c.loop-part.invariant c.in-Some.ensures.steps none)
 
 pub returns-in_err-push_clones-clause-items : goal.returns-in_err-push_clones-clause-items
-returns-in_err-push_clones-clause-items g c =
-    let failed = err_from_is_err_and c.from_residual-in_err-push_clones.result c.from_residual-in_err-push_clones.ensures.1 in rw failed.1 tt
+returns-in_err-push_clones-clause-items g c = rw (err_returned _ c.from_residual-in_err-push_clones.ensures.1) tt
 
 pub returns-in_err-push_clones-clause-empty : goal.returns-in_err-push_clones-clause-empty
 returns-in_err-push_clones-clause-empty g c = λ none. absurd (part_some c.loop-part.invariant c.in-Some.ensures.steps none)

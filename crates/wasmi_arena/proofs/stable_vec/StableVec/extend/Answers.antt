@@ -1,19 +1,17 @@
 use Rattle.std.proofs.Common.{length, inl, inr}
 use Rattle.std.proofs.Math.Nat.{lt_of_le_of_lt}
 use Rattle.std.proofs.lemmas.Bool.{cases_lt, false≢true}
-use Rattle.std.proofs.lemmas.Result.{err_from_is_err_and}
 use Rattle.wasmi_arena.specs.Geometry.{max_len}
 use Rattle.wasmi_arena.proofs.Growth.{refuses_one_more}
 use Rattle.wasmi_arena.proofs.Yielded.{taken_none, taken_up_to, taken_more, taken_last, taken_all}
-use Rattle.wasmi_arena.proofs.Results.{same_error}
+use Rattle.wasmi_arena.proofs.Results.{err_returned, same_error}
 use Rattle.wasmi_arena.proofs.stable_vec.StableVec.extend.Goals as goal
 
 pub returns-in_err-push-clause-without_size : goal.returns-in_err-push-clause-without_size
 returns-in_err-push-clause-without_size g c = λ none infallible.
-    let failed = err_from_is_err_and c.from_residual.result c.from_residual.ensures.1 in
     elim (cases_lt (length c.loop-item.self) max_len) [
       | inl below ↦ absurd (false≢true (c.in_err-push.ensures.without_size below none infallible))
-      | inr full ↦ rw (failed.1, failed.2) (same_error (c.in_err-push.ensures.full.1 full))
+      | inr full ↦ rw (err_returned _ c.from_residual.ensures.1) (same_error (c.in_err-push.ensures.full.1 full))
     ]
 
 pub loop-item-preserved : goal.loop-item-preserved
@@ -32,8 +30,8 @@ loop-item-init g c =
 
 pub returns-in_err-push-clause-err : goal.returns-in_err-push-clause-err
 returns-in_err-push-clause-err g c =
-    let failed = err_from_is_err_and c.from_residual.result c.from_residual.ensures.1 in let refused = c.in_err-push.ensures in
-    rw (failed.1, failed.2, refused.err) (
+    let refused = c.in_err-push.ensures in
+    rw (refused.err, err_returned _ c.from_residual.ensures.1) (
       taken_up_to g.U.IntoIterator.into_iter_gives g.U.IntoIter.Iterator.next_gives g.U.IntoIter.Iterator.can_next g.U.IntoIter.Iterator.remaining c.loop-item.invariant c.in-Some.ensures.steps,
       refuses_one_more max_len (length c.loop-item.self) c.in_err-push.field-0.0 refused.errors refused.full refused.memory,
     )

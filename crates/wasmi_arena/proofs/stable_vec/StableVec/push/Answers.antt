@@ -2,12 +2,11 @@ use Rattle.std.proofs.Common.{◌≡◌, ◌≢◌, ◌<◌, ◌≤◌, ℕ, Lis
 use Rattle.std.proofs.Math.Nat.{not-le_of_lt}
 use Rattle.std.proofs.Math.Numerals.{add-one-le, lt_of_le_of_ne}
 use Rattle.std.proofs.lemmas.Bool.{false≢true}
-use Rattle.std.proofs.lemmas.Result.{err_from_is_err_and}
 use Rattle.wasmi_arena.specs.Bucket.{Bucket}
 use Rattle.wasmi_arena.specs.Geometry.{start, max_len, room}
 use Rattle.wasmi_arena.specs.inner.Table.{items_of, IsLaidOut}
 use Rattle.wasmi_arena.proofs.Apart.{len_is, open_is}
-use Rattle.wasmi_arena.proofs.Results.{ok-err}
+use Rattle.wasmi_arena.proofs.Results.{err_returned, ok-err}
 use Rattle.wasmi_arena.proofs.LaidOut.{open_size, place-open, place-free, last-free, free_counted, open-fits, free-lt_max, place-full, items_of-last, IsLaidOut-last, items_of-open_next, IsLaidOut-open_next}
 use Rattle.wasmi_arena.proofs.stable_vec.StableVec.push.Goals as goal
 
@@ -93,8 +92,7 @@ returns-then-index-eq-MAX_LEN-clause-without_size g c =
 
 pub returns-in_err-open_with-clause-full : goal.returns-in_err-open_with-clause-full
 returns-in_err-open_with-clause-full g c =
-    let failed = err_from_is_err_and c.from_residual.result c.from_residual.ensures.1 in
-    rw (failed.1, failed.2, c.in_err-open_with.ensures.errors) (λ refused. cc, λ full. absurd (not-le_of_lt (below_max c.self.invariant _ c.self.view_is c.if-index-eq-MAX_LEN.false) full))
+    rw (err_returned _ c.from_residual.ensures.1, c.in_err-open_with.ensures.errors) (λ refused. cc, λ full. absurd (not-le_of_lt (below_max c.self.invariant _ c.self.view_is c.if-index-eq-MAX_LEN.false) full))
 
 pub returns-in_err-open_with-clause-memory : goal.returns-in_err-open_with-clause-memory
 returns-in_err-open_with-clause-memory g c = λ refused. no_room c.self.invariant _ c.self.view_is c.if-index-self.false
@@ -107,8 +105,7 @@ returns-in_err-open_with-clause-without_size g c = λ below none infallible. abs
 
 pub returns-in_err-open_with-clause-err : goal.returns-in_err-open_with-clause-err
 returns-in_err-open_with-clause-err g c =
-    let failed = err_from_is_err_and c.from_residual.result c.from_residual.ensures.1 in
-    rw (failed.1, c.in_err-open_with.ensures.err) c.self.view_is
+    rw (err_returned _ c.from_residual.ensures.1, c.in_err-open_with.ensures.err) c.self.view_is
 
 pub returns-clause-index : goal.returns-clause-index
 returns-clause-index g c = len_is c.self.invariant _ c.self.view_is

@@ -1,22 +1,15 @@
-use Rattle.std.proofs.Common.{◌≡◌, ℕ, List, ◌∷◌, ◌++◌, Option, Some, None, arith, ap, sym, length, ◌∙◌, Bor}
+use Rattle.std.proofs.Common.{◌≡◌, List, ◌++◌, Option, Some, None, arith, ap, length, ◌∙◌, Bor}
 use Rattle.std.proofs.lemmas.List.{nil_from_length}
 use Rattle.std.specs.Iterator.{YieldsFirstRef}
 use Rattle.std.specs.Slice.Iter.{iter_rest, iter_steps}
 use Rattle.std.specs.declared.slice.Iter.{Iter}
 use Rattle.wasmi_arena.specs.Bucket.{Bucket}
 use Rattle.wasmi_arena.specs.inner.Table.{items_of}
-use Rattle.wasmi_arena.specs.inner.Ahead.{IsAhead}
 use Rattle.wasmi_arena.proofs.Ahead.{progress_first}
-use Rattle.wasmi_arena.proofs.Table.{ahead_fewer, first_open, first_counted, first_filled, first_ahead, first_items, length-steps}
+use Rattle.wasmi_arena.proofs.Table.{ahead_fewer, first_open, first_counted, first_ahead, first_yields, length-steps}
 use Rattle.wasmi_arena.proofs.stable_vec.iter.StableVecIterIterator.next.Goals as goal
 
 module _ {T : Type 0} where
-  -- the bucket is entered and called from the front
-  first_yields : {front back : List T} {buckets rest : List (Option (Bucket T))} {found : Option (Bucket T)} {bucket : Bucket T} (between : ℕ) → IsAhead front buckets back between → buckets ≡ found ∷ rest → Some bucket ≡ found
-      → length front ≡ 0 → (s t : Iter T) (r : Option (Bor T)) → iter_rest s ≡ bucket.items → iter_steps s r t → YieldsFirstRef (λ (xs : List T). xs) (front ++ items_of buckets ++ back) r (iter_rest t ++ items_of rest ++ back)
-  first_yields between it first is none s t None whole ended = absurd (let some = (first_filled _ _ _ _ _ _ between it first is).0 in let short = ended.0 in omega (arith, ap length whole))
-  first_yields between it first is none s t (Some x) whole at = first_items _ _ _ _ _ _ between it first is none (iter_rest t) x.now (sym whole ∙ at)
-
   -- no bucket is left, and the back is called
   yields_behind : (front : List T) (buckets : List (Option (Bucket T))) → length front ≡ 0 → length buckets ≡ 0 → (s t : Iter T) (r : Option (Bor T)) → iter_steps s r t
       → YieldsFirstRef (λ (xs : List T). xs) (front ++ items_of buckets ++ iter_rest s) r (front ++ items_of buckets ++ iter_rest t)
@@ -44,13 +37,13 @@ returns-in_err-as_ref-in-Some-next-clause-goes g c = absurd (first_open c.self.i
 
 pub overflow_sub-self : goal.overflow_sub-self
 overflow_sub-self g c =
-    let counted = first_counted _ _ _ _ _ _ _ c.self.invariant c.in-Some-next.ensures.steps c.in_ok-as_ref-in-Some-next.ensures.value in
+    let counted = first_counted c.self.invariant c.in-Some-next.ensures.steps c.in_ok-as_ref-in-Some-next.ensures.value in
     rw c.slice-items.ensures (omega arith)
 
 pub invariant_of-self-in-Some-next : goal.invariant_of-self-in-Some-next
 invariant_of-self-in-Some-next g c =
     let fewer = length-steps _ _ _ c.next-in-Some-next.ensures.steps in
-    first_ahead _ _ _ _ _ _ _ c.self.invariant c.in-Some-next.ensures.steps c.in_ok-as_ref-in-Some-next.ensures.value _ _ (ap length c.slice-items.ensures) (omega (arith, ap length c.iter-self-inside.ensures.rest))
+    first_ahead c.self.invariant c.in-Some-next.ensures.steps c.in_ok-as_ref-in-Some-next.ensures.value _ _ (ap length c.slice-items.ensures) (omega (arith, ap length c.iter-self-inside.ensures.rest))
 
 pub invariant_of-self-in-None : goal.invariant_of-self-in-None
 invariant_of-self-in-None g c =
@@ -58,7 +51,7 @@ invariant_of-self-in-None g c =
 
 pub returns-in_ok-as_ref-in-Some-next-clause-steps : goal.returns-in_ok-as_ref-in-Some-next-clause-steps
 returns-in_ok-as_ref-in-Some-next-clause-steps g c =
-    rw (← c.self.view_is) (first_yields _ c.self.invariant c.in-Some-next.ensures.steps c.in_ok-as_ref-in-Some-next.ensures.value c.in_default.ensures.steps.0 _ _ _ (c.iter-self-inside.ensures.rest ∙ c.slice-items.ensures) c.next-in-Some-next.ensures.steps)
+    rw (← c.self.view_is) (first_yields c.self.invariant c.in-Some-next.ensures.steps c.in_ok-as_ref-in-Some-next.ensures.value _ _ _ (c.iter-self-inside.ensures.rest ∙ c.slice-items.ensures) c.next-in-Some-next.ensures.steps c.in_default.ensures.steps.0)
 
 pub returns-in_ok-as_ref-in-Some-next-clause-goes : goal.returns-in_ok-as_ref-in-Some-next-clause-goes
 returns-in_ok-as_ref-in-Some-next-clause-goes g c = progress_first (λ (x : Bor g.row.T.Denot). x.now) (λ items. items) _ (λ _. tt) _ _ _ (returns-in_ok-as_ref-in-Some-next-clause-steps g c)

@@ -15,16 +15,16 @@ pub returns-in-Some-clause-goes : goal.returns-in-Some-clause-goes
 returns-in-Some-clause-goes g c = progress_last (λ (x : MutBor g.row.T.Denot). x.now) left _ (λ _. tt) _ _ _ (returns-in-Some-clause-steps g c)
 
 pub overflow_sub-self : goal.overflow_sub-self
-overflow_sub-self g c = let counted = last_counted _ _ _ _ _ _ c.self.invariant c.in-Some-next_back.ensures.steps in omega arith
+overflow_sub-self g c = let counted = last_counted _ _ c.self.invariant c.in-Some-next_back.ensures.steps in omega arith
 
 pub invariant_of-self-in-Some-next_back : goal.invariant_of-self-in-Some-next_back
 invariant_of-self-in-Some-next_back g c =
     let fewer = fewer_last (λ (x : MutBor g.row.T.Denot). x.now) _ _ _ c.next_back-in-Some-next_back.ensures.steps in
-    last_ahead _ _ _ _ _ _ c.self.invariant c.in-Some-next_back.ensures.steps _ _ refl (omega (arith, fewer, ap length c.iter_mut-self-inside.ensures.rest))
+    last_ahead _ _ c.self.invariant c.in-Some-next_back.ensures.steps _ _ refl (omega (arith, fewer, ap length c.iter_mut-self-inside.ensures.rest))
 
 pub returns-in-Some-next_back-clause-steps : goal.returns-in-Some-next_back-clause-steps
 returns-in-Some-next_back-clause-steps g c =
-    rw (← c.self.view_is) (last_yields _ _ _ _ _ _ c.self.invariant c.in-Some-next_back.ensures.steps (λ (x : MutBor g.row.T.Denot). x.now) c.next_back-in-Some-next_back.result _ c.in_default.ensures.steps.0
+    rw (← c.self.view_is) (last_yields _ _ c.self.invariant c.in-Some-next_back.ensures.steps (λ (x : MutBor g.row.T.Denot). x.now) c.next_back-in-Some-next_back.result _ c.in_default.ensures.steps.0
     (rw c.iter_mut-self-inside.ensures.rest at c.next_back-in-Some-next_back.ensures.steps))
 
 pub returns-in-Some-next_back-clause-goes : goal.returns-in-Some-next_back-clause-goes
