@@ -1,6 +1,6 @@
 //! What `assert_equal!` calls, and its tests: equal values pass, and where they differ it ends a test with a text of
 //! both.
-use std::fmt::{Debug, Display};
+use std::fmt::Debug;
 use std::process::Abort;
 use wasmi_vectors::{assert_equal, asserts};
 
@@ -10,9 +10,9 @@ pub fn equal<T: PartialEq + Debug + Drop>(rt: &impl Abort, got: T, want: T) {
 }
 
 /// As [`equal`], and says where.
-pub fn equal_at<D: Display + Drop, T: PartialEq + Debug + Drop>(
+pub fn equal_at<P: Debug + Drop, T: PartialEq + Debug + Drop>(
     rt: &impl Abort,
-    place: D,
+    place: P,
     got: T,
     want: T,
 ) {
@@ -28,7 +28,7 @@ fn values_that_differ_end_the_test(rt: HostRuntime) {
 #[test]
 #[should_panic]
 fn values_that_differ_at_a_place_end_the_test(rt: HostRuntime) {
-    assert_equal!(rt; "a", "b", "of {}", 1);
+    assert_equal!(rt; "a", "b", at 1);
 }
 
 #[test]
@@ -38,5 +38,5 @@ fn the_text_has_the_place_and_both_values(rt: HostRuntime) {
     assert!(rt; text.as_str() == "\n  left: Some(1)\n right: None");
     let told = asserts::equal_at(7, "a", "b").err().expect(&rt, "equal");
     let text = format!(in rt.alloc(); "{told:?}").expect(&rt, "");
-    assert!(rt; text.as_str() == "7\n  left: \"a\"\n right: \"b\"");
+    assert!(rt; text.as_str() == "at 7\n  left: \"a\"\n right: \"b\"");
 }

@@ -31,7 +31,7 @@ fn a_bucket_that_is_left_is_given_back(rt: HostRuntime) {
         for taken in 0..224u32 {
             let is_some = takes(&mut items, from_front);
             let left = (first <= taken) as u64 + (second <= taken) as u64;
-            assert_equal!(rt; (is_some, log.returned()), (true, left), "at {taken}");
+            assert_equal!(rt; (is_some, log.returned()), (true, left), at taken);
         }
         drop(items);
     }
@@ -155,7 +155,7 @@ fn entries_are_taken_out_of_an_arena(rt: HostRuntime) {
         for _ in 0..back {
             last = key_of(entries.next_back());
         }
-        assert_equal!(rt; ((first, last), log.returned()), (keys, returned), "{front} {back}");
+        assert_equal!(rt; ((first, last), log.returned()), (keys, returned), at (front, back));
         let taken = tally.dropped().0;
         assert_equal!(rt; (taken, taken.wrapping_add(entries.len() as u64)), (front.wrapping_add(back), 100));
         drop(entries);

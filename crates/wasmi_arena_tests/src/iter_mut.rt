@@ -27,8 +27,8 @@ fn each_item_is_written_in_place(rt: HostRuntime) {
         for item in vec.iter_mut().rev() {
             *item = item.wrapping_add(1);
         }
-        assert_equal!(rt; are_odd(&vec, len), true, "at {len}");
-        assert_equal!(rt; (vec.open_buckets(), vec.slots()), (open_buckets, slots), "at {len}");
+        assert_equal!(rt; are_odd(&vec, len), true, at len);
+        assert_equal!(rt; (vec.open_buckets(), vec.slots()), (open_buckets, slots), at len);
         drop(vec);
     }
 }
@@ -123,8 +123,8 @@ fn filled(index: u32) -> u32 {
 fn slices_are_written_from_both_ends(rt: HostRuntime) {
     let mut vec = counted(rt.alloc(), 300).expect(&rt, "");
     for (nth, len) in [32, 64, 128, 76].iter().enumerate() {
-        assert_equal!(rt; len_of(vec.slices().nth(nth)), Some(*len), "at {nth}");
-        assert_equal!(rt; len_of(vec.slices().rev().nth(3 - nth)), Some(*len), "at {nth}");
+        assert_equal!(rt; len_of(vec.slices().nth(nth)), Some(*len), at nth);
+        assert_equal!(rt; len_of(vec.slices().rev().nth(3 - nth)), Some(*len), at nth);
     }
     let ends = (
         vec.slices().nth(4).is_none(),
@@ -139,7 +139,7 @@ fn slices_are_written_from_both_ends(rt: HostRuntime) {
     drop(slices);
     let mut items = vec.iter();
     for index in 0..300 {
-        assert_equal!(rt; items.next(), Some(&filled(index)), "at {index}");
+        assert_equal!(rt; items.next(), Some(&filled(index)), at index);
     }
     assert_equal!(rt; items.next(), None);
     drop(vec);

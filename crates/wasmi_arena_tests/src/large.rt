@@ -30,9 +30,9 @@ fn each_bucket_of_a_vector_is_refused_once(rt: HostRuntime) {
         }
         log.refuse_once(1);
         let error = vec.push(Item::new(&refused, 0)).err();
-        assert_equal!(rt; error, Some(ArenaError::OutOfSystemMemory), "at {len}");
-        assert_equal!(rt; (vec.slots() as u64, vec.open_buckets()), (*len, open), "at {len}");
-        assert_equal!(rt; are_tallied(&vec, 0..*len), true, "at {len}");
+        assert_equal!(rt; error, Some(ArenaError::OutOfSystemMemory), at len);
+        assert_equal!(rt; (vec.slots() as u64, vec.open_buckets()), (*len, open), at len);
+        assert_equal!(rt; are_tallied(&vec, 0..*len), true, at len);
     }
     assert_equal!(rt; vec.push(Item::new(&tally, 131_040)), Ok(131_040));
     assert_equal!(rt; (vec.len(), vec.open_buckets(), vec.slots()), (131_041, 13, SLOTS));
@@ -100,7 +100,7 @@ fn many_items_go_as_they_should(rt: HostRuntime) {
             }
         }
         assert_equal!(rt; (vec.len(), vec.open_buckets(), log.returned()), (0, 0, 13));
-        assert_equal!(rt; tally.dropped(), (131_041, in_turn), "by {way}");
+        assert_equal!(rt; tally.dropped(), (131_041, in_turn), at way);
         drop(vec);
         assert_equal!(rt; log.amiss(), 0);
     }

@@ -36,7 +36,7 @@ fn two_items_are_written_and_no_other(rt: HostRuntime) {
         assert_equal!(rt; (vec.len(), arena.len()), (300, 300));
         for (index, (of_vec, of_arena)) in vec.iter().zip(arena.values()).enumerate() {
             let wanted = written(index, first, second);
-            assert_equal!(rt; (*of_vec, *of_arena), (wanted, wanted), "at {index} of {first}, {second}");
+            assert_equal!(rt; (*of_vec, *of_arena), (wanted, wanted), at (index, first, second));
         }
         assert_equal!(rt; (vec.swap(first, second), arena.swap(second, first)), (Ok(()), Ok(())));
         assert_equal!(rt; (vec.get(first), vec.get(second)), (Some(&999), Some(&111)));

@@ -93,14 +93,14 @@ macro_rules! goes_on {
                 log.refuse_once(nth);
                 let mut found = $call(call, &mut $items, Observed::new($rt.alloc(), &log));
                 if nth <= requests {
-                    assert_equal!($rt; found, Err(ArenaError::OutOfSystemMemory), "{call:?} {nth}");
+                    assert_equal!($rt; found, Err(ArenaError::OutOfSystemMemory), at (call, nth));
                     let (len, open) = $kept(call, nth);
                     assert_equal!($rt; (len_of($vec, len), $vec.open_buckets()), (Some(len), open));
                     found = $call(call, &mut $items, Observed::new($rt.alloc(), &log));
                 }
-                assert_equal!($rt; found, Ok(Some(made)), "{call:?} {nth}");
+                assert_equal!($rt; found, Ok(Some(made)), at (call, nth));
                 drop($items);
-                assert_equal!($rt; log.amiss(), 0, "{call:?} {nth}");
+                assert_equal!($rt; log.amiss(), 0, at (call, nth));
             }
         }
     };
@@ -185,10 +185,10 @@ fn a_refused_collection_draws_no_further(rt: HostRuntime) {
             } else {
                 StableVec::from_iter(handle, items).err()
             };
-            assert_equal!(rt; refused, Some(ArenaError::OutOfSystemMemory), "at {len}");
+            assert_equal!(rt; refused, Some(ArenaError::OutOfSystemMemory), at len);
             let dropped = (len.wrapping_add(1), len.max(1));
-            assert_equal!(rt; (drawn.get(), tally.dropped()), (dropped.0, dropped), "at {len}");
-            assert_equal!(rt; (log.requests(), log.amiss()), (nth, 0), "at {len}");
+            assert_equal!(rt; (drawn.get(), tally.dropped()), (dropped.0, dropped), at len);
+            assert_equal!(rt; (log.requests(), log.amiss()), (nth, 0), at len);
         }
     }
 }
@@ -251,18 +251,18 @@ fn a_run_goes_on_after_each_refusal(rt: HostRuntime) {
             }
             None => assert_equal!(rt; found.err(), Some(error)),
         }
-        assert_equal!(rt; arena.len(), len, "at {nth}");
+        assert_equal!(rt; arena.len(), len, at nth);
         log.refuse_none();
         let commands_in = Observed::new(rt.alloc(), &other);
         let again = replies(commands_in, Observed::new(rt.alloc(), &log), &mut arena);
         let wanted = [ArenaReply::Key(len), ArenaReply::Has(true)];
-        assert_equal!(rt; again.expect(&rt, "").as_slice(), wanted.as_slice(), "at {nth}");
+        assert_equal!(rt; again.expect(&rt, "").as_slice(), wanted.as_slice(), at nth);
         let mut items = arena.values();
         for index in 0..=len {
             let item = if index < 32 { index as u8 } else { 1 };
-            assert_equal!(rt; items.next(), Some(&item), "{index} at {nth}");
+            assert_equal!(rt; items.next(), Some(&item), at (index, nth));
         }
-        assert_equal!(rt; items.next(), None, "at {nth}");
+        assert_equal!(rt; items.next(), None, at nth);
         drop(arena);
         assert_equal!(rt; (log.amiss(), other.amiss()), (0, 0));
     }
@@ -290,7 +290,7 @@ fn a_bucket_takes_one_clone_of_the_allocator(rt: HostRuntime) {
     let mut vec = StableVec::new(Observed::new(rt.alloc(), &log));
     for number in 0..97usize {
         assert_equal!(rt; vec.push(7u8), Ok(number));
-        assert_equal!(rt; log.clones(), vec.open_buckets() as u64, "of {number}");
+        assert_equal!(rt; log.clones(), vec.open_buckets() as u64, at number);
     }
     let copy = vec.clone().expect(&rt, "");
     let apart = vec.clone_in(Observed::new(rt.alloc(), &other));

@@ -22,11 +22,11 @@ fn places_are_those_of_the_table(rt: HostRuntime) {
         (4294967263, (26, 2147483647)),
     ] {
         assert!(rt; index < 4294967264);
-        assert_equal!(rt; StableVec::<u8>::place(index), place, "at {index}");
+        assert_equal!(rt; StableVec::<u8>::place(index), place, at index);
     }
     for (bucket, size) in [(0, 32), (1, 64), (2, 128), (26, 2147483648)] {
         assert!(rt; bucket < 27);
-        assert_equal!(rt; StableVec::<u8>::size_of_bucket_at(bucket), size, "at {bucket}");
+        assert_equal!(rt; StableVec::<u8>::size_of_bucket_at(bucket), size, at bucket);
     }
 }
 
@@ -42,7 +42,7 @@ fn buckets_are_the_fewest(rt: HostRuntime) {
     ] {
         let vec = counted(rt.alloc(), len).expect(&rt, "");
         let taken = vec.room() + vec.len();
-        assert_equal!(rt; (vec.open_buckets(), vec.slots(), taken), (open, slots, slots), "at {len}");
+        assert_equal!(rt; (vec.open_buckets(), vec.slots(), taken), (open, slots, slots), at len);
         drop(vec);
     }
 }
@@ -117,14 +117,14 @@ fn both_ends_give_items_away(rt: HostRuntime) {
         let arena = StableArena::<u32, u32>::from_iter(rt.alloc(), 0..len);
         let mut entries = arena.expect(&rt, "").into_iter();
         for (front, back) in (0..len / 2).zip((0..len).rev()) {
-            assert_equal!(rt; (items.next(), items.next_back()), (Some(front), Some(back)), "of {len}");
+            assert_equal!(rt; (items.next(), items.next_back()), (Some(front), Some(back)), at len);
             let ends = (entries.next(), entries.next_back());
-            assert_equal!(rt; ends, (Some((front, front)), Some((back, back))), "of {len}");
+            assert_equal!(rt; ends, (Some((front, front)), Some((back, back))), at len);
         }
         let left = len % 2 == 1;
         assert_equal!(rt; (items.len(), entries.len()), (left as usize, left as usize));
-        assert_equal!(rt; (items.next_back().is_some(), items.next()), (left, None), "of {len}");
-        assert_equal!(rt; (entries.next_back().is_some(), entries.next()), (left, None), "of {len}");
+        assert_equal!(rt; (items.next_back().is_some(), items.next()), (left, None), at len);
+        assert_equal!(rt; (entries.next_back().is_some(), entries.next()), (left, None), at len);
         drop(items);
         drop(entries);
     }

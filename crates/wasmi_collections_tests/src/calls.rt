@@ -24,7 +24,7 @@ pub(crate) fn hand_in_turn<'t>(
 ) {
     let mut key = 0usize;
     for value in values {
-        assert_equal!(*rt; hand_in(arena, *value), Ok(key), "of {value}");
+        assert_equal!(*rt; hand_in(arena, *value), Ok(key), at value);
         key = key.wrapping_add(1);
     }
 }

@@ -108,14 +108,14 @@ fn one_key_is_enough_for_equal_values(rt: HostRuntime) {
         ("b", Err(ArenaError::NotEnoughKeys)),
         ("a", Ok(0)),
     ] {
-        assert_equal!(rt; number_of(&mut arena, value), key, "of {value}");
+        assert_equal!(rt; number_of(&mut arena, value), key, at value);
     }
     for (last, wanted) in [("a", Ok(1)), ("b", Err(ArenaError::NotEnoughKeys))] {
         let made: Result<DedupArena<FewKeys<1>, &str>, ArenaError> = made_of(
             rt.alloc(),
             &["a", "a", last],
         );
-        assert_equal!(rt; made.map(|made| made.len()), wanted, "with {last}");
+        assert_equal!(rt; made.map(|made| made.len()), wanted, at last);
     }
     drop(arena);
 }
@@ -124,7 +124,7 @@ fn one_key_is_enough_for_equal_values(rt: HostRuntime) {
 fn a_look_hands_nothing_in(rt: HostRuntime) {
     let arena = written(&rt, rt.alloc());
     for (value, key) in [("x", Some(0)), ("y", Some(1)), ("z", None)] {
-        assert_equal!(rt; key_of(&arena, &value), key, "of {value}");
+        assert_equal!(rt; key_of(&arena, &value), key, at value);
     }
     assert_equal!(rt; (arena.len(), arena.index().len()), (2, 2));
     assert_equal!(rt; arena.next_key(), Ok(2));

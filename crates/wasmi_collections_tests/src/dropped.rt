@@ -99,11 +99,11 @@ fn runs_drop_each_key_and_value_once(rt: HostRuntime) {
         for is_hashed in [false, true] {
             let commands = map_commands(heap, &keys, &values).expect(&rt, "");
             let ran = map_runs(is_hashed, &log, nth, commands);
-            assert_equal!(rt; ran, nth != 1, "{is_hashed} {nth}");
-            assert_equal!(rt; (keys.dropped(), values.replace(0)), (28, 20), "{is_hashed} {nth}");
+            assert_equal!(rt; ran, nth != 1, at (is_hashed, nth));
+            assert_equal!(rt; (keys.dropped(), values.replace(0)), (28, 20), at (is_hashed, nth));
             let commands = set_commands(heap, &keys).expect(&rt, "");
             let ran = set_runs(is_hashed, &log, nth, commands);
-            assert_equal!(rt; (ran, keys.dropped()), (nth != 1, 24), "{is_hashed} {nth}");
+            assert_equal!(rt; (ran, keys.dropped()), (nth != 1, 24), at (is_hashed, nth));
         }
     }
     assert_equal!(rt; log.amiss(), 0);
@@ -130,8 +130,8 @@ fn a_list_that_is_refused_gives_its_memory_back(rt: HostRuntime) {
     let requests = log.requests();
     assert!(rt; requests > 1);
     for nth in 1..=requests {
-        assert_equal!(rt; collected(&log, heap, nth), Err(ArenaError::OutOfSystemMemory), "at {nth}");
-        assert_equal!(rt; log.amiss(), 0, "at {nth}");
+        assert_equal!(rt; collected(&log, heap, nth), Err(ArenaError::OutOfSystemMemory), at nth);
+        assert_equal!(rt; log.amiss(), 0, at nth);
     }
 }
 

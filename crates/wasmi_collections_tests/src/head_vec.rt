@@ -21,9 +21,9 @@ fn list<T: Copy + Drop>(alloc: Global, items: &[T]) -> Result<HeadVec<T>, ArenaE
 // Compares two lists, of which the items of greater numbers are greater.
 fn compare(rt: &impl Abort, this: &HeadVec<i32>, that: &HeadVec<i32>, one: usize, other: usize) {
     let order = one.cmp(&other);
-    assert_equal!(*rt; this.cmp(that), order, "at {one} and {other}");
-    assert_equal!(*rt; this.partial_cmp(that), Some(order), "at {one} and {other}");
-    assert_equal!(*rt; this == that, one == other, "at {one} and {other}");
+    assert_equal!(*rt; this.cmp(that), order, at (one, other));
+    assert_equal!(*rt; this.partial_cmp(that), Some(order), at (one, other));
+    assert_equal!(*rt; this == that, one == other, at (one, other));
 }
 
 #[test]
@@ -121,7 +121,7 @@ fn a_pop_gives_no_memory_back(rt: HostRuntime) {
         for _ in items.len()..len {
             items.push(7u32).expect(&rt, "");
         }
-        assert_equal!(rt; (log.requests(), log.bytes()), (requests, bytes), "at {len}");
+        assert_equal!(rt; (log.requests(), log.bytes()), (requests, bytes), at len);
     }
     let returned = log.returned();
     for _ in 0..5_000 {
@@ -140,7 +140,7 @@ fn push_again<A: Allocator + Clone>(
     if let Err(error) = pushed {
         assert_equal!(*rt; (error, items.len()), (ArenaError::OutOfSystemMemory, item));
         let copy = items.clone().expect(rt, "");
-        assert_equal!(*rt; ends_with_numbers(copy, item), true, "at {item}");
+        assert_equal!(*rt; ends_with_numbers(copy, item), true, at item);
         items.push(item).expect(rt, "");
     }
     assert_equal!(*rt; items.last(), Some(&item));
@@ -159,7 +159,7 @@ fn each_request_refused_in_turn(rt: HostRuntime) {
                 refusals = refusals.wrapping_add(1);
             }
         }
-        assert_equal!(rt; ends_with_numbers(items, 300), true, "at {nth}");
+        assert_equal!(rt; ends_with_numbers(items, 300), true, at nth);
         assert_equal!(rt; log.amiss(), 0);
     }
     // The list grew several times.

@@ -115,7 +115,7 @@ fn a_run_goes_on_after_a_refusal(rt: HostRuntime) {
         let mut interner = StringInterner::new(Logged::new(rt.alloc(), &log));
         match run(rt.alloc(), &log, &mut interner, nth) {
             Ok(replies) => {
-                assert_equal!(rt; are_few(refused_of(&interner, replies)), true, "at {nth}");
+                assert_equal!(rt; are_few(refused_of(&interner, replies)), true, at nth);
             }
             Err(error) => {
                 assert_equal!(rt; (nth, error, interner.len()), (1, ArenaError::OutOfSystemMemory, 0));
@@ -126,7 +126,7 @@ fn a_run_goes_on_after_a_refusal(rt: HostRuntime) {
         for name in NAMES {
             interner.get_or_intern(name).expect(&rt, "");
         }
-        assert_equal!(rt; interner.len(), 10, "at {nth}");
+        assert_equal!(rt; interner.len(), 10, at nth);
         drop(interner);
         assert_equal!(rt; log.amiss(), 0);
     }

@@ -32,7 +32,7 @@ fn run_of_map<M: AnyMap<u32, u32>>(rt: &impl Abort, alloc: Global, map: &mut M) 
     }
     let replies = run_map(alloc, map, commands).expect(rt, "");
     for (turn, reply) in (0..ALL).zip(replies) {
-        assert_equal!(*rt; reply, map_command(turn).1, "{turn}");
+        assert_equal!(*rt; reply, map_command(turn).1, at turn);
     }
 }
 
@@ -54,7 +54,7 @@ fn run_of_set<S: AnySet<u32>>(rt: &impl Abort, alloc: Global, set: &mut S) {
     }
     let replies = run_set(alloc, set, commands).expect(rt, "");
     for (turn, reply) in (0..ALL).zip(replies) {
-        assert_equal!(*rt; reply, set_command(turn).1, "{turn}");
+        assert_equal!(*rt; reply, set_command(turn).1, at turn);
     }
 }
 
@@ -86,7 +86,7 @@ fn many_commands_to_a_dedup_arena(rt: HostRuntime) {
     }
     let replies = run_dedup(rt.alloc(), &mut arena, commands).expect(&rt, "");
     for (turn, reply) in (0..ALL).zip(replies) {
-        assert_equal!(rt; reply, dedup_command(turn).1, "{turn}");
+        assert_equal!(rt; reply, dedup_command(turn).1, at turn);
     }
     drop(arena);
 }
@@ -117,7 +117,7 @@ fn many_commands_to_an_interner(rt: HostRuntime) {
             3 => InternReply::Found(None),
             _ => InternReply::Len(30_000),
         };
-        assert_equal!(rt; reply, want, "{turn}");
+        assert_equal!(rt; reply, want, at turn);
     }
     assert!(rt; interner.len() == 30_000);
     drop(interner);

@@ -89,7 +89,7 @@ fn a_value_asks_for_its_places_alone(rt: HostRuntime) {
         add_number(&mut arena, number).expect(&rt, "");
     }
     let (requests, bytes) = (log.requests(), log.bytes());
-    assert_equal!(rt; requests < 64, true, "{requests}");
-    assert_equal!(rt; bytes < 4 * 16_384 + 40 * 32_768, true, "{bytes}");
+    assert_equal!(rt; requests < 64, true, at requests);
+    assert_equal!(rt; bytes < 4 * 16_384 + 40 * 32_768, true, at bytes);
     drop(arena);
 }

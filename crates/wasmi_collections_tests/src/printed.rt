@@ -27,7 +27,7 @@ fn prints<T: Debug>(rt: &impl Abort, alloc: Global, container: &T, want: &str) {
     assert_equal!(*rt; text.as_str(), want);
     for room in 0..text.len() {
         let failed = write!(Short { room }, "{container:#?}").is_err();
-        assert_equal!(*rt; failed, true, "{want} at {room}");
+        assert_equal!(*rt; failed, true, at (want, room));
     }
 }
 

@@ -39,7 +39,7 @@ fn hand_hundred_in(rt: &impl Abort, arena: &mut DedupArena<usize, u32, Logged<'_
     for value in 0..100u32 {
         if let Err(error) = hand_in(arena, value) {
             assert_equal!(*rt; error, ArenaError::OutOfSystemMemory);
-            assert_equal!(*rt; has_first(arena, value), true, "at {value}");
+            assert_equal!(*rt; has_first(arena, value), true, at value);
             assert_equal!(*rt; hand_in(arena, value), Ok(value as usize));
         }
     }
@@ -71,7 +71,7 @@ fn each_request_refused_in_turn(rt: HostRuntime) {
         hand_hundred_in(&rt, &mut arena);
         hand_in_without_memory(&rt, &log, &mut arena);
         drop(arena);
-        assert_equal!(rt; log.amiss(), 0, "at {nth}");
+        assert_equal!(rt; log.amiss(), 0, at nth);
     }
 }
 
@@ -83,7 +83,7 @@ fn a_refused_clone_changes_nothing(rt: HostRuntime) {
         (2, Ok(1)),
         (1, Err(ArenaError::OutOfSystemMemory)),
     ] {
-        assert_equal!(rt; hand_in(&mut arena, Even(number)), key, "of {number}");
+        assert_equal!(rt; hand_in(&mut arena, Even(number)), key, at number);
     }
     assert_equal!(rt; (arena.len(), arena.index().len()), (2, 2));
     assert_equal!(rt; key_of(&arena, &Even(1)), None);
@@ -138,7 +138,7 @@ fn run_refused<'l>(
     match run(heap, log, arena, nth) {
         Ok(replies) => {
             let is_one_at_most = refused_of(arena, replies).is_some_and(|refused| refused < 2);
-            assert_equal!(*rt; is_one_at_most, true, "at {nth}");
+            assert_equal!(*rt; is_one_at_most, true, at nth);
         }
         Err(error) => {
             assert_equal!(*rt; (nth, error, arena.len()), (1, ArenaError::OutOfSystemMemory, 0));
@@ -159,7 +159,7 @@ fn a_run_goes_on_after_a_refusal(rt: HostRuntime) {
         for value in 0..20u32 {
             hand_in(&mut arena, value).expect(&rt, "");
         }
-        assert_equal!(rt; arena.len(), 20, "at {nth}");
+        assert_equal!(rt; arena.len(), 20, at nth);
         drop(arena);
         assert_equal!(rt; log.amiss(), 0);
     }
@@ -204,9 +204,9 @@ fn a_third_value_is_refused(rt: HostRuntime) {
         } else {
             (Ok(2), 3)
         };
-        assert_equal!(rt; (key, len), wanted, "at {nth}");
-        assert_equal!(rt; (arena.key_of_str("a"), arena.key_of_str("b")), (Some(0), Some(1)), "at {nth}");
-        assert_equal!(rt; arena.alloc_str(heap, "c"), Ok(2), "at {nth}");
+        assert_equal!(rt; (key, len), wanted, at nth);
+        assert_equal!(rt; (arena.key_of_str("a"), arena.key_of_str("b")), (Some(0), Some(1)), at nth);
+        assert_equal!(rt; arena.alloc_str(heap, "c"), Ok(2), at nth);
         drop(arena);
         assert_equal!(rt; log.amiss(), 0);
     }
@@ -271,8 +271,8 @@ fn clone_twice<'l>(
     for nth in [1, 2] {
         log.refuse_once(nth);
         let refused = by_reference(heap, arena, value, is_value);
-        assert_equal!(*rt; refused, Err(ArenaError::OutOfSystemMemory), "at {nth}");
-        assert_equal!(*rt; (key_of(arena, value), arena.len()), (None, 2), "at {nth}");
+        assert_equal!(*rt; refused, Err(ArenaError::OutOfSystemMemory), at nth);
+        assert_equal!(*rt; (key_of(arena, value), arena.len()), (None, 2), at nth);
     }
     assert_equal!(*rt; by_reference(heap, arena, value, is_value), Ok(2));
     assert_equal!(*rt; log.requests(), asked.wrapping_add(5));
@@ -322,9 +322,9 @@ fn what_is_refused_is_dropped(rt: HostRuntime) {
     for nth in 1..12 {
         let log = Log::new();
         let arena = few_texts(Logged::new(rt.alloc(), &log), &log, nth);
-        assert_equal!(rt; arena.len() > 2, true, "at {nth}");
+        assert_equal!(rt; arena.len() > 2, true, at nth);
         drop(arena);
-        assert_equal!(rt; log.amiss(), 0, "at {nth}");
+        assert_equal!(rt; log.amiss(), 0, at nth);
     }
 }
 

@@ -62,7 +62,7 @@ fn a_call_costs_the_same_in_any_arena(rt: HostRuntime) {
             (5, 8, (1, 0, 1)),
             (50_000, 8, (0, 0, 1)),
         ] {
-            assert_equal!(rt; costs(rt.alloc(), len, key, number).expect(&rt, ""), want, "{number} at {key} of {len}");
+            assert_equal!(rt; costs(rt.alloc(), len, key, number).expect(&rt, ""), want, at (number, key, len));
         }
     }
 }
@@ -209,7 +209,7 @@ type Texts<'l> = DedupArena<usize, String<Logged<'l>>, Logged<'l>>;
 fn hand_three_in<'l>(rt: &impl Abort, heap: Logged<'l>, arena: &mut Texts<'l>, letters: [&str; 3]) {
     let mut key = 0usize;
     for letter in letters {
-        assert_equal!(*rt; hand_in(arena, text(rt, heap, letter)), Ok(key), "of {letter}");
+        assert_equal!(*rt; hand_in(arena, text(rt, heap, letter)), Ok(key), at letter);
         key = key.wrapping_add(1);
     }
     assert_equal!(*rt; arena.len(), 3);
@@ -256,11 +256,11 @@ fn each_request_refused_in_turn(rt: HostRuntime) {
             let mut arena = three_texts(&rt, heap, written);
             let result = replace_second(&rt, heap, &log, &mut arena, letter, nth);
             let second = if nth <= requests {
-                assert_equal!(rt; result.err(), Some(ArenaError::OutOfSystemMemory), "{letter} at {nth}");
+                assert_equal!(rt; result.err(), Some(ArenaError::OutOfSystemMemory), at (letter, nth));
                 "b"
             } else {
                 let was = result.expect(&rt, "");
-                assert_equal!(rt; was.as_str(), there, "{letter} at {nth}");
+                assert_equal!(rt; was.as_str(), there, at (letter, nth));
                 letter
             };
             hand_three_in(&rt, heap, &mut arena, ["a", second, "c"]);
@@ -330,7 +330,7 @@ fn a_refused_growth_changes_nothing(rt: HostRuntime) {
             refused = refused.wrapping_add(1);
         }
         for value in 1..len {
-            assert_equal!(rt; hand_in(&mut arena, value), Ok(value as usize), "of {len}");
+            assert_equal!(rt; hand_in(&mut arena, value), Ok(value as usize), at len);
         }
         assert_equal!(rt; arena.len(), len as usize);
         drop(arena);

@@ -284,7 +284,7 @@ fn runs_over_maps_and_sets_go_on_after_a_refusal(rt: HostRuntime) {
         for container in 0..4u8 {
             let log = Log::new();
             let refused = refused_in(Logged::new(rt.alloc(), &log), &log, container, nth);
-            assert_equal!(rt; refused, outcome, "{container} at {nth}");
+            assert_equal!(rt; refused, outcome, at (container, nth));
             assert_equal!(rt; log.amiss(), 0);
         }
     }

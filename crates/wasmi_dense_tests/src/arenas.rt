@@ -111,7 +111,7 @@ fn pairs_out_of_bounds_come_before_equal_ones(rt: HostRuntime) {
             _ => ArenaError::KeyOutOfBounds,
         };
         let refused = arena.get_disjoint_mut([first, second]).err();
-        assert_equal!(rt; (refused, arena.swap(first, second)), (Some(error), Err(error)), "{first} {second}");
+        assert_equal!(rt; (refused, arena.swap(first, second)), (Some(error), Err(error)), at (first, second));
         let found = (arena.get(0), arena.get(1), arena.get(2), arena.room());
         assert_equal!(rt; found, (Ok(&0), Ok(&1), Ok(&2), room));
     }

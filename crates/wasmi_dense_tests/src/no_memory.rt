@@ -71,7 +71,7 @@ fn room_that_was_made_suffices(rt: HostRuntime) {
         assert_equal!(rt; (arena.reserve(more), set), (Ok(()), (Ok(None), Some(7))));
         // A block that grows is twice as large at most, or as large as it must be.
         let most = more.wrapping_add(held.wrapping_mul(4)).wrapping_add(8);
-        assert_equal!(rt; arena.room() <= most, true, "{held} {more}");
+        assert_equal!(rt; arena.room() <= most, true, at (held, more));
         let handle = Observed::new(rt.alloc(), &log);
         let mut of_capacity: Arena<usize, u64, Observed<'_>> = Arena::with_capacity(
             handle, more,
@@ -80,7 +80,7 @@ fn room_that_was_made_suffices(rt: HostRuntime) {
         log.refuse_from(1);
         for number in 0..more {
             let end = held.wrapping_add(number);
-            assert_equal!(rt; (arena.alloc(8), components.set(end, 8)), (Ok(end), Ok(None)), "{more}");
+            assert_equal!(rt; (arena.alloc(8), components.set(end, 8)), (Ok(end), Ok(None)), at more);
             assert_equal!(rt; of_capacity.alloc(8), Ok(number));
         }
         assert_equal!(rt; log.requests(), requests);

@@ -17,7 +17,7 @@ fn each_growth_is_refused_once(rt: HostRuntime) {
         if arena.room() == 0 {
             log.refuse_once(1);
             let error = arena.alloc(Item::new(&refused, 0)).err();
-            assert_equal!(rt; error, Some(ArenaError::OutOfSystemMemory), "at {number}");
+            assert_equal!(rt; error, Some(ArenaError::OutOfSystemMemory), at number);
             assert_equal!(rt; (arena.len() as u64, arena.room()), (number, 0));
             assert!(rt; arena.iter().all(|(key, item)| item.number() == key as u64));
         }
@@ -42,10 +42,10 @@ fn a_refused_collection_draws_no_further(rt: HostRuntime) {
         });
         let handle = Observed::new(rt.alloc(), &log);
         let refused = Arena::<usize, Item<'_>, Observed<'_>>::from_iter(handle, items);
-        assert_equal!(rt; refused.err(), Some(ArenaError::OutOfSystemMemory), "at {len}");
+        assert_equal!(rt; refused.err(), Some(ArenaError::OutOfSystemMemory), at len);
         let dropped = len.wrapping_add(1);
-        assert_equal!(rt; (drawn.get(), tally.dropped().0), (dropped, dropped), "at {len}");
-        assert_equal!(rt; (log.requests(), log.amiss()), (u64::from(nth), 0), "at {len}");
+        assert_equal!(rt; (drawn.get(), tally.dropped().0), (dropped, dropped), at len);
+        assert_equal!(rt; (log.requests(), log.amiss()), (u64::from(nth), 0), at len);
     }
 }
 
@@ -95,15 +95,15 @@ fn an_arena_goes_on_after_each_refusal(rt: HostRuntime) {
             log.refuse_once(nth);
             let mut made = call_arena(call, &mut arena, Observed::new(rt.alloc(), &log));
             if nth <= requests {
-                assert_equal!(rt; made, Err(ArenaError::OutOfSystemMemory), "{call:?} {nth}");
-                assert_equal!(rt; (arena.len(), arena.room()), (32, 0), "{call:?} {nth}");
+                assert_equal!(rt; made, Err(ArenaError::OutOfSystemMemory), at (call, nth));
+                assert_equal!(rt; (arena.len(), arena.room()), (32, 0), at (call, nth));
                 assert!(rt; arena.iter().all(|(key, item)| key == *item));
                 made = call_arena(call, &mut arena, Observed::new(rt.alloc(), &log));
             }
             let (found, then) = made.expect(&rt, "").expect(&rt, "other items");
-            assert_equal!(rt; (found, then >= room), (len, true), "{call:?} {nth}");
+            assert_equal!(rt; (found, then >= room), (len, true), at (call, nth));
             drop(arena);
-            assert_equal!(rt; log.amiss(), 0, "{call:?} {nth}");
+            assert_equal!(rt; log.amiss(), 0, at (call, nth));
         }
     }
 }

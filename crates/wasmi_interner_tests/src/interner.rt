@@ -15,9 +15,9 @@ use wasmi_vectors::observed::Log;
 // Interns a text that isn't there, and finds it then.
 fn intern_new(rt: &impl Abort, interner: &mut StringInterner, text: &str, number: u32) {
     let symbol = Sym::from_u32(number);
-    assert_equal!(*rt; get(interner, text), None, "of {text}");
-    assert_equal!(*rt; intern(interner, text), Ok(symbol), "of {text}");
-    assert_equal!(*rt; get(interner, text), Some(symbol), "of {text}");
+    assert_equal!(*rt; get(interner, text), None, at text);
+    assert_equal!(*rt; intern(interner, text), Ok(symbol), at text);
+    assert_equal!(*rt; get(interner, text), Some(symbol), at text);
 }
 
 // An interner of five texts.
@@ -50,7 +50,7 @@ fn count_among_five(rt: &impl Abort, interner: &StringInterner) {
     for text in ["", "a", "b", "c", "aa", "bb", "bc", "é", "zz", "bbb"] {
         let (symbol, compared) = get_counted(interner, text);
         let is_few = (1..=3).contains(&compared);
-        assert_equal!(*rt; (symbol, is_few), (get(interner, text), true), "of {text}");
+        assert_equal!(*rt; (symbol, is_few), (get(interner, text), true), at text);
     }
 }
 
@@ -72,7 +72,7 @@ fn shorter_texts_come_first(rt: HostRuntime) {
     for (i, a) in ascending.iter().enumerate() {
         for (j, b) in ascending.iter().enumerate() {
             let order = LenOrder::new(a).cmp(&LenOrder::new(b));
-            assert_equal!(rt; order, i.cmp(&j), "of {a} and {b}");
+            assert_equal!(rt; order, i.cmp(&j), at (a, b));
         }
     }
     assert_equal!(rt; ("é".as_bytes(), LenOrder::new("bb").as_str()), ([0xc3, 0xa9].as_slice(), "bb"));
@@ -131,7 +131,7 @@ fn most_among_letters(rt: &impl Abort, alloc: Global, around: (&str, &str), coun
     for letter in "a b c d e f g h i j k l m n o p q r s".split(' ') {
         let text = lettered(rt, alloc, around, letter);
         let (_, compared) = get_counted(&interner, text.as_str());
-        assert_equal!(*rt; count == 0 || 0 < compared, true, "of {letter}");
+        assert_equal!(*rt; count == 0 || 0 < compared, true, at letter);
         most = compared.max(most);
     }
     drop(interner);
@@ -147,7 +147,7 @@ fn a_search_is_binary(rt: HostRuntime) {
             most_among_letters(&rt, rt.alloc(), ONE_HASH, count),
             most_among_letters(&rt, rt.alloc(), APART, count),
         );
-        assert_equal!(rt; found, (most, most.min(1)), "among {count}");
+        assert_equal!(rt; found, (most, most.min(1)), at count);
         count = count.wrapping_add(1);
     }
 }
@@ -164,8 +164,8 @@ fn intern_order(rt: &impl Abort, interner: &mut StringInterner, alloc: Global, o
     let mut number = 0u32;
     for text in order.split(' ') {
         let symbol = Sym::from_u32(number.wrapping_mul(2));
-        assert_equal!(*rt; get(interner, text), None, "of {text}");
-        assert_equal!(*rt; intern(interner, text), Ok(symbol), "of {text}");
+        assert_equal!(*rt; get(interner, text), None, at text);
+        assert_equal!(*rt; intern(interner, text), Ok(symbol), at text);
         let next = number.wrapping_add(1);
         intern_numbers(rt, interner, alloc, APART, number..next);
         number = next;
@@ -183,8 +183,8 @@ fn most_compared_of_order(
     for text in order.split(' ') {
         let symbol = Sym::from_u32(number.wrapping_mul(2));
         let (found, compared) = get_counted(copy, text);
-        assert_equal!(*rt; found, Some(symbol), "of {text}");
-        assert_equal!(*rt; intern(interner, text), Ok(symbol), "of {text}");
+        assert_equal!(*rt; found, Some(symbol), at text);
+        assert_equal!(*rt; intern(interner, text), Ok(symbol), at text);
         assert_equal!(*rt; resolve(interner, symbol), Some(text));
         most = compared.max(most);
         number = number.wrapping_add(1);
@@ -222,7 +222,7 @@ fn find_in_rest(
     around: (&str, &str),
 ) {
     let copy = copy_of(rt, interner);
-    assert_equal!(*rt; most_compared(rt, &copy, alloc, around, 300), 9, "of {}", around.0);
+    assert_equal!(*rt; most_compared(rt, &copy, alloc, around, 300), 9, at around.0);
     intern_in_turn(rt, interner, alloc, around, 300);
     let absent = numbered(rt, alloc, around, 300);
     assert_equal!(*rt; get(&copy, absent.as_str()), None);
@@ -262,7 +262,7 @@ fn intern_scattered(rt: &impl Abort, interner: &mut StringInterner<Logged<'_>>, 
             let symbol = intern_with_hint(interner, text.as_str(), hint);
             assert_equal!(*rt; symbol, Ok(Sym::from_u32(number)));
         } else {
-            assert_equal!(*rt; extend(interner, &[text.as_str()]), Ok(()), "at {number}");
+            assert_equal!(*rt; extend(interner, &[text.as_str()]), Ok(()), at number);
         }
     }
 }
@@ -314,12 +314,12 @@ fn keep_long(
 ) {
     let text = "x".repeat(alloc, len).expect(rt, "");
     let symbol = Sym::from_u32(number);
-    assert_equal!(*rt; intern(interner, text.as_str()), Ok(symbol), "of {len}");
+    assert_equal!(*rt; intern(interner, text.as_str()), Ok(symbol), at len);
     log.refuse_from(1);
-    assert_equal!(*rt; intern(interner, text.as_str()), Ok(symbol), "of {len}");
+    assert_equal!(*rt; intern(interner, text.as_str()), Ok(symbol), at len);
     log.refuse_none();
     let is_kept = resolve(interner, symbol) == Some(text.as_str());
-    assert_equal!(*rt; is_kept, true, "of {len}");
+    assert_equal!(*rt; is_kept, true, at len);
 }
 
 // What is there needs no memory, however long it is.

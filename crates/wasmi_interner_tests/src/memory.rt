@@ -57,7 +57,7 @@ fn a_refused_text_changes_nothing(rt: HostRuntime) {
         for (len, name) in NAMES.into_iter().enumerate() {
             if let Err(error) = intern(&mut interner, name) {
                 assert_equal!(rt; error, ArenaError::OutOfSystemMemory);
-                assert_equal!(rt; goes_on(&mut interner, len, name), Ok(true), "at {nth}");
+                assert_equal!(rt; goes_on(&mut interner, len, name), Ok(true), at nth);
                 refusals = refusals.wrapping_add(1);
             }
         }
@@ -127,13 +127,13 @@ fn each_request_refused_as_slots_are_doubled(rt: HostRuntime) {
                 log.refuse_none();
                 for _ in 0..2 {
                     let count = refused_among(&rt, &mut interner, rt.alloc(), around, texts);
-                    assert_equal!(rt; (count, interner.len()), (0, texts as usize), "at {nth}");
+                    assert_equal!(rt; (count, interner.len()), (0, texts as usize), at nth);
                 }
                 drop(interner);
                 assert_equal!(rt; log.amiss(), 0);
             }
         }
-        assert_equal!(rt; (met, refused), (requests, errors), "of {}", around.0);
+        assert_equal!(rt; (met, refused), (requests, errors), at around.0);
     }
 }
 
@@ -179,7 +179,7 @@ fn double_slots(
         if !is_refused {
             let slots = slots_behind(number, doubled);
             let wanted = (slots.wrapping_mul(8), u64::from(slots != 0));
-            assert_equal!(*rt; (bytes, clones), wanted, "behind {number}");
+            assert_equal!(*rt; (bytes, clones), wanted, at number);
         }
     }
 }
@@ -240,13 +240,13 @@ fn blocks_of_the_rest_widen_in_turn(rt: HostRuntime) {
         let mut interner = with_texts(&rt, handle, rt.alloc(), ONE_HASH, texts);
         let made = asked_for_text(&rt, &mut interner, &log, rt.alloc(), ONE_HASH, texts);
         let blocks = log.given().wrapping_sub(log.returned());
-        assert_equal!(rt; (made, blocks), (asked, held), "behind {texts}");
+        assert_equal!(rt; (made, blocks), (asked, held), at texts);
         interner.clear();
         let sizes = (
             asked_for_text(&rt, &mut interner, &log, rt.alloc(), ONE_HASH, 0).1,
             asked_for_text(&rt, &mut interner, &log, rt.alloc(), ONE_HASH, 1).1,
         );
-        assert_equal!(rt; sizes, (312, 128), "after {texts}");
+        assert_equal!(rt; sizes, (312, 128), at texts);
         drop(interner);
         assert_equal!(rt; log.amiss(), 0);
     }
@@ -331,7 +331,7 @@ fn clone_requests(rt: &impl Abort, interner: &StringInterner<Logged<'_>>, log: &
     let before = counted(log);
     let copy = copy_of(rt, interner);
     compare(rt, &copy, interner);
-    let (requests, _, _) = counted_since(log, before);
+    let requests = counted_since(log, before).0;
     drop(copy);
     requests
 }
@@ -356,7 +356,7 @@ fn a_refused_clone_leaves_its_source(rt: HostRuntime) {
     for nth in 1..6 {
         log.refuse_once(nth);
         let refused = interner.clone().err();
-        assert_equal!(rt; refused, Some(ArenaError::OutOfSystemMemory), "at {nth}");
+        assert_equal!(rt; refused, Some(ArenaError::OutOfSystemMemory), at nth);
         assert!(rt; has_first(&interner, 12), "at {nth}");
     }
     let copy = copy_of(&rt, &interner);
@@ -412,7 +412,7 @@ fn refused_slots_are_asked_for_once(rt: HostRuntime) {
         }
         let (requests, _, _) = asked_for_text(&rt, &mut interner, &log, rt.alloc(), APART, number);
         let wanted = u64::from(number == 0 || 5 <= number);
-        assert_equal!(rt; requests, wanted, "behind {number}");
+        assert_equal!(rt; requests, wanted, at number);
     }
     drop(interner);
 }

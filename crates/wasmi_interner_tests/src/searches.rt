@@ -63,7 +63,7 @@ fn what_is_searched_is_found_in_few_looks(rt: HostRuntime) {
         let less = less as usize;
         let (found, looks) = searched(less, is_there, greater as usize);
         let place = if is_there { Ok(less) } else { Err(less) };
-        assert_equal!(rt; found, place, "{less} less, {greater} greater");
+        assert_equal!(rt; found, place, at (less, greater));
         assert!(rt; fewest <= looks && looks <= most, "{looks} looks");
     }
 }

@@ -34,7 +34,7 @@ fn many_files(rt: HostRuntime) {
     };
     for place in [0, 16, 299] {
         let refused = link(rt.alloc(), &files(rt.alloc(), 300, place).or_abort(&rt)).err();
-        assert_equal!(rt; refused, Some(LinkError::NotAModule(place, error)), "{place}");
+        assert_equal!(rt; refused, Some(LinkError::NotAModule(place, error)), at place);
     }
 }
 

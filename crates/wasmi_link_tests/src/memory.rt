@@ -40,17 +40,17 @@ fn each_request_is_refused_in_turn(rt: HostRuntime) {
             let heap = Logged::new(rt.alloc(), &log);
             log.refuse_once(nth);
             if let Err(error) = link(heap, &files) {
-                assert_equal!(rt; error, LinkError::Refused(ArenaError::OutOfSystemMemory), "{nth}");
+                assert_equal!(rt; error, LinkError::Refused(ArenaError::OutOfSystemMemory), at nth);
                 refused = refused.wrapping_add(1);
             }
             log.refuse_none();
             let outcome = link(heap, &files).or_abort(&rt);
-            assert_equal!(rt; outcome.text.as_str(), TEXT, "{nth}");
+            assert_equal!(rt; outcome.text.as_str(), TEXT, at nth);
         }
-        assert_equal!(rt; log.amiss(), 0, "{nth}");
+        assert_equal!(rt; log.amiss(), 0, at nth);
     }
     // Not each request that comes is one that a call fails without, and 200 are more than come.
-    assert_equal!(rt; 20 < refused && refused < 190, true, "{refused}");
+    assert_equal!(rt; 20 < refused && refused < 190, true, at refused);
 }
 
 #[test]

@@ -19,6 +19,6 @@ fn files_without_their_folders_and_endings(rt: HostRuntime) {
         ("été/ñ.wasm", "ñ"),
     ];
     for (path, name) in cases {
-        assert_equal!(rt; module_name(path), name, "{path}");
+        assert_equal!(rt; module_name(path), name, at path);
     }
 }

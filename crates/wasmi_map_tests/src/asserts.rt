@@ -1,5 +1,5 @@
 //! What `assert_equal!` calls, in this crate.
-use std::fmt::{Debug, Display};
+use std::fmt::Debug;
 use std::process::Abort;
 use wasmi_vectors::asserts;
 
@@ -9,9 +9,9 @@ pub fn equal<T: PartialEq + Debug + Drop>(rt: &impl Abort, got: T, want: T) {
 }
 
 /// As [`equal`], and says where.
-pub fn equal_at<D: Display + Drop, T: PartialEq + Debug + Drop>(
+pub fn equal_at<P: Debug + Drop, T: PartialEq + Debug + Drop>(
     rt: &impl Abort,
-    place: D,
+    place: P,
     got: T,
     want: T,
 ) {

@@ -109,7 +109,7 @@ fn look_hashed(rt: &impl Abort, alloc: Global, call: u32, number: u32) {
     let key = Noted::new(number, &notes);
     notes.hashed();
     let is_there = finds_hashed(&mut map, &mut set, call, &key);
-    assert_equal!(*rt; (is_there, notes.hashed()), (number < 100, 1), "{call} of {number}");
+    assert_equal!(*rt; (is_there, notes.hashed()), (number < 100, 1), at (call, number));
 }
 
 // It compares as often as `contains_key` does.
@@ -122,7 +122,7 @@ fn look_ordered(rt: &impl Abort, alloc: Global, call: u32, number: u32) {
     map.contains_key(&key);
     let read = notes.compared();
     let is_there = finds_ordered(&mut map, &mut set, call, &key);
-    assert_equal!(*rt; (is_there, notes.compared()), (number < 100, read), "{call} of {number}");
+    assert_equal!(*rt; (is_there, notes.compared()), (number < 100, read), at (call, number));
 }
 
 #[test]

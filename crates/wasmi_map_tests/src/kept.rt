@@ -169,8 +169,8 @@ fn a_set_keeps_its_own_element(rt: HostRuntime) {
         ("difference", 1),
         ("symmetric_difference", 2001),
     ] {
-        assert_equal!(rt; kept_ordered(rt.alloc(), call), Ok(number), "ordered {call}");
-        assert_equal!(rt; kept_hashed(rt.alloc(), call), Ok(number), "hashed {call}");
+        assert_equal!(rt; kept_ordered(rt.alloc(), call), Ok(number), at call);
+        assert_equal!(rt; kept_hashed(rt.alloc(), call), Ok(number), at call);
     }
     for (call, number) in [
         ("union", 2111),
@@ -178,7 +178,7 @@ fn a_set_keeps_its_own_element(rt: HostRuntime) {
         ("intersection", 110),
         ("bitand", 110),
     ] {
-        assert_equal!(rt; kept_ordered(rt.alloc(), call), Ok(number), "{call}");
+        assert_equal!(rt; kept_ordered(rt.alloc(), call), Ok(number), at call);
     }
     let six = three(0, 1).into_iter().chain(three(1, 2));
     let set = ordered::Set::from_iter(rt.alloc(), six).expect(&rt, "");
@@ -192,7 +192,7 @@ fn a_set_keeps_its_own_element(rt: HostRuntime) {
 #[test]
 fn a_map_keeps_its_own_key(rt: HostRuntime) {
     for call in ["insert", "or_insert", "extend", "extend_ref"] {
-        assert_equal!(rt; kept_ordered_key(rt.alloc(), call), Ok(2111), "ordered {call}");
-        assert_equal!(rt; kept_hashed_key(rt.alloc(), call), Ok(2111), "hashed {call}");
+        assert_equal!(rt; kept_ordered_key(rt.alloc(), call), Ok(2111), at call);
+        assert_equal!(rt; kept_hashed_key(rt.alloc(), call), Ok(2111), at call);
     }
 }

@@ -84,20 +84,20 @@ fn change<'l, T: Made<'l>>(
         log.refuse_none();
         if is_refused {
             last = before;
-            assert_equal!(*rt; answer, Err(ArenaError::OutOfSystemMemory), "{call:?} {len} {nth}");
-            assert_equal!(*rt; holds(&mut table, [(0, before), (0, 0)]), true, "{call:?} {len} {nth}");
+            assert_equal!(*rt; answer, Err(ArenaError::OutOfSystemMemory), at (call, len, nth));
+            assert_equal!(*rt; holds(&mut table, [(0, before), (0, 0)]), true, at (call, len, nth));
             // Nothing is drawn from the iterator any more.
             assert_equal!(*rt; !is_bulk || more.counted() == front.wrapping_add(1) as u64, true);
             answer = table.ask(call, len, value, &more);
         }
-        assert_equal!(*rt; answer, Ok(want), "{call:?} {len} {nth}");
-        assert_equal!(*rt; holds(&mut table, [(0, after), (0, 0)]), true, "{call:?} {len} {nth}");
+        assert_equal!(*rt; answer, Ok(want), at (call, len, nth));
+        assert_equal!(*rt; holds(&mut table, [(0, after), (0, 0)]), true, at (call, len, nth));
         // What is there needs no memory, whichever way it comes.
         log.refuse_from(1);
-        assert_equal!(*rt; table.ask(call, len, value, &more).is_ok(), true, "{call:?} {len}");
+        assert_equal!(*rt; table.ask(call, len, value, &more).is_ok(), true, at (call, len));
         log.refuse_none();
         if !is_refused {
-            assert_equal!(*rt; !is_bulk || 0 < last && last < 100, true, "{call:?}");
+            assert_equal!(*rt; !is_bulk || 0 < last && last < 100, true, at call);
             return nth.wrapping_sub(1);
         }
     }
@@ -116,7 +116,7 @@ fn changes<'l, T: Made<'l>>(
         for len in 0..*lens {
             refused = refused.wrapping_add(change::<T>(rt, alloc, log, (*call, *want), len));
         }
-        assert_equal!(*rt; 0 < refused, true, "{call:?}");
+        assert_equal!(*rt; 0 < refused, true, at call);
     }
 }
 
@@ -141,19 +141,19 @@ fn make<'l, T: Made<'l>>(
         log.refuse_none();
         let mut made = match first {
             Ok(made) => {
-                assert_equal!(*rt; !is_refused && 1 < nth, true, "{make:?} {nth}");
+                assert_equal!(*rt; !is_refused && 1 < nth, true, at (make, nth));
                 made
             }
             Err(error) => {
-                assert_equal!(*rt; (error, is_refused), (ArenaError::OutOfSystemMemory, true), "{make:?}");
+                assert_equal!(*rt; (error, is_refused), (ArenaError::OutOfSystemMemory, true), at make);
                 let drawn = more.counted();
-                assert_equal!(*rt; drawn == 0 || drawn == front.wrapping_add(1) as u64, true, "{make:?} {nth}");
+                assert_equal!(*rt; drawn == 0 || drawn == front.wrapping_add(1) as u64, true, at (make, nth));
                 let heap = Observed::new(alloc, log);
                 one.make(&other, heap, make, &more).expect(rt, "")
             }
         };
         more.counted();
-        assert_equal!(*rt; holds(&mut made, want), true, "{make:?} {nth}");
+        assert_equal!(*rt; holds(&mut made, want), true, at (make, nth));
         assert_equal!(*rt; holds(&mut one, [(0, 100), (0, 0)]) && holds(&mut other, [(50, 150), (0, 0)]), true);
         if !is_refused {
             return;
@@ -217,7 +217,7 @@ fn make_none<'l, T: Made<'l>>(
         let mut made = one
             .make(other, Observed::new(alloc, log), *make, &More::new(&[]))
             .expect(rt, "");
-        assert_equal!(*rt; holds(&mut made, [(0, 0); 2]), true, "{make:?}");
+        assert_equal!(*rt; holds(&mut made, [(0, 0); 2]), true, at make);
     }
     log.refuse_none();
 }

@@ -140,7 +140,7 @@ fn answers<T: Table>(rt: &impl Abort, log: &Log, mut table: T, grows: &[Row], re
     for rows in [grows, rest] {
         asked = log.requests();
         for (call, key, value, want) in rows {
-            assert_equal!(*rt; table.ask(*call, *key, *value, &more), Ok(*want), "{call:?} {key}");
+            assert_equal!(*rt; table.ask(*call, *key, *value, &more), Ok(*want), at (call, key));
         }
         log.refuse_from(1);
     }

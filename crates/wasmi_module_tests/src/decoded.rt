@@ -96,9 +96,9 @@ fn other_writings(rt: HostRuntime) {
     ];
     for (bytes, memories) in cases {
         let module = decode(rt.alloc(), bytes).or_abort(&rt);
-        assert_equal!(rt; module.memories.len(), memories, "{bytes:?}");
+        assert_equal!(rt; module.memories.len(), memories, at bytes);
         for memory in &module.memories {
-            assert_equal!(rt; memory.limits.min, 2, "{bytes:?}");
+            assert_equal!(rt; memory.limits.min, 2, at bytes);
         }
     }
 }

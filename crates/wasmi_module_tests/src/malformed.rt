@@ -11,7 +11,7 @@ fn refused(rt: &impl Abort, alloc: Global, cases: &[(&[u8], usize, Expected)]) {
             offset: *offset,
             expected: *expected,
         };
-        assert_equal!(rt; decode(alloc, bytes).err(), Some(error), "{bytes:?}");
+        assert_equal!(rt; decode(alloc, bytes).err(), Some(error), at bytes);
     }
 }
 

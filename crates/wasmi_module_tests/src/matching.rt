@@ -23,7 +23,7 @@ fn limits_both_ways(rt: HostRuntime) {
         };
         let memory = MemoryType { limits: asked };
         let admitted = memory.admits(&MemoryType { limits: given });
-        assert_equal!(rt; (asked.admits(&given), admitted), (wanted, wanted), "{asked:?} {given:?}");
+        assert_equal!(rt; (asked.admits(&given), admitted), (wanted, wanted), at (asked, given));
     }
 }
 

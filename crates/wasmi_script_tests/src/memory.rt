@@ -67,7 +67,7 @@ fn an_entity_that_was_refused_is_added_again(rt: HostRuntime) {
             let mut store = EntityStore::new(&heap);
             log.refuse_once(nth);
             refused = refused.wrapping_add(refused_entities(&mut store).expect(&rt, ""));
-            assert_equal!(rt; (has_first(&store, 2), store.names(), store.kinds()), (Ok(true), 2, 2), "{nth}");
+            assert_equal!(rt; (has_first(&store, 2), store.names(), store.kinds()), (Ok(true), 2, 2), at nth);
             requests = log.requests();
             drop(store);
         }

@@ -74,7 +74,7 @@ fn errors_have_texts_and_statuses(rt: HostRuntime) {
     ];
     for (error, text, status) in cases {
         assert_equal!(rt; error.to_string(rt.alloc()).expect(&rt, "").as_str(), text);
-        assert_equal!(rt; error.status(), status, "of {text}");
+        assert_equal!(rt; error.status(), status, at text);
     }
 }
 

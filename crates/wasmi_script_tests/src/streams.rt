@@ -24,8 +24,8 @@ fn a_read_fails(rt: HostRuntime) {
         let mut source = Source::new(text.as_bytes(), fails_at);
         let mut sink = Sink::new(rt.alloc(), 0);
         let outcome = run(rt.alloc(), &mut source, &mut sink);
-        assert_equal!(rt; (outcome, exit_status(outcome)), (wanted, status), "at {fails_at}");
-        assert_equal!(rt; sink.bytes.as_slice(), written.as_bytes(), "at {fails_at}");
+        assert_equal!(rt; (outcome, exit_status(outcome)), (wanted, status), at fails_at);
+        assert_equal!(rt; sink.bytes.as_slice(), written.as_bytes(), at fails_at);
     }
 }
 
@@ -55,8 +55,8 @@ fn a_write_fails(rt: HostRuntime) {
         sink.flush_fails = flush_fails;
         let outcome = run(rt.alloc(), &mut source, &mut sink);
         let failed = (Err(ScriptError::WriteFailed), 1);
-        assert_equal!(rt; (outcome, exit_status(outcome)), failed, "at {fails_at}");
-        assert_equal!(rt; sink.bytes.as_slice(), written.as_bytes(), "at {fails_at}");
+        assert_equal!(rt; (outcome, exit_status(outcome)), failed, at fails_at);
+        assert_equal!(rt; sink.bytes.as_slice(), written.as_bytes(), at fails_at);
     }
 }
 

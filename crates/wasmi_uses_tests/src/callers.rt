@@ -41,7 +41,7 @@ fn a_store_of_two_functions(rt: HostRuntime) {
 fn symbols_of_three_names(rt: HostRuntime) {
     let mut symbols = Symbols::new(rt.alloc());
     for (name, symbol) in [("memory", 0), ("table", 1), ("memory", 0), ("", 2)] {
-        assert_equal!(rt; symbols.intern(rt.alloc(), name).expect(&rt, ""), symbol, "of {name}");
+        assert_equal!(rt; symbols.intern(rt.alloc(), name).expect(&rt, ""), symbol, at name);
     }
     assert_equal!(rt; (symbols.find("table"), symbols.find("tables")), (Some(1), None));
     assert_equal!(rt; intern_both(&mut symbols, rt.alloc(), "", "start").expect(&rt, ""), (2, 3));
@@ -69,7 +69,7 @@ fn look_ups_by_the_keys_of_a_walk(rt: HostRuntime) {
                     want = Some((place as u32, number(place)));
                 }
             }
-            assert_equal!(rt; first_above(&one, limit), want, "{limit} of {len}");
+            assert_equal!(rt; first_above(&one, limit), want, at (limit, len));
         }
         // The other one has an item more, which doesn't count.
         for place in 0..=len as u32 {
@@ -77,7 +77,7 @@ fn look_ups_by_the_keys_of_a_walk(rt: HostRuntime) {
             other.alloc(0).expect(&rt, "");
             other.put(place, 64).expect(&rt, "");
             if one.len() <= other.len() {
-                assert_equal!(rt; any_differs(&one, &other), (place as u64) < len, "{place} of {len}");
+                assert_equal!(rt; any_differs(&one, &other), (place as u64) < len, at (place, len));
             }
             drop(other);
         }
@@ -131,8 +131,8 @@ fn a_write_into_either_arena(rt: HostRuntime) {
     let mut dense: Arena<u32, &'static str> = Arena::new(rt.alloc());
     let mut stable: StableArena<u32, &'static str> = StableArena::new(rt.alloc());
     for (key, text, at) in [(5, "a", 0), (5, "b", 1), (0, "c", 0), (1, "d", 1)] {
-        assert_equal!(rt; put_or_alloc(&mut dense, key, text).expect(&rt, ""), at, "of {text}");
-        assert_equal!(rt; put_or_alloc(&mut stable, key, text).expect(&rt, ""), at, "of {text}");
+        assert_equal!(rt; put_or_alloc(&mut dense, key, text).expect(&rt, ""), at, at text);
+        assert_equal!(rt; put_or_alloc(&mut stable, key, text).expect(&rt, ""), at, at text);
     }
     assert_equal!(rt; (dense.len(), dense.get(0), dense.get(1)), (2, Ok(&"c"), Ok(&"d")));
     assert_equal!(rt; (stable.len(), stable.get(0), stable.get(1)), (2, Ok(&"c"), Ok(&"d")));
@@ -160,7 +160,7 @@ fn a_table_of_counts(rt: HostRuntime) {
     }
     assert_equal!(rt; reset_all(&mut counts), 200);
     for key in 0..200u32 {
-        assert_equal!(rt; counts.get(&key), Some(&0), "of {key}");
+        assert_equal!(rt; counts.get(&key), Some(&0), at key);
     }
 }
 
@@ -205,7 +205,7 @@ fn names_are_defined_once(rt: HostRuntime) {
 fn a_name_is_exported_once(rt: HostRuntime) {
     let mut names = StringInterner::new(rt.alloc());
     for (name, was_new) in [("memory", true), ("table", true), ("memory", false)] {
-        assert_equal!(rt; export(&mut names, name).expect(&rt, ""), was_new, "of {name}");
+        assert_equal!(rt; export(&mut names, name).expect(&rt, ""), was_new, at name);
     }
     let found = (import(&names, "table"), import(&names, "global"));
     assert_equal!(rt; found, (Some(Sym::from_u32(1)), None));
@@ -233,7 +233,7 @@ fn what_names_stand_for(rt: HostRuntime) {
         note(&mut names, &mut noted, name, value).expect(&rt, "");
     }
     for (name, value) in [("memory", Some(&3)), ("table", Some(&2)), ("elem", None)] {
-        assert_equal!(rt; noted_of(&names, &noted, name), value, "of {name}");
+        assert_equal!(rt; noted_of(&names, &noted, name), value, at name);
     }
     assert_equal!(rt; noted.get(Sym::from_u32(2)), Some(&2));
     drop(names);
@@ -248,7 +248,7 @@ fn a_text_has_a_slot(rt: HostRuntime) {
     }
     for (text, slot) in [("memory", Some(0)), ("table", Some(1)), ("elem", None)] {
         let text = String::from_str(rt.alloc(), text).expect(&rt, "");
-        assert_equal!(rt; slot_of_text(&table, &text), slot, "of {text}");
+        assert_equal!(rt; slot_of_text(&table, &text), slot, at slot);
     }
     drop(table);
 }
@@ -270,7 +270,7 @@ fn a_folded_constant_has_one_slot(rt: HostRuntime) {
         &rt, "",
     );
     for (slot, folded, want) in [(0, 43, 0), (1, 42, 2), (2, 42, 2)] {
-        assert_equal!(rt; fold(&mut table, slot, folded).expect(&rt, ""), want, "{folded} at {slot}");
+        assert_equal!(rt; fold(&mut table, slot, folded).expect(&rt, ""), want, at (folded, slot));
     }
     assert_equal!(rt; (table.get(0), table.get(1)), (Ok(&43), Ok(&2)));
     assert!(rt; fold(&mut table, 3, 1).is_err());
@@ -308,7 +308,7 @@ fn functions_by_name(rt: HostRuntime) {
         ("start", 8, 0, false),
     ] {
         let key = FunctionKey::from_u32(number);
-        assert_equal!(rt; functions.define(name, value).expect(&rt, ""), (key, is_new), "of {name}");
+        assert_equal!(rt; functions.define(name, value).expect(&rt, ""), (key, is_new), at name);
     }
     let stop = FunctionKey::from_u32(1);
     assert_equal!(rt; (functions.find("stop"), functions.find("step")), (Some((stop, 9)), None));
@@ -339,7 +339,7 @@ fn two_items_are_written_at_once(rt: HostRuntime) {
                 want[to as usize] = want[to as usize].wrapping_add(want[from as usize]);
                 want[from as usize] = 0;
             }
-            assert_equal!(rt; transfer(&mut arena, from, to), is_done, "{from} to {to}");
+            assert_equal!(rt; transfer(&mut arena, from, to), is_done, at (from, to));
             assert!(rt; arena.values().copied().eq(want), "{from} to {to}");
             drop(arena);
         }

@@ -33,8 +33,8 @@ pub fn equal<T: PartialEq + Debug + Drop>(got: T, want: T) -> Result<(), Differ>
 }
 
 /// As [`equal`], and the text says where, such as at which turn of a loop.
-pub fn equal_at<D: Display + Drop, T: PartialEq + Debug + Drop>(
-    place: D,
+pub fn equal_at<P: Debug + Drop, T: PartialEq + Debug + Drop>(
+    place: P,
     got: T,
     want: T,
 ) -> Result<(), Differ>
@@ -43,7 +43,7 @@ pub fn equal_at<D: Display + Drop, T: PartialEq + Debug + Drop>(
     if got == want {
         Ok(())
     } else {
-        Err(unequal(place, got, want))
+        Err(unequal(format_args!("at {place:?}"), got, want))
     }
 }
 
@@ -54,21 +54,22 @@ fn unequal<D: Display + Drop, T: Debug + Drop>(place: D, got: T, want: T) -> Dif
 }
 
 /// Ends the test if two values are not equal, and prints both, as `assert_eq!` does. It takes the
-/// values, which a line with `&` keeps. What stands behind them says where, and is formatted.
+/// values, which a line with `&` keeps. A value behind `at` says where; a text in its place would be formatted
+/// in the test, and that proved at each line.
 ///
 /// It calls `equal` or `equal_at` of the module `asserts` of the crate that it is written in: a library
 /// may not end the process.
 ///
 /// ```text
 /// assert_equal!(rt; vec.len(), 3);
-/// assert_equal!(rt; &vec, &copy, "at {turn}");
+/// assert_equal!(rt; &vec, &copy, at turn);
 /// ```
 #[macro_export]
 macro_rules! assert_equal {
     ($rt:expr; $got:expr, $want:expr $(,)?) => {
         crate::asserts::equal(&$rt, $got, $want)
     };
-    ($rt:expr; $got:expr, $want:expr, $($place:tt)+) => {
-        crate::asserts::equal_at(&$rt, format_args!($($place)+), $got, $want)
+    ($rt:expr; $got:expr, $want:expr, at $place:expr $(,)?) => {
+        crate::asserts::equal_at(&$rt, $place, $got, $want)
     };
 }

@@ -17,15 +17,15 @@ fn a_call_hashes_once(rt: HostRuntime) {
         let key = Noted::new(number / 2, &notes);
         notes.hashed();
         let there = map.contains_key(&key);
-        assert_equal!(rt; (there, notes.hashed()), (number % 2 == 1, 1), "of {number}");
+        assert_equal!(rt; (there, notes.hashed()), (number % 2 == 1, 1), at number);
         if there {
-            assert_equal!(rt; (map[&key], notes.hashed()), (number / 2, 1), "of {number}");
+            assert_equal!(rt; (map[&key], notes.hashed()), (number / 2, 1), at number);
         }
         let back = map.try_insert(key, number / 2).expect(&rt, "");
-        assert_equal!(rt; (back.is_err(), notes.hashed()), (there, 1), "of {number}");
+        assert_equal!(rt; (back.is_err(), notes.hashed()), (there, 1), at number);
         let old = set.replace(Noted::new(number / 2, &notes)).expect(&rt, "");
         assert!(rt; notes.hashed() == 1 || !there, "of {number}");
-        assert_equal!(rt; old.is_some(), there, "of {number}");
+        assert_equal!(rt; old.is_some(), there, at number);
     }
 }
 
@@ -84,9 +84,9 @@ fn a_hashed_call_hashes_its_key_once(rt: HostRuntime) {
         } else {
             map.insert(key, number).expect(&rt, "");
         }
-        assert_equal!(rt; notes.hashed(), 1, "at {number}");
+        assert_equal!(rt; notes.hashed(), 1, at number);
         set.insert(Noted::new(number / 2, &notes)).expect(&rt, "");
-        assert_equal!(rt; notes.hashed(), 1, "at {number}");
+        assert_equal!(rt; notes.hashed(), 1, at number);
     }
 }
 

@@ -49,7 +49,7 @@ fn leave_in_map(rt: &impl Abort, alloc: Global, walked: usize) {
     }
     log.refuse_from(1);
     assert_equal!(*rt; map.drain().take(walked).count(), walked);
-    assert_equal!(*rt; (map.len(), notes.dropped()), (0, 100), "at {walked}");
+    assert_equal!(*rt; (map.len(), notes.dropped()), (0, 100), at walked);
     log.refuse_none();
     map.insert(Noted::new(7, &notes), 7).expect(rt, "");
     assert_equal!(*rt; map.contains_key(&Noted::new(7, &notes)), true);
@@ -67,7 +67,7 @@ fn leave_in_set(rt: &impl Abort, alloc: Global, walked: usize) {
     }
     log.refuse_from(1);
     assert_equal!(*rt; set.drain().take(walked).count(), walked);
-    assert_equal!(*rt; (set.len(), notes.dropped()), (0, 100), "at {walked}");
+    assert_equal!(*rt; (set.len(), notes.dropped()), (0, 100), at walked);
     log.refuse_none();
     set.insert(Noted::new(7, &notes)).expect(rt, "");
     assert_equal!(*rt; set.contains(&Noted::new(7, &notes)), true);
@@ -112,9 +112,9 @@ fn reserve_in_map(rt: &impl Abort, alloc: Global, held: u32, more: u32) {
     map.retain(|key, _| key % 3 != 0);
     map.reserve(more as usize).expect(rt, "");
     log.refuse_from(1);
-    assert_equal!(*rt; go_in(&mut map, held, more), true, "{more} after {held}");
+    assert_equal!(*rt; go_in(&mut map, held, more), true, at (more, held));
     let left = map.capacity().saturating_sub(map.len());
-    assert_equal!(*rt; map.reserve(left), Ok(()), "{left} of {held}");
+    assert_equal!(*rt; map.reserve(left), Ok(()), at (left, held));
 }
 
 // The same of a set.
@@ -125,9 +125,9 @@ fn reserve_in_set(rt: &impl Abort, alloc: Global, held: u32, more: u32) {
     set.retain(|key| key % 3 != 0);
     set.reserve(more as usize).expect(rt, "");
     log.refuse_from(1);
-    assert_equal!(*rt; go_into_set(&mut set, held, more), true, "{more} after {held}");
+    assert_equal!(*rt; go_into_set(&mut set, held, more), true, at (more, held));
     let left = set.capacity().saturating_sub(set.len());
-    assert_equal!(*rt; set.reserve(left), Ok(()), "{left} of {held}");
+    assert_equal!(*rt; set.reserve(left), Ok(()), at (left, held));
 }
 
 // After `reserve` so many go in with each request refused, also where some were taken out before.
@@ -259,7 +259,7 @@ fn room_of_set(rt: &impl Abort, alloc: Global, kept: u32) -> usize {
 fn room_is_given_back_down_to_what_is_kept(rt: HostRuntime) {
     for kept in [1u32, 7, 100, 448, 449, 896, 897, 1_000, 60_000] {
         let room = kept as usize;
-        assert_equal!(rt; room_of_map(&rt, rt.alloc(), kept), room, "of {kept}");
-        assert_equal!(rt; room_of_set(&rt, rt.alloc(), kept), room, "of {kept}");
+        assert_equal!(rt; room_of_map(&rt, rt.alloc(), kept), room, at kept);
+        assert_equal!(rt; room_of_set(&rt, rt.alloc(), kept), room, at kept);
     }
 }

@@ -77,7 +77,7 @@ fn a_place_compares_nothing(rt: HostRuntime) {
     let mut map: Map<Noted<'_>, u32> = Map::new(rt.alloc());
     for number in 0..90u32 {
         let key = Noted::new(number / 3, &notes);
-        assert_equal!(rt; compared_by_a_place(&mut map, &notes, key), Ok(0), "of {number}");
+        assert_equal!(rt; compared_by_a_place(&mut map, &notes, key), Ok(0), at number);
     }
     assert!(rt; map.is_empty());
 }
@@ -165,7 +165,7 @@ fn a_call_searches_once(rt: HostRuntime) {
         let [read, indexed, inserted] = compared_by_a_call(&mut map, &notes, number / 2).expect(
             &rt, "",
         );
-        assert_equal!(rt; (indexed, inserted), (read, read), "of {number}");
+        assert_equal!(rt; (indexed, inserted), (read, read), at number);
     }
 }
 
@@ -182,7 +182,7 @@ fn an_ordered_entry_compares_as_a_read_does(rt: HostRuntime) {
                 .expect(&rt, "")
                 .or_insert(number)
                 .expect(&rt, "");
-            assert_equal!(rt; notes.compared(), read, "at {number}");
+            assert_equal!(rt; notes.compared(), read, at number);
         }
     }
 }
@@ -231,7 +231,7 @@ fn a_slice_is_searched_as_its_vector(rt: HostRuntime) {
             map.contains_key(&key);
             let read = notes.compared();
             let is_there = finds_slice(&mut map, &mut set, call, key.as_slice());
-            assert_equal!(rt; (is_there, notes.compared()), (number < 100, read), "{call} of {number}");
+            assert_equal!(rt; (is_there, notes.compared()), (number < 100, read), at (call, number));
         }
     }
 }

@@ -64,14 +64,14 @@ fn cut_pairs(rt: &impl Abort, alloc: Global, log: &Log, nth: u64) {
     log.refuse_once(nth);
     match map.split_off(&45) {
         Ok(mut rest) => {
-            assert_equal!(*rt; (map.len(), rest.len()), (45, 15), "at {nth}");
+            assert_equal!(*rt; (map.len(), rest.len()), (45, 15), at nth);
             if let Err(error) = map.append(&mut rest) {
                 assert_equal!(*rt; error, ArenaError::OutOfSystemMemory);
             }
-            assert_equal!(*rt; map.len().wrapping_add(rest.len()), 60, "at {nth}");
+            assert_equal!(*rt; map.len().wrapping_add(rest.len()), 60, at nth);
         }
         Err(error) => {
-            assert_equal!(*rt; (error, map.len()), (ArenaError::OutOfSystemMemory, 60), "at {nth}");
+            assert_equal!(*rt; (error, map.len()), (ArenaError::OutOfSystemMemory, 60), at nth);
         }
     }
     log.refuse_none();
@@ -95,13 +95,13 @@ fn join_elements(rt: &impl Abort, alloc: Global, log: &Log, nth: u64) {
     other.extend(30..60u32).expect(rt, "");
     log.refuse_once(nth);
     if let Err(error) = set.append(&mut other) {
-        assert_equal!(*rt; (error, other.is_empty()), (ArenaError::OutOfSystemMemory, false), "at {nth}");
+        assert_equal!(*rt; (error, other.is_empty()), (ArenaError::OutOfSystemMemory, false), at nth);
     } else {
-        assert_equal!(*rt; (set.len(), other.len()), (60, 0), "at {nth}");
+        assert_equal!(*rt; (set.len(), other.len()), (60, 0), at nth);
     }
     assert!(*rt; have_all(&set, &other));
     if let Ok(rest) = set.split_off(&20) {
-        assert_equal!(*rt; (set.len(), rest.is_empty()), (20, false), "at {nth}");
+        assert_equal!(*rt; (set.len(), rest.is_empty()), (20, false), at nth);
     }
 }
 
@@ -217,7 +217,7 @@ fn the_ends_take_no_walk(rt: HostRuntime) {
     let map = Map::from_iter(rt.alloc(), pairs).expect(&rt, "");
     let set = Set::from_iter(rt.alloc(), 0..131_072u32).expect(&rt, "");
     for turn in 0..131_072u32 {
-        assert_equal!(rt; (reads_keys(&map), reads_elements(&set)), (true, true), "at {turn}");
+        assert_equal!(rt; (reads_keys(&map), reads_elements(&set)), (true, true), at turn);
     }
 }
 
@@ -264,7 +264,7 @@ fn a_text_takes_no_walk(rt: HostRuntime) {
         let key = text(&rt, rt.alloc(), number);
         let is_taken = takes_entry(&mut map, key.as_str(), number)
             && takes_element(&mut set, key.as_str(), number);
-        assert_equal!(rt; is_taken, true, "of {number}");
+        assert_equal!(rt; is_taken, true, at number);
     }
     assert_equal!(rt; (map.len(), set.len()), (0, 0));
 }
